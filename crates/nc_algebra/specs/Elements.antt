@@ -1,0 +1,89 @@
+-- Module elements: sums of module monomials over the generators of a setting, and what they evaluate to.
+use Rattle.nc_algebra.specs.Monomials.{IsMonomialLess, degree_of, Monomial, same_monomial, times}
+use Rattle.nc_algebra.specs.Polynomials.{Polynomial, coefficient, leading, polynomial_times}
+use Rattle.nc_algebra.specs.Primes.{IsZero}
+use Rattle.nc_algebra.specs.Sums.{Leads, SameSum, Term, coefficient_by, map_keys, substitute}
+use Rattle.nc_algebra.specs.Words.{IsWordLess, Word, same_word, word_weight}
+use Rattle.std.specs.Prelude.{List, [], get_or, length, ℕ, ◌%◌, ◌-◌, ◌<◌, ◌∷◌, ◌≡◌, ◌≤◌}
+
+-- a finite sum of module monomials, in any order; repeats and zeros are allowed
+abbrev pub Element : Type 0
+Element = List (Term Monomial)
+
+-- u α v
+abbrev pub element_times : Word → Element → Word → Element
+element_times u α v = map_keys (λ σ. times u σ v) α
+
+-- a prime and the generators f_1, f_2 ..
+pub record Setting : Type 0 where
+  pub prime : ℕ
+  pub generators : List Polynomial
+
+-- generators are counted from 1
+abbrev pub IsGenerator : Setting → ℕ → Type 0
+IsGenerator s i = (1 ≤ i) × (i ≤ length s.generators)
+
+-- f_i
+unfoldable pub generator : Setting → ℕ → Polynomial
+generator s i = get_or s.generators (i - 1) []
+
+-- the weight of f_i: that of its leading word
+abbrev pub generator_weight : Setting → ℕ → ℕ
+generator_weight s i = word_weight (leading s.prime (generator s i))
+
+-- the degree of a module monomial
+abbrev pub degree : Setting → Monomial → ℕ
+degree s = degree_of (generator_weight s)
+
+-- the order of the setting on module monomials
+abbrev pub IsLess : Setting → Monomial → Monomial → Type 0
+IsLess s = IsMonomialLess (generator_weight s)
+
+-- what α evaluates to: each `a [i] b` goes to a f_i b
+abbrev pub evaluation : Setting → Element → Polynomial
+evaluation s α = substitute α (λ σ. polynomial_times σ.left (generator s σ.generator) σ.right)
+
+-- w is the greatest word of f
+abbrev pub IsLeadingWord : Setting → Polynomial → Word → Type 0
+IsLeadingWord s = Leads same_word IsWordLess s.prime
+
+-- f is zero: each coefficient is 0
+abbrev pub IsZeroPolynomial : Setting → Polynomial → Type 0
+IsZeroPolynomial s f = (w : Word) → IsZero s.prime (coefficient f w)
+
+-- σ is the signature of α
+abbrev pub IsSignatureOf : Setting → Element → Monomial → Type 0
+IsSignatureOf s = Leads same_monomial (IsLess s) s.prime
+
+-- the two lists are the same polynomial
+abbrev pub SamePolynomial : Setting → Polynomial → Polynomial → Type 0
+SamePolynomial s = SameSum same_word s.prime
+
+-- all monomials of α lie in the set
+abbrev pub IsIn : Setting → Element → (Monomial → Type 0) → Type 0
+IsIn s α set = (σ : Monomial) → ¬ IsZero s.prime (coefficient_by same_monomial α σ) → set σ
+
+-- α is a label of f with signature τ
+pub record IsLabelled (s : Setting) (τ : Monomial) (f : Polynomial) (α : Element) : Type 0 where
+  pub lies : IsIn s α (λ σ. IsGenerator s σ.generator)
+  pub evaluates : SamePolynomial s (evaluation s α) f
+  pub leads : IsSignatureOf s α τ
+  pub one : coefficient_by same_monomial α τ % s.prime ≡ 1
+
+-- each word of f has the property
+abbrev pub WordsAre : Setting → (Word → Type 0) → Polynomial → Type 0
+WordsAre s property f = (w : Word) → ¬ IsZero s.prime (coefficient f w) → property w
+
+-- each word of f weighs at most d
+abbrev pub WeighsAtMost : Setting → ℕ → Polynomial → Type 0
+WeighsAtMost s d = WordsAre s (λ w. word_weight w ≤ d)
+
+-- each listed word is less than w
+abbrev pub AllLess : Word → Polynomial → Type 0
+AllLess w [] = Unit {0}
+AllLess w (t ∷ f) = IsWordLess t.key w × AllLess w f
+
+-- the terms descend strictly, and each coefficient is a residue other than 0
+abbrev pub IsNormal : Setting → Polynomial → Type 0
+IsNormal s [] = Unit {0}
+IsNormal s (t ∷ f) = (t.coefficient < s.prime) × (0 < t.coefficient) × AllLess t.key f × IsNormal s f

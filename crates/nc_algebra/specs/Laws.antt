@@ -1,0 +1,51 @@
+-- The laws that the functions of this crate carry.
+use Rattle.nc_algebra.specs.Elements.{degree, IsLabelled, IsLess, Setting, WeighsAtMost, generator_weight}
+use Rattle.nc_algebra.specs.Finite.{IsDistinct, IsOver, monomials_within}
+use Rattle.nc_algebra.specs.Problems.{Bound, IsWithinBound}
+use Rattle.nc_algebra.specs.Monomials.{Monomial, above_degree, compare_monomials, compare_sigs, sig_of, sig_times, times}
+use Rattle.nc_algebra.specs.Orders.{Compares}
+use Rattle.nc_algebra.specs.Polynomials.{Polynomial}
+use Rattle.nc_algebra.specs.Elements.{Element}
+use Rattle.nc_algebra.specs.Primes.{IsPrime, IsZero}
+use Rattle.nc_algebra.specs.Words.{IsWordLess, Letter, Word, compare_words, word_weight}
+use Rattle.std.specs.declared.cmp.Ordering.TheVariants.{Less}
+use Rattle.std.specs.Prelude.{Contains, List, ◌↔◌, length, suc, ℕ, ◌%◌, ◌*◌, ◌++◌, ◌≡◌, ◌≤◌}
+
+-- the order on words is strict, total and without endless descent, goes with multiplication on both sides, and the comparison says it
+pub record WordOrder : Type 0 where
+  pub irreflexive : (u : Word) → ¬ IsWordLess u u
+  pub transitive : (u v w : Word) → IsWordLess u v → IsWordLess v w → IsWordLess u w
+  pub compares : Compares compare_words IsWordLess (λ u v. u ≡ v)
+  pub before : (x u v : Word) → IsWordLess u v → IsWordLess (x ++ u) (x ++ v)
+  pub behind : (u v y : Word) → IsWordLess u v → IsWordLess (u ++ y) (v ++ y)
+  pub ends : (f : ℕ → Word) → ¬ ((n : ℕ) → IsWordLess (f (suc n)) (f n))
+  pub factor : (u w v : Word) → word_weight w ≤ word_weight (u ++ (w ++ v))
+  pub long : (w : Word) → length w ≤ word_weight w
+
+-- the same of the order on module monomials
+pub record MonomialOrder (s : Setting) : Type 0 where
+  pub irreflexive : (σ : Monomial) → ¬ IsLess s σ σ
+  pub transitive : (σ τ ρ : Monomial) → IsLess s σ τ → IsLess s τ ρ → IsLess s σ ρ
+  pub compares : Compares (compare_monomials (generator_weight s)) (IsLess s) (λ σ τ. σ ≡ τ)
+  pub multiples : (u v : Word) (σ τ : Monomial) → IsLess s σ τ → IsLess s (times u σ v) (times u τ v)
+  pub ends : (f : ℕ → Monomial) → ¬ ((n : ℕ) → IsLess s (f (suc n)) (f n))
+
+-- each word of a labelled polynomial weighs at most its signature's degree
+abbrev pub LabelLimit : Type 0
+LabelLimit = (s : Setting) (τ : Monomial) (f : Polynomial) (α : Element) → IsLabelled s τ f α → WeighsAtMost s (degree s τ) f
+
+-- each number that a prime does not divide has an inverse modulo it
+abbrev pub Inverses : Type 0
+Inverses = (p : ℕ) → IsPrime p → (a : ℕ) → ¬ IsZero p a → (b : ℕ) × (a * b % p ≡ 1)
+
+-- code that keeps a monomial's degree beside it compares and multiplies as the definitions do, and a bound by degree is one by a Sig
+pub record SigLaw (s : Setting) : Type 0 where
+  pub compares : (σ τ : Monomial) → compare_monomials (generator_weight s) σ τ ≡ compare_sigs (sig_of (generator_weight s) σ) (sig_of (generator_weight s) τ)
+  pub multiples : (u v : Word) (σ : Monomial) → sig_of (generator_weight s) (times u σ v) ≡ sig_times u (sig_of (generator_weight s) σ) v
+  pub bound : (d : ℕ) (σ : Monomial) → (compare_sigs (sig_of (generator_weight s) σ) (above_degree d) ≡ Less) ↔ (degree s σ ≤ d)
+
+-- the list of a bound's monomials over these letters has those and no others, and each once
+abbrev pub FiniteBound : Type 0
+FiniteBound = (s : Setting) (b : Bound) (letters : List Letter) →
+    ((σ : Monomial) → Contains (monomials_within s b letters) σ ↔ (IsWithinBound s b σ × IsOver letters σ.left × IsOver letters σ.right))
+    × (IsDistinct letters → IsDistinct (monomials_within s b letters))

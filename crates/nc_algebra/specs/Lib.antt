@@ -1,0 +1,10 @@
+pub mod Orders
+pub mod Words
+pub mod Primes
+pub mod Sums
+pub mod Monomials
+pub mod Polynomials
+pub mod Elements
+pub mod Problems
+pub mod Finite
+pub mod Laws
