@@ -4,7 +4,7 @@ use Rattle.nc_algebra.proofs.Leading.{lead_leads}
 use Rattle.nc_algebra.proofs.Monomials.{monomial_laws}
 use Rattle.nc_algebra.proofs.Orders.{nat_order}
 use Rattle.nc_algebra.proofs.Sums.{below_lead, linear_sum-map_keys, linear_sum_zero, top, zero_dec}
-use Rattle.nc_algebra.proofs.Words.{weight-append, word_laws}
+use Rattle.nc_algebra.proofs.Words.{lighter_less, weight-append, word_laws}
 use Rattle.nc_algebra.specs.Elements.{Element, IsLabelled, IsLeadingWord, IsLess, IsSignatureOf, Setting, evaluation, generator, generator_weight}
 use Rattle.nc_algebra.specs.Monomials.{Monomial, degree_of, same_monomial}
 use Rattle.nc_algebra.specs.Polynomials.{Polynomial, coefficient, leading}
@@ -26,7 +26,7 @@ module _ (s : Setting) where
 
       go : ((w : Word) → IsZero s.prime (coefficient (generator s σ.generator) w)) ⊎ ((w : Word) × IsLeadingWord s (generator s σ.generator) w) → IsZero s.prime (image s x σ)
       go (inl z) = subst (IsZero s.prime) (sym (linear_sum-map_keys (is_at same_word x) (λ w. σ.left ++ (w ++ σ.right)) (generator s σ.generator))) (linear_sum_zero same_word IsWordLess word_laws s.prime (λ w. is_at same_word x (σ.left ++ (w ++ σ.right))) (generator s σ.generator) (λ w. inl (z w)))
-      go (inr (w, d)) = (polynomial_times_leads s σ.left (generator s σ.generator) σ.right (leading s.prime (generator s σ.generator)) (leads w d)).above x (inl shorter)
+      go (inr (w, d)) = (polynomial_times_leads s σ.left (generator s σ.generator) σ.right (leading s.prime (generator s σ.generator)) (leads w d)).above x (lighter_less _ x shorter)
 
   pub degrees : (σ τ : Monomial) → (σ ≡ τ) ⊎ IsLess s σ τ → degree_of (generator_weight s) σ ≤ degree_of (generator_weight s) τ
   degrees σ τ (inl e) = let d : degree_of (generator_weight s) σ ≡ degree_of (generator_weight s) τ = ap (degree_of (generator_weight s)) e in omega (arith, d)

@@ -77,13 +77,3 @@ WordsAre s property f = (w : Word) → ¬ IsZero s.prime (coefficient f w) → p
 -- each word of f weighs at most d
 abbrev pub WeighsAtMost : Setting → ℕ → Polynomial → Type 0
 WeighsAtMost s d = WordsAre s (λ w. word_weight w ≤ d)
-
--- each listed word is less than w
-abbrev pub AllLess : Word → Polynomial → Type 0
-AllLess w [] = Unit {0}
-AllLess w (t ∷ f) = IsWordLess t.key w × AllLess w f
-
--- the terms descend strictly, and each coefficient is a residue other than 0
-abbrev pub IsNormal : Setting → Polynomial → Type 0
-IsNormal s [] = Unit {0}
-IsNormal s (t ∷ f) = (t.coefficient < s.prime) × (0 < t.coefficient) × AllLess t.key f × IsNormal s f

@@ -9,7 +9,7 @@ use Rattle.nc_algebra.specs.Elements.{Element}
 use Rattle.nc_algebra.specs.Primes.{IsPrime, IsZero}
 use Rattle.nc_algebra.specs.Words.{IsWordLess, Letter, Word, compare_words, word_weight}
 use Rattle.std.specs.declared.cmp.Ordering.TheVariants.{Less}
-use Rattle.std.specs.Prelude.{Contains, List, ◌↔◌, length, suc, ℕ, ◌%◌, ◌*◌, ◌++◌, ◌≡◌, ◌≤◌}
+use Rattle.std.specs.Prelude.{Contains, List, ◌↔◌, length, suc, ℕ, ◌%◌, ◌*◌, ◌++◌, ◌+◌, ◌<◌, ◌≡◌, ◌≤◌}
 
 -- the order on words is strict, total and without endless descent, goes with multiplication on both sides, and the comparison says it
 pub record WordOrder : Type 0 where
@@ -19,6 +19,9 @@ pub record WordOrder : Type 0 where
   pub before : (x u v : Word) → IsWordLess u v → IsWordLess (x ++ u) (x ++ v)
   pub behind : (u v y : Word) → IsWordLess u v → IsWordLess (u ++ y) (v ++ y)
   pub ends : (f : ℕ → Word) → ¬ ((n : ℕ) → IsWordLess (f (suc n)) (f n))
+  pub additive : (u v : Word) → word_weight (u ++ v) ≡ word_weight u + word_weight v
+  pub lighter : (u v : Word) → word_weight u < word_weight v → IsWordLess u v
+  pub weighs : (u v : Word) → IsWordLess u v → word_weight u ≤ word_weight v
   pub factor : (u w v : Word) → word_weight w ≤ word_weight (u ++ (w ++ v))
   pub long : (w : Word) → length w ≤ word_weight w
 

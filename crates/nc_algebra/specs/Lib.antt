@@ -7,4 +7,5 @@ pub mod Polynomials
 pub mod Elements
 pub mod Problems
 pub mod Finite
+pub mod Certificates
 pub mod Laws
