@@ -1,11 +1,13 @@
 -- The computed leading word is the greatest one.
-use Rattle.nc_algebra.proofs.Sums.{at_other, key_dec, top, zero_number}
+use Rattle.nc_algebra.proofs.NormalForms.{normal_leads}
+use Rattle.nc_algebra.proofs.Sums.{at_other, key_dec, lead_unique, top, zero_number}
 use Rattle.nc_algebra.proofs.Words.{not_below_empty, word_laws, word_less_complete, word_less_sound, word_total, word_trans}
-use Rattle.nc_algebra.specs.Polynomials.{Polynomial, coefficient, leading, leading_among}
+use Rattle.nc_algebra.specs.Polynomials.{IsNormal, Polynomial, coefficient, leading, leading_among}
 use Rattle.nc_algebra.specs.Primes.{IsZero}
-use Rattle.nc_algebra.specs.Sums.{Leads}
+use Rattle.nc_algebra.specs.Sums.{Leads, Term}
 use Rattle.nc_algebra.specs.Words.{IsWordLess, Word, compare_words, same_word}
-use Rattle.std.proofs.Common.{◌≡◌, ℕ, ◌*◌, ◌%◌, ◌⊎◌, ◌≢◌, Bool, true, false, is_lt, nat_eq, [], ◌∷◌, refl, sym, ap, ◌∙◌, subst, inl, inr, arith}
+use Rattle.std.proofs.Common.{◌≡◌, ℕ, ◌*◌, ◌%◌, ◌<◌, ◌⊎◌, ◌≢◌, Bool, true, false, is_lt, nat_eq, [], ◌∷◌, refl, sym, ap, ◌∙◌, subst, inl, inr, arith}
+use Rattle.std.proofs.lemmas.List.Elements.{recursion_from_All}
 use Rattle.std.proofs.lemmas.Bool.{false≢true, eq-eqb, eqb-true}
 
 Occurs : Word → Polynomial → Type 0
@@ -67,3 +69,10 @@ lead_leads p f n = go (top same_word IsWordLess word_laws p f)
     go : ((w : Word) → IsZero p (coefficient f w)) ⊎ ((k : Word) × Leads same_word IsWordLess p f k) → Leads same_word IsWordLess p f (leading_among p f f)
     go (inl z) = absurd (n z)
     go (inr (k, d)) = place k d (among_most p f f k d.nonzero (occurs p f k d.nonzero)) (among_counts p f f)
+
+-- the leading word of a normal form is its first word
+pub leading-normal : (p : ℕ) (t : Term Word) (f : Polynomial) → IsNormal p (t ∷ f) → leading p (t ∷ f) ≡ t.key
+leading-normal p t f n = lead_unique same_word IsWordLess word_laws p (t ∷ f) (leading p (t ∷ f)) t.key (lead_leads p (t ∷ f) (λ z. first.nonzero (z t.key))) first
+  where
+    first : Leads same_word IsWordLess p (t ∷ f) t.key
+    first = normal_leads p t f n.0 (recursion_from_All (λ u. u.coefficient < p) (t ∷ f) n.1).0

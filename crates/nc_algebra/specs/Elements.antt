@@ -4,7 +4,7 @@ use Rattle.nc_algebra.specs.Polynomials.{Polynomial, coefficient, leading, polyn
 use Rattle.nc_algebra.specs.Primes.{IsZero}
 use Rattle.nc_algebra.specs.Sums.{Leads, SameSum, Term, coefficient_by, map_keys, substitute}
 use Rattle.nc_algebra.specs.Words.{IsWordLess, Word, same_word, word_weight}
-use Rattle.std.specs.Prelude.{List, [], get_or, length, ℕ, ◌%◌, ◌-◌, ◌<◌, ◌∷◌, ◌≡◌, ◌≤◌}
+use Rattle.std.specs.Prelude.{List, [], get_or, length, ℕ, ◌%◌, ◌-◌, ◌≡◌, ◌≤◌}
 
 -- a finite sum of module monomials, in any order; repeats and zeros are allowed
 abbrev pub Element : Type 0

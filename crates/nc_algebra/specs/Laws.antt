@@ -4,10 +4,11 @@ use Rattle.nc_algebra.specs.Finite.{IsDistinct, IsOver, monomials_within}
 use Rattle.nc_algebra.specs.Problems.{Bound, IsWithinBound}
 use Rattle.nc_algebra.specs.Monomials.{Monomial, above_degree, compare_monomials, compare_sigs, sig_of, sig_times, times}
 use Rattle.nc_algebra.specs.Orders.{Compares}
-use Rattle.nc_algebra.specs.Polynomials.{Polynomial}
+use Rattle.nc_algebra.specs.Polynomials.{IsNormal, Polynomial, normal_form}
 use Rattle.nc_algebra.specs.Elements.{Element}
 use Rattle.nc_algebra.specs.Primes.{IsPrime, IsZero}
-use Rattle.nc_algebra.specs.Words.{IsWordLess, Letter, Word, compare_words, word_weight}
+use Rattle.nc_algebra.specs.Sums.{SameSum}
+use Rattle.nc_algebra.specs.Words.{IsWordLess, Letter, Word, compare_words, same_word, word_weight}
 use Rattle.std.specs.declared.cmp.Ordering.TheVariants.{Less}
 use Rattle.std.specs.Prelude.{Contains, List, ◌↔◌, length, suc, ℕ, ◌%◌, ◌*◌, ◌++◌, ◌+◌, ◌<◌, ◌≡◌, ◌≤◌}
 
@@ -52,3 +53,9 @@ abbrev pub FiniteBound : Type 0
 FiniteBound = (s : Setting) (b : Bound) (letters : List Letter) →
     ((σ : Monomial) → Contains (monomials_within s b letters) σ ↔ (IsWithinBound s b σ × IsOver letters σ.left × IsOver letters σ.right))
     × (IsDistinct letters → IsDistinct (monomials_within s b letters))
+
+-- each polynomial has one normal form, and it is computed
+pub record NormalForms (p : ℕ) : Type 0 where
+  pub normal : (f : Polynomial) → IsNormal p (normal_form p f)
+  pub same : (f : Polynomial) → SameSum same_word p (normal_form p f) f
+  pub only : (f g : Polynomial) → IsNormal p g → SameSum same_word p g f → g ≡ normal_form p f
