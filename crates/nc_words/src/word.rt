@@ -1,0 +1,185 @@
+//! Words.
+
+ghost use Rattle.nc_algebra.specs.Words.{compare_words, word_weight};
+ghost use Rattle.std.specs.Prelude.{IfOk, IsOk, [], length, ◌*◌, ◌+◌, ◌++◌, ◌≡◌, ◌≤◌};
+
+use crate::letter::Letter;
+use smallvec::SmallVec;
+use std::alloc::{AllocError, Global};
+use std::cmp::Ordering;
+use std::marker::Model;
+
+/// The most letters of a word.
+pub const MAX_LETTERS: usize = 200_000;
+
+/// What the letters weigh together.
+fn weight_of(letters: &[Letter]) -> u128
+    ensures weight { result ≡ word_weight letters.now }
+    ensures few { result ≤ 100 * length letters.now }
+{
+    let mut sum = 0;
+    for letter in letters {
+        sum += u128::from(letter.weight());
+    }
+    sum
+}
+
+/// A word, as the list of its letters. The first 24 letters need no allocation.
+#[derive(Drop)]
+pub struct Word {
+    kept: SmallVec<Letter, 24>,
+    /// What the letters weigh together, so that words of different weight compare at once.
+    weight: u32,
+}
+
+impl Model for Word {
+    ghost use Rattle.nc_algebra.specs.Words.{Word, word_weight};
+    ghost use Rattle.std.specs.Prelude.{length, ◌*◌, ◌≡◌, ◌≤◌};
+
+    ghost Value = { Word };
+
+    ghost view = { λ w. w.kept.items };
+
+    ghost invariant = { λ w. (length w.kept.items ≤ 200000) × (w.weight ≡ word_weight w.kept.items) × (w.weight ≤ 100 * length w.kept.items) };
+}
+
+impl Word {
+    /// The empty word.
+    pub fn empty(alloc: Global) -> Word
+        ensures { result ≡ [] }
+    {
+        Word {
+            kept: SmallVec::new(alloc),
+            weight: 0,
+        }
+    }
+
+    /// The three in a row.
+    pub fn join(alloc: Global, a: &[Letter], b: &[Letter], c: &[Letter]) -> Result<Word, AllocError>
+        requires { length a.now + length b.now + length c.now ≤ 200000 }
+        ensures letters { IfOk result (λ w. w ≡ a.now ++ (b.now ++ c.now)) }
+        ensures succeeds { length a.now + length b.now + length c.now ≤ 24 → IsOk result }
+    {
+        let mut kept = SmallVec::new(alloc);
+        kept.reserve(a.len() + b.len() + c.len())?;
+        kept.extend_from_slice(a)?;
+        kept.extend_from_slice(b)?;
+        kept.extend_from_slice(c)?;
+        let weight = (weight_of(a) + weight_of(b) + weight_of(c)) as u32;
+        Ok(Word { kept, weight })
+    }
+
+    /// The letters, the first one first.
+    pub fn letters(&self) -> &[Letter]
+        ensures letters { result.now ≡ self.now }
+        ensures few { length self.now ≤ 200000 }
+    {
+        self.kept.as_slice()
+    }
+
+    /// What the letters weigh together.
+    pub fn weight(&self) -> u32
+        ensures weight { result ≡ word_weight self.now }
+        ensures few { result ≤ 20000000 }
+    {
+        self.weight
+    }
+
+    /// An equal word.
+    pub fn copy(&self) -> Result<Word, AllocError>
+        ensures letters { IfOk result (λ w. w ≡ self.now) }
+        ensures succeeds { length self.now ≤ 24 → IsOk result }
+    {
+        let kept = SmallVec::from_slice(*self.kept.allocator(), self.kept.as_slice())?;
+        Ok(Word {
+            kept,
+            weight: self.weight,
+        })
+    }
+
+    /// The order of words as lists of letters: the lighter one is less, and of two with one weight the one with
+    /// the lesser letter at the first place where they differ.
+    pub fn compare(a: &[Letter], b: &[Letter]) -> Ordering
+        ensures { result ≡ compare_words a.now b.now }
+    {
+        weight_of(a).cmp(&weight_of(b)).then(a.cmp(b))
+    }
+
+    /// The same order on words, whose weights are known.
+    pub fn order(&self, other: &Word) -> Ordering
+        ensures { result ≡ compare_words self.now other.now }
+    {
+        self.weight
+            .cmp(&other.weight)
+            .then(self.letters().cmp(other.letters()))
+    }
+}
+
+#[cfg(test)]
+mod tests {
+    use super::*;
+    use std::test::Fail;
+
+    /// The letter with this number and weight.
+    fn letter(index: u8, weight: u8) -> Result<Letter, Fail> {
+        Ok(Letter::of(index, weight).ok_or("no such letter")?)
+    }
+
+    #[test]
+    fn letters_have_limits(rt: HostRuntime) {
+        for (index, weight, want) in [
+            (0, 1, true),
+            (63, 100, true),
+            (64, 1, false),
+            (0, 0, false),
+            (0, 101, false),
+        ] {
+            assert_eq!(rt;
+                Letter::of(index, weight).is_some(),
+                want,
+                "{index} {weight}"
+            );
+        }
+    }
+
+    /// Compares two short words in both ways.
+    fn compare_both(alloc: Global, a: &[Letter], b: &[Letter]) -> Result<(Ordering, Ordering), Fail>
+        requires first { length a.now ≤ 24 }
+        requires second { length b.now ≤ 24 }
+    {
+        let u = Word::join(alloc, a, &[], &[])?;
+        let v = Word::join(alloc, &[], b, &[])?;
+        Ok((Word::compare(a, b), u.order(&v)))
+    }
+
+    #[test]
+    fn words_compare(rt: HostRuntime) -> Result<(), Fail> {
+        let alloc = rt.alloc();
+        let x = letter(0, 1)?;
+        let y = letter(1, 1)?;
+        let heavy = letter(2, 3)?;
+        let less = (Ordering::Less, Ordering::Less);
+        let equal = (Ordering::Equal, Ordering::Equal);
+        assert_eq!(rt; compare_both(alloc, &[], &[x])?, less);
+        assert_eq!(rt; compare_both(alloc, &[y], &[x, x])?, less);
+        assert_eq!(rt; compare_both(alloc, &[x, y], &[y, x])?, less);
+        assert_eq!(rt; compare_both(alloc, &[y, x], &[y, x])?, equal);
+        assert_eq!(rt; compare_both(alloc, &[y, y], &[heavy])?, less);
+        assert_eq!(rt; compare_both(alloc, &[x, x, x], &[heavy])?, less);
+        assert_eq!(rt; compare_both(alloc, &[y, y, x], &[heavy])?, less);
+        Ok(())
+    }
+
+    #[test]
+    fn long_words_join(rt: HostRuntime) -> Result<(), Fail> {
+        let alloc = rt.alloc();
+        let x = letter(5, 100)?;
+        let ten = [x; 10];
+        let word = Word::join(alloc, &ten, &ten, &ten)?;
+        assert_eq!(rt; word.letters().len(), 30);
+        assert_eq!(rt; word.weight(), 3000);
+        assert_eq!(rt; word.order(&word.copy()?), Ordering::Equal);
+        assert_eq!(rt; Word::empty(alloc).weight(), 0);
+        Ok(())
+    }
+}
