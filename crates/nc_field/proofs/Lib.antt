@@ -1,0 +1,4 @@
+pub mod Primes
+pub mod Literals
+pub mod Residues
+pub mod Inverses

@@ -1,0 +1,238 @@
+//! The primes, and arithmetic on the numbers below one of them.
+
+ghost use Rattle.std.specs.Prelude.{ℕ, ◌≡◌, ◌+◌, ◌-◌, ◌*◌, ◌%◌, ◌<◌, ◌↔◌, IfSome, IsSome, IsTrue};
+ghost use Rattle.std.specs.Str.Parse.{digits_value};
+ghost use Rattle.nc_algebra.specs.Primes.{IsPrime, is_listed_prime};
+ghost use Rattle.nc_field.specs.Literals.{IsLiteral};
+
+use crate::digits;
+use std::marker::Model;
+
+/// A number below the prime that it belongs to. It does not say which prime that is: one problem has one prime.
+pub type Residue = u32;
+
+/// A prime of the list 2, 3, 5, 7, 101, 251, 32003, 65521.
+#[derive(Clone, Copy, Debug, PartialEq, Eq)]
+pub struct Prime {
+    number: u32,
+}
+
+impl Model for Prime {
+    ghost use Rattle.std.specs.Prelude.{ℕ, IsTrue};
+    ghost use Rattle.nc_algebra.specs.Primes.{is_listed_prime};
+
+    ghost Value = { ℕ };
+
+    ghost view = { λ p. p.number };
+
+    ghost invariant = { λ p. IsTrue (is_listed_prime p.number) };
+
+    ghost inverse = { λ n. record { number = n } };
+}
+
+/// Whether the number is in the list.
+fn is_listed(n: u32) -> bool
+    ensures { result ≡ is_listed_prime n }
+{
+    matches!(n, 2 | 3 | 5 | 7 | 101 | 251 | 32003 | 65521)
+}
+
+/// Each number of the list is a prime.
+pub fn listed_primes()
+    ensures { (p : ℕ) → IsTrue (is_listed_prime p) → IsPrime p }
+{}
+
+impl Prime {
+    /// The prime with this number.
+    pub fn of(n: u32) -> Option<Prime>
+        ensures listed { IsSome result ↔ IsTrue (is_listed_prime n) }
+        ensures value { IfSome result (λ p. p ≡ n) }
+    {
+        if is_listed(n) {
+            Some(Prime { number: n })
+        } else {
+            None
+        }
+    }
+
+    /// The prime as a number.
+    pub fn number(&self) -> u32
+        ensures value { result ≡ self.now }
+        ensures prime { IsPrime self.now }
+        ensures listed { IsTrue (is_listed_prime self.now) }
+        ensures small { self.now < 65536 }
+    {
+        self.number
+    }
+
+    /// The sum of the two.
+    pub fn add(&self, a: Residue, b: Residue) -> Residue
+        requires first { a < self.now }
+        requires second { b < self.now }
+        ensures value { result ≡ (a + b) % self.now }
+        ensures below { result < self.now }
+    {
+        let p = self.number();
+        let sum = a + b;
+        if sum < p { sum } else { sum - p }
+    }
+
+    /// What added to the second gives the first.
+    pub fn sub(&self, a: Residue, b: Residue) -> Residue
+        requires first { a < self.now }
+        requires second { b < self.now }
+        ensures value { result ≡ (a + (self.now - b)) % self.now }
+        ensures below { result < self.now }
+    {
+        if a < b {
+            a + (self.number() - b)
+        } else {
+            a - b
+        }
+    }
+
+    /// The product of the two.
+    #[tactic(auto, using(crate::proofs::Residues::product_fits))]
+    pub fn mul(&self, a: Residue, b: Residue) -> Residue
+        requires first { a < self.now }
+        requires second { b < self.now }
+        ensures value { result ≡ (a * b) % self.now }
+        ensures below { result < self.now }
+    {
+        let p = self.number();
+        (a * b) % p
+    }
+
+    /// What added to the residue gives zero.
+    pub fn neg(&self, a: Residue) -> Residue
+        requires { a < self.now }
+        ensures value { result ≡ (self.now - a) % self.now }
+        ensures below { result < self.now }
+    {
+        if a == 0 { 0 } else { self.number() - a }
+    }
+
+    /// What multiplied with the residue gives one. The extended algorithm of Euclid: each of its remainders has a
+    /// factor that takes `a` to it modulo the prime.
+    pub fn inverse(&self, a: Residue) -> Residue
+        requires some { 0 < a }
+        requires below { a < self.now }
+        ensures below { result < self.now }
+        ensures inverse { (a * result) % self.now ≡ 1 }
+    {
+        let mut dividend = self.number();
+        let mut dividend_factor = 0;
+        let mut divisor = a;
+        let mut divisor_factor = 1;
+        while divisor != 1 {
+            let rest = dividend % divisor;
+            let multiple = self.mul(dividend / divisor, divisor_factor);
+            let rest_factor = self.sub(dividend_factor, multiple);
+            dividend = divisor;
+            dividend_factor = divisor_factor;
+            divisor = rest;
+            divisor_factor = rest_factor;
+        }
+        divisor_factor
+    }
+
+    /// The number that the decimal digits write, modulo the prime. Zeros may stand first.
+    pub fn of_digits(&self, digits: &[u8]) -> Option<Residue>
+        ensures when { IsSome result ↔ IsLiteral digits.now }
+        ensures value { IfSome result (λ r. r ≡ digits_value 10 digits.now % self.now) }
+        ensures below { IfSome result (λ r. r < self.now) }
+    {
+        let value = digits::value_of(digits)?;
+        Some((value % u64::from(self.number())) as u32)
+    }
+}
+
+#[cfg(test)]
+mod tests {
+    use super::*;
+    use std::test::Fail;
+
+    #[test]
+    fn primes_and_residues(rt: HostRuntime) -> Result<(), Fail> {
+        for n in [2, 3, 5, 7, 101, 251, 32003, 65521] {
+            assert_eq!(rt; Prime::of(n).ok_or("listed")?.number(), n);
+        }
+        for n in [
+            0, 1, 4, 6, 8, 9, 11, 100, 103, 249, 257, 32002, 32009, 65519, 65520, 65522, 65537,
+            131042,
+        ] {
+            assert_eq!(rt; Prime::of(n), None, "at {n}");
+        }
+
+        // the sum, the difference, the product and the negative of the first
+        for (n, a, b, answers) in [
+            (2, 0, 0, (0, 0, 0, 0)),
+            (2, 0, 1, (1, 1, 0, 0)),
+            (2, 1, 0, (1, 1, 0, 1)),
+            (2, 1, 1, (0, 0, 1, 1)),
+            (65521, 0, 0, (0, 0, 0, 0)),
+            (65521, 1, 65520, (0, 2, 65520, 65520)),
+            (65521, 65520, 65520, (65519, 0, 1, 1)),
+            (65521, 40000, 30000, (4479, 10000, 48406, 25521)),
+            (65521, 30000, 40000, (4479, 55521, 48406, 35521)),
+            (65521, 255, 257, (512, 65519, 14, 65266)),
+        ] {
+            let p = Prime::of(n).ok_or("listed")?;
+            assert!(rt; a < p.number());
+            assert!(rt; b < p.number());
+            assert_eq!(rt;
+                (p.add(a, b), p.sub(a, b), p.mul(a, b), p.neg(a)),
+                answers,
+                "{a} and {b}"
+            );
+        }
+
+        let p = Prime::of(101).ok_or("listed")?;
+        for a in 1..101 {
+            assert!(rt; a < p.number());
+            assert_eq!(rt; a * p.inverse(a) % 101, 1, "at {a}");
+        }
+        for (n, a, inverse) in [
+            (2, 1, 1),
+            (3, 2, 2),
+            (7, 3, 5),
+            (251, 100, 123),
+            (32003, 12345, 7422),
+            (65521, 2, 32761),
+            (65521, 12345, 22525),
+            (65521, 65520, 65520),
+        ] {
+            let p = Prime::of(n).ok_or("listed")?;
+            assert!(rt; 0 < a);
+            assert!(rt; a < p.number());
+            assert_eq!(rt; p.inverse(a), inverse, "{a} modulo {n}");
+        }
+        Ok(())
+    }
+
+    #[test]
+    fn digits(rt: HostRuntime) -> Result<(), Fail> {
+        let p = Prime::of(101).ok_or("listed")?;
+        for (text, residue) in [
+            ("", None),
+            ("0", Some(0)),
+            ("000123", Some(22)),
+            ("65521", Some(73)),
+            ("999999999999999999", Some(99)),
+            ("000000000000000101", Some(0)),
+            ("0000000000000000101", None),
+            ("9999999999999999999", None),
+            ("12a", None),
+            ("+12", None),
+            ("-1", None),
+            (" 1", None),
+            ("1/", None),
+            ("1:", None),
+        ] {
+            assert_eq!(rt; p.of_digits(text.as_bytes()), residue, "at {text}");
+        }
+        let last = Prime::of(65521).ok_or("listed")?;
+        assert_eq!(rt; last.of_digits(b"123456789012345678"), Some(50522));
+        Ok(())
+    }
+}
