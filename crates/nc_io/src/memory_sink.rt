@@ -15,9 +15,12 @@ use std::alloc::{AllocError, Global};
 #[derive(Drop)]
 pub struct MemorySink {
     pub bytes: Vec<u8>,
+    /// How many more bytes there is room for.
     pub spare: usize,
+    /// The most bytes that one call keeps.
     pub step: usize,
     pub calls: u64,
+    /// The numbers of the calls that fail, in any order.
     pub failing: Vec<u64>,
     pub faults: u64,
     ghost keeps: { 0 < step },

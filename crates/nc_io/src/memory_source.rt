@@ -13,10 +13,14 @@ use crate::{Failed, Source};
 /// from then on every call has that number, and a source whose `faults` can't rise doesn't fail.
 #[derive(Drop)]
 pub struct MemorySource {
+    /// All the bytes, those that are taken too.
     pub bytes: Vec<u8>,
+    /// How many bytes are taken.
     pub at: usize,
+    /// The most bytes that one call gives.
     pub step: usize,
     pub calls: u64,
+    /// The numbers of the calls that fail, in any order.
     pub failing: Vec<u64>,
     pub faults: u64,
     ghost gives: { 0 < step },
