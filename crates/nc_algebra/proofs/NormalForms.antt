@@ -162,7 +162,7 @@ module _ (p : ℕ) where
       go Equal m h = led_same (t.coefficient + u.coefficient) u.key f x ∙ ap (λ n. n % p) (let e : is_at same_word x t.key ≡ is_at same_word x u.key = ap (is_at same_word x) m in omega (arith, ap (λ n. t.coefficient * n) e))
       go Greater m h = led_same t.coefficient t.key (u ∷ f) x
 
-  normal_form_descends : (f : Polynomial) → IsDescending (normal_form p f)
+  pub normal_form_descends : (f : Polynomial) → IsDescending (normal_form p f)
   unfolding normal_form
   normal_form_descends [] = tt
   normal_form_descends (t ∷ f) = with_term_descends t (normal_form p f) (normal_form_descends f)

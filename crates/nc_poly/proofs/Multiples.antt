@@ -1,0 +1,55 @@
+-- Multiples that code lists are those of the definitions.
+use Rattle.nc_algebra.proofs.NormalForms.{normal_form_equal, normal_form_normal}
+use Rattle.nc_algebra.proofs.Sums.{linear_sum-append, linear_sum-map_keys, linear_sum-scale}
+use Rattle.nc_algebra.specs.Polynomials.{AreResidues, Polynomial, coefficient, normal_form, polynomial_times}
+use Rattle.nc_algebra.specs.Sums.{SameSum, Term, is_at, minus, scale}
+use Rattle.nc_algebra.specs.Words.{Word, same_word}
+use Rattle.nc_poly.specs.Multiples.{multiple_of, multiples_of}
+use Rattle.std.proofs.Common.{List, [], ap, ap₂, arith, length, map, refl, subst, sym, ℕ, ◌%◌, ◌*◌, ◌+◌, ◌++◌, ◌-◌, ◌<◌, ◌∙◌, ◌∷◌, ◌≡◌}
+use Rattle.std.proofs.Math.Nat.{add-mod, add-mul-mod_self_left, mod-lt}
+use Rattle.std.proofs.lemmas.List.Elements.{All-append, All-from_recursion}
+use Rattle.std.proofs.lemmas.Nat.{mul-mod_first}
+use Rattle.std.specs.List.{All, AllByRecursion}
+
+module _ (p c : ℕ) (u v : Word) where
+  -- what the multiples add to a coefficient
+  multiples_at : (g : Polynomial) (x : Word) → coefficient (multiples_of p c u g v) x % p ≡ (c * coefficient (polynomial_times u g v) x) % p
+  multiples_at [] x = ap (λ n. n % p) (omega arith)
+  multiples_at (t ∷ g) x =
+      let a = is_at same_word x (u ++ (t.key ++ v)) in
+      add-mod (((c * t.coefficient) % p) * is_at same_word x (u ++ (t.key ++ v))) (coefficient (multiples_of p c u g v) x) p
+      ∙ (ap₂ (λ m n. (m + n) % p) (mul-mod_first (c * t.coefficient) (is_at same_word x (u ++ (t.key ++ v))) p) (multiples_at g x)
+      ∙ (sym (add-mod ((c * t.coefficient) * is_at same_word x (u ++ (t.key ++ v))) (c * coefficient (polynomial_times u g v) x) p) ∙ ap (λ n. n % p) (omega arith)))
+
+  multiples_residues : (g : Polynomial) → 0 < p → AllByRecursion (λ t. t.coefficient < p) (multiples_of p c u g v)
+  multiples_residues [] some = tt
+  multiples_residues (t ∷ g) some = (mod-lt (c * t.coefficient) some, multiples_residues g some)
+
+  pub multiples_are_residues : (g : Polynomial) → 0 < p → AreResidues p (multiples_of p c u g v)
+  multiples_are_residues g some = All-from_recursion (λ t. t.coefficient < p) (multiples_of p c u g v) (multiples_residues g some)
+
+-- the negative of a residue counts as p - 1 times it
+negative_same : (p c : ℕ) → c < p → (p - c) % p ≡ ((p - 1) * c) % p
+negative_same p c small = sym (add-mul-mod_self_left (p - c) p c) ∙ (ap (λ n. n % p) (form (p - 1) (omega arith)) ∙ add-mul-mod_self_left ((p - 1) * c) p 1)
+  where
+    form : (q : ℕ) → p ≡ q + 1 → (p - c) + p * c ≡ q * c + p * 1
+    form q e = omega (arith, ap (λ n. n * c) e)
+
+-- adding the multiples by the negative residue subtracts c u g v
+pub subtracted : (p c : ℕ) (u v : Word) (old g : Polynomial) → c < p → normal_form p (old ++ multiples_of p ((p - c) % p) u g v) ≡ normal_form p (minus p old c (polynomial_times u g v))
+subtracted p c u v old g small = normal_form_equal p (old ++ multiples_of p ((p - c) % p) u g v) (minus p old c (polynomial_times u g v)) (omega arith) record { at = each }
+  where
+    sums : (x : Word) → coefficient (multiples_of p ((p - c) % p) u g v) x % p ≡ ((p - 1) * c * coefficient (polynomial_times u g v) x) % p
+    sums x = multiples_at p ((p - c) % p) u v g x ∙ (ap (λ n. (n * coefficient (polynomial_times u g v) x) % p) (negative_same p c small) ∙ mul-mod_first ((p - 1) * c) (coefficient (polynomial_times u g v) x) p)
+
+    each : (x : Word) → coefficient (old ++ multiples_of p ((p - c) % p) u g v) x % p ≡ coefficient (minus p old c (polynomial_times u g v)) x % p
+    each x =
+        ap (λ n. n % p) (linear_sum-append (is_at same_word x) old (multiples_of p ((p - c) % p) u g v))
+        ∙ (add-mod (coefficient old x) (coefficient (multiples_of p ((p - c) % p) u g v) x) p
+        ∙ (ap (λ n. (coefficient old x % p + n) % p) (sums x)
+        ∙ (sym (add-mod (coefficient old x) ((p - 1) * c * coefficient (polynomial_times u g v) x) p)
+        ∙ ap (λ n. n % p) (sym (linear_sum-append (is_at same_word x) old (scale ((p - 1) * c) (polynomial_times u g v)) ∙ ap (λ n. coefficient old x + n) (linear_sum-scale (is_at same_word x) ((p - 1) * c) (polynomial_times u g v)))))))
+
+-- a normal form has residues
+pub normal_form_residues_from : (p : ℕ) (f g : Polynomial) → 0 < p → g ≡ normal_form p f → AreResidues p g
+normal_form_residues_from p f g some e = subst (λ (h : Polynomial). AreResidues p h) (sym e) (normal_form_normal p f some).1

@@ -1,0 +1,13 @@
+-- Multiples as code lists them: term by term, with residues.
+use Rattle.nc_algebra.specs.Polynomials.{Polynomial}
+use Rattle.nc_algebra.specs.Sums.{Term}
+use Rattle.nc_algebra.specs.Words.{Word}
+use Rattle.std.specs.Prelude.{map, ℕ, ◌%◌, ◌*◌, ◌++◌}
+
+-- c u t v
+abbrev pub multiple_of : ℕ → ℕ → Word → Word → Term Word → Term Word
+multiple_of p c u v t = record { coefficient = (c * t.coefficient) % p; key = u ++ (t.key ++ v) }
+
+-- c u g v
+abbrev pub multiples_of : ℕ → ℕ → Word → Polynomial → Word → Polynomial
+multiples_of p c u g v = map (multiple_of p c u v) g

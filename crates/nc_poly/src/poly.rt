@@ -1,0 +1,153 @@
+//! Polynomials.
+
+ghost use Rattle.nc_algebra.specs.Polynomials.{AreResidues, IsDescending, Polynomial, normal_form, polynomial_times};
+ghost use Rattle.nc_algebra.specs.Sums.{minus, scale};
+ghost use Rattle.nc_poly.specs.Multiples.{multiples_of};
+ghost use Rattle.std.specs.Prelude.{All, IfOk, IsTrue, OnErr, OnOk, [], length, take, vec_len, ◌+◌, ◌++◌, ◌<◌, ◌≡◌, ◌≤◌, ◌↔◌};
+
+use crate::collect::collect;
+use crate::term::Term;
+use nc_field::{Prime, Residue};
+use nc_words::Letter;
+use std::alloc::{AllocError, Global};
+use std::marker::Model;
+
+/// Appends c u g v, term by term.
+fn push_multiple(
+    alloc: Global,
+    out: &mut Vec<Term>,
+    p: Prime,
+    c: Residue,
+    u: &[Letter],
+    g: &[Term],
+    v: &[Letter],
+) -> Result<(), AllocError>
+    requires factor { c < p }
+    requires residues { AreResidues p g.now }
+    requires few { All (λ t. length u.now + length t.key + length v.now ≤ 200000) g.now }
+    ensures { OnOk result (out.new.items ≡ out.old.items ++ multiples_of p c u.now g.now v.now) }
+{
+    for t in g {
+        let term = t.multiple(alloc, p, c, u, v)?;
+        out.push(term)?;
+    }
+    Ok(())
+}
+
+/// Appends copies of the terms.
+fn push_copies(out: &mut Vec<Term>, terms: &[Term]) -> Result<(), AllocError>
+    ensures { OnOk result (out.new.items ≡ out.old.items ++ terms.now) }
+{
+    for t in terms {
+        out.push(t.copy()?)?;
+    }
+    Ok(())
+}
+
+/// Subtracts c u g v from a list of terms, and brings it into normal form.
+fn subtract(
+    alloc: Global,
+    kept: &mut Vec<Term>,
+    p: Prime,
+    c: Residue,
+    u: &[Letter],
+    g: &[Term],
+    v: &[Letter],
+) -> Result<(), AllocError>
+    requires factor { c < p }
+    requires residues { AreResidues p kept.old.items }
+    requires other_residues { AreResidues p g.now }
+    requires few { All (λ t. length u.now + length t.key + length v.now ≤ 200000) g.now }
+    ensures difference { OnOk result (kept.new.items ≡ normal_form p (minus p kept.old.items c (polynomial_times u.now g.now v.now))) }
+    ensures descending { IsDescending kept.old.items → IsDescending kept.new.items }
+    ensures residues { AreResidues p kept.new.items }
+    ensures err { OnErr result (kept.new.items ≡ kept.old.items) }
+{
+    let mut product = Vec::with_capacity(alloc, g.len())?;
+    push_multiple(alloc, &mut product, p, p.neg(c), u, g, v)?;
+    kept.append(&mut product)?;
+    collect(p, kept);
+    Ok(())
+}
+
+/// A polynomial: its terms, each word once and the greatest first, with no coefficient 0.
+#[derive(Drop)]
+pub struct Poly {
+    kept: Vec<Term>,
+}
+
+impl Model for Poly {
+    ghost use Rattle.nc_algebra.specs.Polynomials.{IsDescending, Polynomial};
+
+    ghost Value = { Polynomial };
+
+    ghost view = { λ f. f.kept.items };
+
+    ghost invariant = { λ f. IsDescending f.kept.items };
+}
+
+impl Poly {
+    /// The polynomial 0.
+    pub fn zero(alloc: Global) -> Poly
+        ensures { result ≡ [] }
+    {
+        Poly {
+            kept: Vec::new(alloc),
+        }
+    }
+
+    /// The sum of the terms, which may stand in any order, with words that stand several times. No memory is taken.
+    pub fn of_terms(p: Prime, terms: Vec<Term>) -> Poly
+        requires { AreResidues p terms.items }
+        ensures { result ≡ normal_form p terms.items }
+    {
+        let mut kept = terms;
+        collect(p, &mut kept);
+        Poly { kept }
+    }
+
+    /// The terms, the one with the greatest word first.
+    pub fn terms(&self) -> &[Term]
+        ensures terms { result.now ≡ self.now }
+        ensures descending { IsDescending self.now }
+    {
+        self.kept.as_slice()
+    }
+
+    /// Whether it is the polynomial 0.
+    pub fn is_zero(&self) -> bool
+        ensures { IsTrue result ↔ (self.now ≡ []) }
+    {
+        self.kept.is_empty()
+    }
+
+    /// An equal polynomial.
+    pub fn copy(&self) -> Result<Poly, AllocError>
+        ensures { IfOk result (λ f. f ≡ self.now) }
+    {
+        let mut kept = Vec::with_capacity(*self.kept.allocator(), self.kept.len())?;
+        push_copies(&mut kept, self.kept.as_slice())?;
+        Ok(Poly { kept })
+    }
+
+    /// Subtracts c u g v. After `Err` the polynomial is as it was.
+    pub fn sub_multiple(
+        &mut self,
+        alloc: Global,
+        p: Prime,
+        c: Residue,
+        u: &[Letter],
+        g: &Poly,
+        v: &[Letter],
+    ) -> Result<(), AllocError>
+        requires factor { c < p }
+        requires residues { AreResidues p self.old }
+        requires other_residues { AreResidues p g.now }
+        requires few { All (λ t. length u.now + length t.key + length v.now ≤ 200000) g.now }
+        ensures difference { OnOk result (self.new ≡ normal_form p (minus p self.old c (polynomial_times u.now g.now v.now))) }
+        ensures residues { AreResidues p self.new }
+        ensures err { OnErr result (self.new ≡ self.old) }
+    {
+        subtract(alloc, &mut self.kept, p, c, u, g.terms(), v)
+    }
+}
