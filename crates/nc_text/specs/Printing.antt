@@ -35,7 +35,7 @@ poly_text names (t ∷ f) = joined (codes " + ") (map (term_text names) (t ∷ f
 
 -- the left word, the generator's number in brackets, the right word
 abbrev pub sig_text : List (List ℕ) → Monomial → List ℕ
-sig_text names σ = word_text names σ.left ++ codes " [" ++ decimal σ.generator ++ codes "] " ++ word_text names σ.right
+sig_text names σ = word_text names σ.left ++ (codes " [" ++ (decimal σ.generator ++ (codes "] " ++ word_text names σ.right)))
 
 -- ---- the lines of a certificate
 
@@ -43,7 +43,7 @@ abbrev pub letters_text : List (List ℕ) → List ℕ
 letters_text names = codes "letters" ++ flat_map (λ name. codes " " ++ name) names
 
 abbrev pub term_line : List (List ℕ) → Term Monomial → List ℕ
-term_line names t = codes "term " ++ decimal t.coefficient ++ codes " " ++ sig_text names t.key
+term_line names t = codes "term " ++ (decimal t.coefficient ++ (codes " " ++ sig_text names t.key))
 
 abbrev pub certificate_lines : Certificate → List (List ℕ)
 certificate_lines c =
