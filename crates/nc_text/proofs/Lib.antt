@@ -5,3 +5,5 @@ pub mod Names
 pub mod RoundTripPolynomials
 pub mod RoundTripRows
 pub mod PrintedLines
+pub mod PlainText
+pub mod RoundTripCertificates

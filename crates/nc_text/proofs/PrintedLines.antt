@@ -51,9 +51,9 @@ no_comment line h =
     let all : position_or_len (λ b. eqb b 35) line ≡ length line = position_or_len_is (λ b. eqb b 35) line (length line) 0 (omega arith) (λ k less. (plain_facts _ (plain_at line k h less)).2) (λ less. absurd (omega arith)) in
     rw (no_return line h, all) (take_all (length line) line (omega arith))
 
-allowed : (line : List ℕ) → ArePlain line → list_all is_allowed line ≡ true
-allowed [] h = refl
-allowed (b ∷ line) h = let k = and_parts (is_plain b) (list_all is_plain line) h in and_from _ _ (plain_facts b k.0).3 (allowed line k.1)
+pub all_weaker : (p q : ℕ → Bool) → ((b : ℕ) → p b ≡ true → q b ≡ true) → (bs : List ℕ) → list_all p bs ≡ true → list_all q bs ≡ true
+all_weaker p q f [] h = refl
+all_weaker p q f (b ∷ bs) h = let k = and_parts (p b) (list_all p bs) h in and_from _ _ (f b k.0) (all_weaker p q f bs k.1)
 
 not_blank : (line : List ℕ) → is_blank (get_or line 0 32) ≡ false → list_all is_blank line ≡ false
 not_blank [] h = h
@@ -62,4 +62,4 @@ not_blank (b ∷ line) h = and_left _ _ h
 -- what a printed line says
 pub written_line : (n : ℕ) (line : List ℕ) (ls : List (List ℕ)) → IsPrintedLine line → written n (line ∷ ls) ≡ Line n true (tokens line) (written (n + 1) ls)
 unfolding written
-written_line n line ls h = rw (no_comment line h.plain, not_blank line h.begun, allowed line h.plain) refl
+written_line n line ls h = rw (no_comment line h.plain, not_blank line h.begun, all_weaker is_plain is_allowed (λ b e. (plain_facts b e).3) line h.plain) refl

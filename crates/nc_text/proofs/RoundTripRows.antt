@@ -33,10 +33,10 @@ field_again p small listed =
 
 -- ---- letters
 
-abbrev names_text : List (List ℕ) → List ℕ
+abbrev pub names_text : List (List ℕ) → List ℕ
 names_text names = flat_map (λ name. (32 ∷ []) ++ name) names
 
-names_break : (names : List (List ℕ)) → IsBreak (names_text names)
+pub names_break : (names : List (List ℕ)) → IsBreak (names_text names)
 names_break [] = tt
 names_break (name ∷ names) = (refl, refl)
 
