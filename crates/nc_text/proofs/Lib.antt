@@ -7,3 +7,6 @@ pub mod RoundTripRows
 pub mod PrintedLines
 pub mod PlainText
 pub mod RoundTripCertificates
+pub mod ReadWords
+pub mod ReadRows
+pub mod ReadCertificates

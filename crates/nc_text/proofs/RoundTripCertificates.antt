@@ -207,7 +207,7 @@ module _ (p : ℕ) (names : List (List ℕ)) (can : CanPrint p names) where
       generators [] h = ((claim_is claim text).printed, behind_terms α terms)
       generators (g ∷ gs) h = ((generator_is g h.0.polynomial).printed, generators gs h.1)
 
-listed_facts : (p : ℕ) → is_listed_prime p ≡ true → (0 < p) × (p < 65536)
+pub listed_facts : (p : ℕ) → is_listed_prime p ≡ true → (0 < p) × (p < 65536)
 listed_facts p e = (grind (arith, nat_tests), grind (arith, nat_tests))
 
 can_print : (s : NamedSetting) → IsSetting s → CanPrint s.setting.prime s.names

@@ -2,7 +2,7 @@
 //! forms, as definitions with their laws.
 #![tactic(auto)]
 
-ghost use Rattle.nc_text.specs.Laws.{OneCertificate, ReadsWhatIsPrinted};
+ghost use Rattle.nc_text.specs.Laws.{OneCertificate, ReadsCertificates, ReadsWhatIsPrinted};
 
 mod fault;
 
@@ -18,4 +18,9 @@ pub fn reads_what_is_printed()
 #[tactic(auto, using(crate::proofs::RoundTripCertificates::one_certificate))]
 pub fn one_certificate()
     ensures { OneCertificate }
+{}
+
+/// What is read of a text is a certificate.
+pub fn reads_certificates()
+    ensures { ReadsCertificates }
 {}
