@@ -10,3 +10,4 @@ pub mod RoundTripCertificates
 pub mod ReadWords
 pub mod ReadRows
 pub mod ReadCertificates
+pub mod Examples
