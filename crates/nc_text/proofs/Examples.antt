@@ -5,14 +5,15 @@ use Rattle.nc_algebra.specs.Monomials.{Monomial}
 use Rattle.nc_algebra.specs.Polynomials.{Polynomial, normal_form, with_term}
 use Rattle.nc_algebra.specs.Sums.{Term}
 use Rattle.nc_algebra.specs.Words.{Letter, Word}
-use Rattle.nc_text.specs.Certificates.{certificate_at, claim_line, end_line, field_line, form_line, generator_lines, letters_line, reads_certificate, setting_lines, term_lines}
-use Rattle.nc_text.specs.Lines.{lines, the_end, the_line, written}
+use Rattle.nc_text.specs.Certificates.{certificate_at, claim_line, end_line, form_line, reads_certificate, term_lines}
+use Rattle.nc_text.specs.Settings.{field_line, generator_lines, letters_line, setting_lines}
+use Rattle.nc_text.specs.Lines.{fault_at, lines, the_end, the_line, written}
 use Rattle.nc_text.specs.Printing.{certificate_text}
 use Rattle.nc_text.specs.Reading.{end_at, exponent_at, factor_at, factors_at, literal_at, name_at, poly_at, sign_at, term_at, terms_at, word_behind}
 use Rattle.nc_text.specs.Rows.{close_at, field_at, form_at, generator_at, letters_at, mono_at, multiple_at, open_at, side_at}
 use Rattle.nc_text.specs.Tokens.{pieces, tokens}
 use Rattle.nc_text.specs.declared.fault.Kind.{Kind}
-use Rattle.nc_text.specs.declared.fault.Kind.TheVariants.{BadName, BadPrime, DoubleName, LongLiteral, LongWord, OutOfRange, Syntax, TooManyGenerators, UnknownName, ZeroGenerator}
+use Rattle.nc_text.specs.declared.fault.Kind.TheVariants.{BadByte, BadName, BadPrime, DoubleName, LongLiteral, LongWord, Missing, OutOfRange, Syntax, TooManyGenerators, UnknownName, WrongLine, ZeroGenerator}
 use Rattle.std.proofs.Common.{Err, List, Ok, Result, [], codes, refl, ℕ, ◌∷◌, ◌≡◌}
 use Rattle.std.specs.Fmt.{digits}
 
@@ -44,6 +45,22 @@ printed = refl
 read : reads_certificate text ≡ Ok example
 unfolding certificate_at claim_line end_line field_line form_line generator_lines letters_line setting_lines term_lines lines the_end the_line written end_at exponent_at factor_at factors_at literal_at name_at poly_at sign_at term_at terms_at word_behind close_at field_at form_at generator_at letters_at mono_at multiple_at open_at side_at pieces tokens normal_form with_term
 read = refl
+
+abbrev TellsFault : List ℕ → ℕ → Kind → Type 0
+TellsFault bytes line kind = reads_certificate bytes ≡ Err (fault_at line kind)
+
+-- the first fault of a text is told, with its line
+faults :
+    TellsFault (codes "certificate 1\n\n # field\n") 4 Missing
+    × TellsFault (codes "\tcertificate 1\r\nletters") 2 WrongLine
+    × TellsFault (codes "certificate 1 1\x07") 1 BadByte
+unfolding certificate_at claim_line end_line field_line form_line generator_lines letters_line setting_lines term_lines lines the_end the_line written end_at exponent_at factor_at factors_at literal_at name_at poly_at sign_at term_at terms_at word_behind close_at field_at form_at generator_at letters_at mono_at multiple_at open_at side_at pieces tokens normal_form with_term
+faults = (refl, refl, refl)
+
+-- blanks, comments and carriage returns say nothing
+otherwise : reads_certificate (codes "\n certificate 01 # form\r\nfield 101\r\nletters x\nclaim-100*x^1\nend\n\n") ≡ reads_certificate (codes "certificate 1\nfield 101\nletters x\nclaim x\nend")
+unfolding certificate_at claim_line end_line field_line form_line generator_lines letters_line setting_lines term_lines lines the_end the_line written end_at exponent_at factor_at factors_at literal_at name_at poly_at sign_at term_at terms_at word_behind close_at field_at form_at generator_at letters_at mono_at multiple_at open_at side_at pieces tokens normal_form with_term
+otherwise = refl
 
 abbrev names : List (List ℕ)
 names = codes "x" ∷ codes "y" ∷ []

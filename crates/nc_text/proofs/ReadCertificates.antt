@@ -4,7 +4,8 @@ use Rattle.nc_algebra.specs.Primes.{is_listed_prime}
 use Rattle.nc_text.proofs.ReadRows.{AreLetterNames, field_reads, generator_reads, letters_read, multiple_reads, no_names}
 use Rattle.nc_text.proofs.ReadWords.{on_any, on_bind, on_choice, poly_reads}
 use Rattle.nc_text.proofs.RoundTripCertificates.{listed_facts}
-use Rattle.nc_text.specs.Certificates.{certificate_at, claim_line, end_line, field_line, form_line, generator_lines, letters_line, reads_certificate, setting_lines, term_lines}
+use Rattle.nc_text.specs.Certificates.{certificate_at, claim_line, end_line, form_line, reads_certificate, term_lines}
+use Rattle.nc_text.specs.Settings.{field_line, generator_lines, letters_line, setting_lines}
 use Rattle.nc_text.specs.Laws.{ReadsCertificates}
 use Rattle.nc_text.specs.Lines.{End, Line, Written, at_line, begins, behind, lines, the_line, written}
 use Rattle.nc_text.specs.Reading.{poly_at, ◌>>=◌}

@@ -12,7 +12,8 @@ use Rattle.nc_text.proofs.PrintedLines.{ArePlain, IsPrintedLine, lines_ended, wr
 use Rattle.nc_text.proofs.PrintedTokens.{IsBreak, name_token, nothing, space_token}
 use Rattle.nc_text.proofs.RoundTripPolynomials.{poly_again, text_is_printed}
 use Rattle.nc_text.proofs.RoundTripRows.{AreEachNames, IsPrintedMonomial, field_again, generator_again, letters_again, multiple_again, names_break, names_text}
-use Rattle.nc_text.specs.Certificates.{certificate_at, claim_line, end_line, field_line, form_line, generator_lines, letters_line, reads_certificate, setting_lines, term_lines}
+use Rattle.nc_text.specs.Certificates.{certificate_at, claim_line, end_line, form_line, reads_certificate, term_lines}
+use Rattle.nc_text.specs.Settings.{field_line, generator_lines, letters_line, setting_lines}
 use Rattle.nc_text.specs.Laws.{OneCertificate, ReadsWhatIsPrinted}
 use Rattle.nc_text.specs.Lines.{Line, Row, Written, at_line, begins, behind, row, the_end, the_line, written}
 use Rattle.nc_text.specs.Printing.{certificate_lines, certificate_text, letters_text, poly_text, sig_text, term_line}
