@@ -1,10 +1,7 @@
 -- Texts, and what they are read as: a certificate, or the first fault.
 use Rattle.nc_algebra.specs.Certificates.{Certificate, letter_at}
-use Rattle.nc_algebra.specs.Elements.{Setting}
-use Rattle.nc_algebra.specs.Monomials.{Monomial}
 use Rattle.nc_algebra.specs.Polynomials.{Polynomial, normal_form, with_term}
-use Rattle.nc_algebra.specs.Sums.{Term}
-use Rattle.nc_algebra.specs.Words.{Letter, Word}
+use Rattle.nc_algebra.specs.Words.{Word}
 use Rattle.nc_text.specs.Certificates.{certificate_at, claim_line, end_line, form_line, reads_certificate, term_lines}
 use Rattle.nc_text.specs.Settings.{field_line, generator_lines, letters_line, setting_lines}
 use Rattle.nc_text.specs.Lines.{fault_at, lines, the_end, the_line, written}
@@ -53,7 +50,7 @@ TellsFault bytes line kind = reads_certificate bytes ≡ Err (fault_at line kind
 faults :
     TellsFault (codes "certificate 1\n\n # field\n") 4 Missing
     × TellsFault (codes "\tcertificate 1\r\nletters") 2 WrongLine
-    × TellsFault (codes "certificate 1 1\x07") 1 BadByte
+    × TellsFault (codes "certificate 1 1\u{7}") 1 BadByte
 unfolding certificate_at claim_line end_line field_line form_line generator_lines letters_line setting_lines term_lines lines the_end the_line written end_at exponent_at factor_at factors_at literal_at name_at poly_at sign_at term_at terms_at word_behind close_at field_at form_at generator_at letters_at mono_at multiple_at open_at side_at pieces tokens normal_form with_term
 faults = (refl, refl, refl)
 

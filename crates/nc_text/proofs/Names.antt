@@ -4,9 +4,7 @@ use Rattle.nc_algebra.specs.Finite.{Among, IsDistinct}
 use Rattle.nc_algebra.specs.Words.{Letter}
 use Rattle.nc_text.specs.Printing.{name_of}
 use Rattle.nc_text.specs.Reading.{letter_of}
-use Rattle.nc_text.specs.declared.fault.Kind.TheVariants.{UnknownName}
-use Rattle.std.proofs.Common.{All, Bool, IsTrue, List, None, Ok, Option, Some, [], ap, arith, bytes_eq, cond, false, get_or, inl, inr, length, ok_or, refl, subst, suc, sym, true, zero, ℕ, ◌<◌, ◌∙◌, ◌∷◌, ◌≡◌}
-use Rattle.std.proofs.lemmas.Bool.Decides.{when_false}
+use Rattle.std.proofs.Common.{All, Bool, IsTrue, List, Ok, [], arith, bytes_eq, false, get_or, inl, inr, length, refl, subst, suc, sym, true, zero, ℕ, ◌<◌, ◌∷◌, ◌≡◌}
 use Rattle.std.proofs.lemmas.Bool.{lt-ltb}
 use Rattle.std.proofs.lemmas.List.Sums.{position_or_len_is}
 use Rattle.std.proofs.lemmas.Slice.Eq.{bytes_eq-Decides}
@@ -45,6 +43,6 @@ are_names names named distinct = record { each = λ x below. named x.index [] be
     apart : (i : ℕ) → i < length names → letter_of names (get_or names i []) ≡ Ok i
     apart i within =
         let at : position_or_len (λ n. bytes_eq n (get_or names i [])) names ≡ i = position_or_len_is (λ n. bytes_eq n (get_or names i [])) names i [] (omega arith)
-            (λ k less. bytes_apart _ _ (distinct_at names [] k i distinct less within)) (λ _. bytes_same (get_or names i [])) in
+        (λ k less. bytes_apart _ _ (distinct_at names [] k i distinct less within)) (λ _. bytes_same (get_or names i [])) in
         let inside : nat_lt i (length names) ≡ true = lt-ltb _ _ within in
         rw (at, inside) refl

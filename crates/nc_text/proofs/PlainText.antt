@@ -1,16 +1,15 @@
 -- The bytes of printed pieces are plain.
-use Rattle.nc_algebra.specs.Certificates.{IsTextTerm, IsTextWord, is_name, is_name_byte}
+use Rattle.nc_algebra.specs.Certificates.{is_name, is_name_byte}
 use Rattle.nc_algebra.specs.Monomials.{Monomial}
 use Rattle.nc_algebra.specs.Polynomials.{Polynomial}
-use Rattle.nc_algebra.specs.Sums.{Term}
-use Rattle.nc_algebra.specs.Words.{Letter, Word}
+use Rattle.nc_algebra.specs.Words.{Word}
 use Rattle.nc_text.proofs.Digits.{decimal_is}
 use Rattle.nc_text.proofs.Names.{AreNames}
 use Rattle.nc_text.proofs.PrintedLines.{ArePlain, all_weaker, is_plain}
-use Rattle.nc_text.proofs.RoundTripPolynomials.{AreLetters, ArePrinted}
-use Rattle.nc_text.proofs.RoundTripRows.{AreEachNames, IsPrintedMonomial}
+use Rattle.nc_text.proofs.RoundTripPolynomials.{AreLetters, ArePrinted, are_letters}
+use Rattle.nc_text.proofs.RoundTripRows.{AreEachNames, IsTextMonomial}
 use Rattle.nc_text.specs.Printing.{coefficient_and_word, name_of, poly_text, sig_text, term_text, word_text}
-use Rattle.std.proofs.Common.{Bool, List, [], arith, cond, decimal, eqb, false, flat_map, length, map, refl, true, ℕ, ◌&&◌, ◌++◌, ◌<◌, ◌∙◌, ◌∷◌, ◌≡◌, ◌≤◌}
+use Rattle.std.proofs.Common.{Bool, List, [], arith, cond, decimal, eqb, false, flat_map, length, map, refl, true, ℕ, ◌++◌, ◌<◌, ◌∙◌, ◌∷◌, ◌≡◌, ◌≤◌}
 use Rattle.std.proofs.lemmas.Bool.Decides.{nat_tests}
 use Rattle.std.proofs.lemmas.Bool.{and_from, and_parts}
 use Rattle.std.proofs.lemmas.List.Folds.{list_all-append}
@@ -63,7 +62,7 @@ poly_plain p names [] small ns all = refl
 poly_plain p names (t ∷ f) small ns all =
     plain_append (term_text names t) _ (term_plain names t.coefficient t.key (let k = all.0.small in omega arith) ns all.0.letters) (terms_plain p names f small ns all.1)
 
-pub sig_plain : (names : List (List ℕ)) (generators : ℕ) (σ : Monomial) → AreNames names → generators ≤ 1000 → IsPrintedMonomial names generators σ → ArePlain (sig_text names σ)
+pub sig_plain : (names : List (List ℕ)) (generators : ℕ) (σ : Monomial) → AreNames names → generators ≤ 1000 → IsTextMonomial (length names) generators σ → ArePlain (sig_text names σ)
 sig_plain names generators σ ns few h =
-    plain_append (word_text names σ.left) _ (word_plain names σ.left ns h.left)
-    (plain_append (decimal σ.generator) (93 ∷ 32 ∷ word_text names σ.right) (decimal_plain σ.generator (let k = h.listed in omega arith)) (word_plain names σ.right ns h.right))
+    plain_append (word_text names σ.left) _ (word_plain names σ.left ns (are_letters names σ.left h.left))
+    (plain_append (decimal σ.generator) (93 ∷ 32 ∷ word_text names σ.right) (decimal_plain σ.generator (let k = h.listed in omega arith)) (word_plain names σ.right ns (are_letters names σ.right h.right)))

@@ -1,8 +1,8 @@
 -- Lines of printable bytes without a comment: cut at their line feeds they are the lines that were ended.
-use Rattle.nc_text.specs.Lines.{Line, Written, content, is_allowed, led_by, lines, without_return, written}
+use Rattle.nc_text.specs.Lines.{Line, content, is_allowed, led_by, lines, without_return, written}
 use Rattle.nc_text.specs.Printing.{ended}
 use Rattle.nc_text.specs.Tokens.{is_blank, tokens}
-use Rattle.std.proofs.Common.{Bool, List, [], ap, arith, cond, eqb, false, get_or, length, not, refl, sym, take, true, ℕ, ◌&&◌, ◌++◌, ◌+◌, ◌-◌, ◌<◌, ◌∙◌, ◌∷◌, ◌≡◌, append_assoc}
+use Rattle.std.proofs.Common.{Bool, List, [], ap, arith, eqb, false, get_or, length, not, refl, true, ℕ, ◌&&◌, ◌++◌, ◌+◌, ◌-◌, ◌<◌, ◌∙◌, ◌∷◌, ◌≡◌, append_assoc}
 use Rattle.std.proofs.lemmas.Bool.Decides.{nat_tests}
 use Rattle.std.proofs.lemmas.Bool.{and_from, and_left, and_parts}
 use Rattle.std.proofs.lemmas.List.Sums.{AllPass-from_list_all, position_or_len_is}

@@ -3,7 +3,7 @@ use Rattle.nc_algebra.specs.Certificates.{is_name, is_name_byte}
 use Rattle.nc_text.proofs.Digits.{AreDigitsOf}
 use Rattle.nc_text.proofs.Pieces.{counted_piece, nothing_goes, one_piece}
 use Rattle.nc_text.specs.Tokens.{Close, Literal, Name, Open, Times, Token, Plus, is_blank, pieces, sign_of, token_of, tokens}
-use Rattle.std.proofs.Common.{Bool, List, [], ap, arith, drop, false, leb, length, refl, suc, take, true, ℕ, ◌&&◌, ◌++◌, ◌+◌, ◌∙◌, ◌∷◌, ◌≡◌}
+use Rattle.std.proofs.Common.{Bool, List, [], ap, arith, drop, false, length, refl, suc, take, true, ℕ, ◌&&◌, ◌++◌, ◌+◌, ◌∙◌, ◌∷◌, ◌≡◌}
 use Rattle.std.proofs.lemmas.Bool.Decides.{nat_tests}
 use Rattle.std.proofs.lemmas.Bool.{and_parts, le-ltb}
 use Rattle.std.specs.Char.{is_ascii_alphabetic, is_ascii_digit}

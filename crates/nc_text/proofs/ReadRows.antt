@@ -1,24 +1,21 @@
 -- What is read behind a keyword is part of a certificate.
 use Rattle.nc_algebra.specs.Certificates.{IsTextGenerator, IsTextPolynomial, IsTextTerm, IsTextWord, NamedSetting, is_name}
 use Rattle.nc_algebra.specs.Finite.{Among, IsDistinct}
-use Rattle.nc_algebra.specs.Monomials.{Monomial}
 use Rattle.nc_algebra.specs.Polynomials.{Polynomial}
 use Rattle.nc_algebra.specs.Primes.{is_listed_prime}
-use Rattle.nc_algebra.specs.Sums.{Term}
-use Rattle.nc_algebra.specs.Words.{Word}
 use Rattle.nc_text.proofs.Names.{bytes_same}
 use Rattle.nc_text.proofs.ReadWords.{empty_word, on_any, on_bind, on_choice, poly_reads, word_reads}
-use Rattle.nc_text.specs.Reading.{end_at, literal_at, misplaced, poly_at, word_at, ◌>>=◌}
+use Rattle.nc_text.proofs.RoundTripRows.{IsTextMonomial}
+use Rattle.nc_text.specs.Reading.{end_at, literal_at, poly_at}
 use Rattle.nc_text.specs.Rows.{checked, close_at, field_at, further_name, generator_at, letters_at, mono_at, multiple_at, nonzero, open_at, side_at}
 use Rattle.nc_text.specs.Tokens.{Literal, Name, Token}
 use Rattle.nc_text.specs.declared.fault.Kind.{Kind}
-use Rattle.nc_text.specs.declared.fault.Kind.TheVariants.{BadName, DoubleName, OutOfRange, Syntax, TooManyGenerators, TooManyNames}
-use Rattle.std.proofs.Common.{All, Bool, Err, IfOk, IsTrue, List, Ok, Result, [], ap, arith, bytes_eq, eqb, false, inl, inr, length, ltb, mod-lt, refl, subst, sym, true, true≢false, ℕ, ◌%◌, ◌&&◌, ◌++◌, ◌+◌, ◌<◌, ◌∙◌, ◌∷◌, ◌≡◌, ◌≢◌, ◌≤◌, ◌⊎◌}
+use Rattle.nc_text.specs.declared.fault.Kind.TheVariants.{OutOfRange}
+use Rattle.std.proofs.Common.{All, Bool, Err, IfOk, IsTrue, List, Ok, [], ap, arith, bytes_eq, eqb, false, inl, inr, length, ltb, mod-lt, refl, sym, true, true≢false, ℕ, ◌&&◌, ◌++◌, ◌+◌, ◌<◌, ◌∙◌, ◌∷◌, ◌≡◌, ◌≤◌, ◌⊎◌}
 use Rattle.std.proofs.lemmas.Bool.{and_parts, eqb-false, ltb-true, or_parts}
 use Rattle.std.proofs.lemmas.List.Elements.{All-nil, All-push}
 use Rattle.std.proofs.lemmas.List.{length-append}
 use Rattle.std.specs.List.{list_any}
-use Rattle.std.specs.Prelude.{cond}
 
 checked_reads : (b : Bool) (k : Kind) (n : ℕ) → IfOk (checked b k n) (λ m. (b ≡ true) × (m ≡ n))
 checked_reads b k n = on_choice (λ m. (b ≡ true) × (m ≡ n)) b (Ok n) (Err k) (λ yes. (yes, refl)) (λ no. tt)
@@ -29,7 +26,7 @@ pub field_reads : (ts : List Token) → IfOk (field_at ts) (λ p. is_listed_prim
 unfolding field_at
 field_reads ts =
     on_bind _ _ (literal_at ts) _ (on_any (literal_at ts)) (λ n _. on_bind _ _ (checked (is_listed_prime n.0) _ n.0) _ (checked_reads (is_listed_prime n.0) _ n.0) (λ p is.
-      on_bind _ _ (end_at n.1) _ (on_any (end_at n.1)) (λ _ _. ap is_listed_prime is.1 ∙ is.0)))
+    on_bind _ _ (end_at n.1) _ (on_any (end_at n.1)) (λ _ _. ap is_listed_prime is.1 ∙ is.0)))
 
 -- ---- letters
 
@@ -107,24 +104,17 @@ side_reads names [] = word_reads names []
 side_reads names (Literal n ∷ rest) = on_choice _ (eqb n 1) _ _ (λ one. empty_word (length names)) (λ other. tt)
 side_reads names (t ∷ rest) = word_reads names (t ∷ rest)
 
--- a monomial over so many generators whose words may stand in a text
-pub record IsTextMonomial (n generators : ℕ) (σ : Monomial) : Type 0 where
-  pub some : 1 ≤ σ.generator
-  pub listed : σ.generator ≤ generators
-  pub left : IsTextWord n σ.left
-  pub right : IsTextWord n σ.right
-
 pub mono_reads : (names : List (List ℕ)) (generators : ℕ) (ts : List Token) → IfOk (mono_at names generators ts) (λ σ. IsTextMonomial (length names) generators σ)
 unfolding mono_at
 mono_reads names generators ts =
     on_bind _ _ (side_at names ts) _ (side_reads names ts) (λ left left_text. on_bind _ _ (open_at left.1) _ (on_any (open_at left.1)) (λ inside _. on_bind _ _ (literal_at inside) _ (on_any (literal_at inside)) (λ n _.
-      on_bind _ _ (checked (ltb 0 n.0 && ltb n.0 (generators + 1)) OutOfRange n.0) _ (checked_reads (ltb 0 n.0 && ltb n.0 (generators + 1)) OutOfRange n.0) (λ i is. on_bind _ _ (close_at n.1) _ (on_any (close_at n.1)) (λ outside _.
-        on_bind _ _ (side_at names outside) _ (side_reads names outside) (λ right right_text. on_bind _ _ (end_at right.1) _ (on_any (end_at right.1)) (λ _ _. record {
-          some = (let k = and_parts (ltb 0 n.0) (ltb n.0 (generators + 1)) is.0 in let low = ltb-true 0 n.0 k.0 in omega (arith, is.1));
-          listed = (let k = and_parts (ltb 0 n.0) (ltb n.0 (generators + 1)) is.0 in let high = ltb-true n.0 (generators + 1) k.1 in omega (arith, is.1));
-          left = left_text;
-          right = right_text;
-        })))))))
+    on_bind _ _ (checked (ltb 0 n.0 && ltb n.0 (generators + 1)) OutOfRange n.0) _ (checked_reads (ltb 0 n.0 && ltb n.0 (generators + 1)) OutOfRange n.0) (λ i is. on_bind _ _ (close_at n.1) _ (on_any (close_at n.1)) (λ outside _.
+    on_bind _ _ (side_at names outside) _ (side_reads names outside) (λ right right_text. on_bind _ _ (end_at right.1) _ (on_any (end_at right.1)) (λ _ _. record {
+      some = (let k = and_parts (ltb 0 n.0) (ltb n.0 (generators + 1)) is.0 in let low = ltb-true 0 n.0 k.0 in omega (arith, is.1));
+      listed = (let k = and_parts (ltb 0 n.0) (ltb n.0 (generators + 1)) is.0 in let high = ltb-true n.0 (generators + 1) k.1 in omega (arith, is.1));
+      left = left_text;
+      right = right_text;
+    })))))))
 
 pub multiple_reads : (s : NamedSetting) (ts : List Token) → 0 < s.setting.prime → IfOk (multiple_at s.setting.prime s.names (length s.setting.generators) ts) (λ t. IsTextTerm s t)
 unfolding multiple_at

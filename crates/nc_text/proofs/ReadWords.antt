@@ -4,11 +4,11 @@ use Rattle.nc_algebra.specs.Certificates.{AreTextWords, IsLetterBelow, IsTextPol
 use Rattle.nc_algebra.specs.Polynomials.{Polynomial, led_by, normal_form, placed, with_term}
 use Rattle.nc_algebra.specs.Sums.{Term}
 use Rattle.nc_algebra.specs.Words.{Letter, Word, compare_words}
-use Rattle.nc_text.specs.Reading.{after_factor, after_term, exponent_at, factor_at, factors_at, letter_of, lengthened, literal_at, misplaced, name_at, poly_at, sign_at, sum_at, term_at, terms_at, word_at, word_behind, ◌>>=◌}
-use Rattle.nc_text.specs.Tokens.{Literal, Minus, Name, Plus, Times, Token}
+use Rattle.nc_text.specs.Reading.{after_factor, after_term, exponent_at, factor_at, factors_at, letter_of, lengthened, name_at, poly_at, sign_at, sum_at, term_at, terms_at, word_at, word_behind, ◌>>=◌}
+use Rattle.nc_text.specs.Tokens.{Literal, Minus, Plus, Times, Token}
 use Rattle.nc_text.specs.declared.fault.Kind.{Kind}
 use Rattle.nc_text.specs.declared.fault.Kind.TheVariants.{LongWord, UnknownName}
-use Rattle.std.proofs.Common.{All, Bool, Err, List, None, Ok, IfOk, Option, Result, Some, [], arith, bytes_eq, cond, false, length, ltb, nat_eq, ok_or, position, refl, replicate, suc, true, zero, ℕ, ◌%◌, ◌++◌, ◌+◌, ◌<◌, ◌∷◌, ◌≡◌, ◌≤◌, Less, Equal, Greater, Ordering}
+use Rattle.std.proofs.Common.{All, Bool, Err, List, None, Ok, IfOk, Option, Result, Some, [], arith, bytes_eq, cond, false, length, ltb, nat_eq, ok_or, position, refl, replicate, suc, true, zero, ℕ, ◌%◌, ◌++◌, ◌+◌, ◌<◌, ◌∷◌, ◌≡◌, Less, Equal, Greater, Ordering}
 use Rattle.std.proofs.lemmas.Bool.{ltb-false}
 use Rattle.std.proofs.lemmas.List.Elements.{All-append, All-cons, All-head, All-nil, All-replicate, All-tail}
 use Rattle.std.proofs.lemmas.List.Quantifiers.{position-Some}
@@ -46,7 +46,7 @@ factor_reads : (names : List (List ℕ)) (w : Word) (ts : List Token) → IsWord
 unfolding factor_at
 factor_reads names w ts below =
     on_bind _ _ (name_at ts) _ (on_any (name_at ts)) (λ name _. on_bind _ _ (letter_of names name.0) _ (letter_reads names name.0) (λ letter less. on_bind _ _ (exponent_at name.1) _ (on_any (exponent_at name.1)) (λ exponent _.
-      on_bind _ _ (lengthened w (letter_at letter) exponent.0) _ (lengthened_reads (length names) w (letter_at letter) exponent.0 below (less, refl)) (λ longer text. text))))
+    on_bind _ _ (lengthened w (letter_at letter) exponent.0) _ (lengthened_reads (length names) w (letter_at letter) exponent.0 below (less, refl)) (λ longer text. text))))
 
 -- ---- words
 
@@ -100,8 +100,8 @@ unfolding terms_at
 terms_read zero p names negative ts = tt
 terms_read (suc m) p names negative ts =
     on_bind _ _ (term_at p names negative ts) _ (term_reads p names negative ts) (λ term text. on_bind _ _ (after_term (terms_at m p names) term.1) _
-      (after_term_reads (AreTextWords (length names)) (terms_at m p names) term.1 (λ negative rest. terms_read m p names negative rest) (All-nil (λ t. IsTextWord (length names) t.key)))
-      (λ others texts. All-cons (λ t. IsTextWord (length names) t.key) term.0 others text texts))
+    (after_term_reads (AreTextWords (length names)) (terms_at m p names) term.1 (λ negative rest. terms_read m p names negative rest) (All-nil (λ t. IsTextWord (length names) t.key)))
+    (λ others texts. All-cons (λ t. IsTextWord (length names) t.key) term.0 others text texts))
 
 sum_reads : (p : ℕ) (names : List (List ℕ)) (ts : List Token) → IfOk (sum_at p names ts) (λ f. AreTextWords (length names) f)
 sum_reads p names ts = terms_read (length (sign_at ts).1) p names (sign_at ts).0 (sign_at ts).1

@@ -4,7 +4,7 @@ use Rattle.nc_algebra.specs.Certificates.{AreTextWords, IsLetterBelow, IsTextPol
 use Rattle.nc_algebra.specs.Polynomials.{AreResidues, IsDescending, Polynomial, normal_form, with_term}
 use Rattle.nc_algebra.specs.Sums.{Term}
 use Rattle.nc_algebra.specs.Words.{Letter, Word}
-use Rattle.nc_text.proofs.Digits.{decimal_is, one_is}
+use Rattle.nc_text.proofs.Digits.{decimal_is}
 use Rattle.nc_text.proofs.Names.{AreNames}
 use Rattle.nc_text.proofs.PrintedTokens.{IsBreak, literal_token, name_token, nothing, plus_token, times_token}
 use Rattle.nc_text.specs.Printing.{coefficient_and_word, name_of, poly_text, term_text, word_text}
@@ -24,6 +24,9 @@ use Rattle.std.specs.List.{AllByRecursion}
 abbrev pub AreLetters : List (List ℕ) → Word → Type 0
 AreLetters names w = AllByRecursion (IsLetterBelow (length names)) w
 
+pub are_letters : (names : List (List ℕ)) (w : Word) → IsTextWord (length names) w → AreLetters names w
+are_letters names w h = recursion_from_All (IsLetterBelow (length names)) w h.letters
+
 -- a term that has a printed form
 pub record IsPrinted (p : ℕ) (names : List (List ℕ)) (t : Term Word) : Type 0 where
   pub some : 0 < t.coefficient
@@ -37,9 +40,10 @@ ArePrinted p names f = AllByRecursion (IsPrinted p names) f
 are_printed : (p : ℕ) (names : List (List ℕ)) (f : Polynomial) → IsDescending f → AreResidues p f → AreTextWords (length names) f → ArePrinted p names f
 are_printed p names [] descending residues words = tt
 are_printed p names (t ∷ f) descending residues words =
-    let word = All-head (λ t. IsTextWord (length names) t.key) t f words in
-    (record { some = descending.0; small = All-head (λ t. t.coefficient < p) t f residues; short = word.short; letters = recursion_from_All (IsLetterBelow (length names)) t.key word.letters },
-    are_printed p names f descending.2 (All-tail (λ t. t.coefficient < p) t f residues) (All-tail (λ t. IsTextWord (length names) t.key) t f words))
+    let word = All-head (λ t. IsTextWord (length names) t.key) t f words in (
+      record { some = descending.0; small = All-head (λ t. t.coefficient < p) t f residues; short = word.short; letters = are_letters names t.key word },
+      are_printed p names f descending.2 (All-tail (λ t. t.coefficient < p) t f residues) (All-tail (λ t. IsTextWord (length names) t.key) t f words),
+    )
 
 pub text_is_printed : (p : ℕ) (names : List (List ℕ)) (f : Polynomial) → IsTextPolynomial (length names) p f → ArePrinted p names f
 text_is_printed p names f h = are_printed p names f h.normal.0 h.normal.1 h.words

@@ -1,24 +1,23 @@
 -- What is printed behind a keyword is read again.
-use Rattle.nc_algebra.specs.Certificates.{IsLetterBelow, IsTextTerm, IsTextWord, NamedSetting, is_name}
+use Rattle.nc_algebra.specs.Certificates.{IsTextTerm, IsTextWord, NamedSetting, is_name}
 use Rattle.nc_algebra.specs.Finite.{Among, IsDistinct}
 use Rattle.nc_algebra.specs.Monomials.{Monomial}
 use Rattle.nc_algebra.specs.Polynomials.{Polynomial}
 use Rattle.nc_algebra.specs.Primes.{is_listed_prime}
 use Rattle.nc_algebra.specs.Sums.{Term}
-use Rattle.nc_algebra.specs.Words.{Letter, Word}
-use Rattle.nc_text.proofs.Digits.{AreDigitsOf, decimal_is, one_is}
+use Rattle.nc_algebra.specs.Words.{Word}
+use Rattle.nc_text.proofs.Digits.{decimal_is, one_is}
 use Rattle.nc_text.proofs.Names.{AreNames, bytes_apart}
 use Rattle.nc_text.proofs.PrintedTokens.{IsBreak, close_token, literal_token, name_token, nothing, open_token, space_token}
-use Rattle.nc_text.proofs.RoundTripPolynomials.{AreLetters, Ends, ends_nothing, poly_again, word_again, word_rest, word_tokens}
-use Rattle.nc_text.specs.Printing.{name_of, poly_text, sig_text, word_text}
-use Rattle.nc_text.specs.Reading.{after_factor, end_at, exponent_at, literal_at, poly_at, word_behind, ◌>>=◌}
-use Rattle.nc_text.specs.Rows.{checked, close_at, field_at, further_name, generator_at, letters_at, mono_at, multiple_at, nonzero, open_at, side_at}
+use Rattle.nc_text.proofs.RoundTripPolynomials.{AreLetters, Ends, are_letters, ends_nothing, word_again, word_rest, word_tokens}
+use Rattle.nc_text.specs.Printing.{name_of, sig_text, word_text}
+use Rattle.nc_text.specs.Reading.{end_at, exponent_at, literal_at, poly_at, word_behind, ◌>>=◌}
+use Rattle.nc_text.specs.Rows.{close_at, field_at, further_name, generator_at, letters_at, mono_at, multiple_at, open_at, side_at}
 use Rattle.nc_text.specs.Tokens.{Close, Literal, Name, Open, Token, tokens}
 use Rattle.nc_text.specs.declared.fault.Kind.{Kind}
-use Rattle.std.proofs.Common.{All, Bool, IsTrue, List, Ok, Result, [], ap, arith, bytes_eq, cond, decimal, eqb, false, flat_map, inl, inr, length, ltb, map, refl, suc, sym, true, zero, ℕ, ◌%◌, ◌&&◌, ◌++◌, ◌+◌, ◌<◌, ◌∙◌, ◌∷◌, ◌≡◌, ◌≢◌, ◌≤◌, append_assoc, append-nil}
+use Rattle.std.proofs.Common.{IsTrue, List, Ok, Result, [], ap, arith, bytes_eq, decimal, eqb, false, flat_map, inl, inr, length, ltb, map, refl, sym, true, ℕ, ◌&&◌, ◌++◌, ◌+◌, ◌<◌, ◌∙◌, ◌∷◌, ◌≡◌, ◌≢◌, ◌≤◌, append_assoc, append-nil}
 use Rattle.std.proofs.Math.Nat.{mod-eq_of_lt}
-use Rattle.std.proofs.lemmas.Bool.{and_from, le-ltb, lt-ltb, ne_eqb, or_from}
-use Rattle.std.proofs.lemmas.List.Elements.{recursion_from_All}
+use Rattle.std.proofs.lemmas.Bool.{and_from, lt-ltb, ne_eqb, or_from}
 use Rattle.std.proofs.lemmas.List.Folds.{list_any-append}
 use Rattle.std.proofs.lemmas.List.{length-append}
 use Rattle.std.specs.List.{AllByRecursion, list_any}
@@ -59,9 +58,10 @@ nothing_in_front (name ∷ names) = (refl, nothing_in_front names)
 
 still_new : (front : List (List ℕ)) (x : List ℕ) (names : List (List ℕ)) → ¬ Among x names → AreNew front names → AreNew (front ++ x ∷ []) names
 still_new front x [] apart new = tt
-still_new front x (y ∷ names) apart new =
-    (list_any-append (λ n. bytes_eq n y) front (x ∷ []) ∙ or_from _ _ new.0 (or_from _ _ (bytes_apart x y (λ e. apart (inl e))) refl),
-    still_new front x names (λ k. apart (inr k)) new.1)
+still_new front x (y ∷ names) apart new = (
+  list_any-append (λ n. bytes_eq n y) front (x ∷ []) ∙ or_from _ _ new.0 (or_from _ _ (bytes_apart x y (λ e. apart (inl e))) refl),
+  still_new front x names (λ k. apart (inr k)) new.1,
+)
 
 names_again : (front names : List (List ℕ)) → AreEachNames names → IsDistinct names → AreNew front names → length front + length names ≤ 64 → 0 < length front + length names
     → letters_at front (map Name names) ≡ Ok (front ++ names)
@@ -106,40 +106,41 @@ ends_open : (rest : List Token) → Ends (Open ∷ rest)
 unfolding exponent_at word_behind
 ends_open rest = record { exponent = refl; factor = λ further w. refl; behind = λ names. refl }
 
--- a monomial over so many generators that has a printed form
-pub record IsPrintedMonomial (names : List (List ℕ)) (generators : ℕ) (σ : Monomial) : Type 0 where
-  pub some : 0 < σ.generator
+-- a monomial over so many generators whose words may stand in a text
+pub record IsTextMonomial (n generators : ℕ) (σ : Monomial) : Type 0 where
+  pub some : 1 ≤ σ.generator
   pub listed : σ.generator ≤ generators
-  pub left_short : length σ.left ≤ 255
-  pub left : AreLetters names σ.left
-  pub right_short : length σ.right ≤ 255
-  pub right : AreLetters names σ.right
+  pub left : IsTextWord n σ.left
+  pub right : IsTextWord n σ.right
 
 abbrev mono_tokens : List (List ℕ) → Monomial → List Token
 mono_tokens names σ = side_tokens names σ.left (Open ∷ Literal σ.generator ∷ Close ∷ side_tokens names σ.right [])
 
-mono_text : (names : List (List ℕ)) (generators : ℕ) (σ : Monomial) → AreNames names → generators ≤ 1000 → IsPrintedMonomial names generators σ → tokens (sig_text names σ) ≡ mono_tokens names σ
+mono_text : (names : List (List ℕ)) (generators : ℕ) (σ : Monomial) → AreNames names → generators ≤ 1000 → IsTextMonomial (length names) generators σ → tokens (sig_text names σ) ≡ mono_tokens names σ
 mono_text names generators σ ns few h =
-    let right : tokens (word_text names σ.right) ≡ side_tokens names σ.right [] = ap tokens (sym (append-nil (word_text names σ.right))) ∙ side_text names σ.right [] ns h.right tt ∙ ap (side_tokens names σ.right) nothing in
+    let right : tokens (word_text names σ.right) ≡ side_tokens names σ.right [] = ap tokens (sym (append-nil (word_text names σ.right))) ∙ side_text names σ.right [] ns (are_letters names σ.right h.right) tt ∙ ap (side_tokens names σ.right) nothing in
     let closed : tokens (93 ∷ 32 ∷ word_text names σ.right) ≡ Close ∷ side_tokens names σ.right [] = close_token (32 ∷ word_text names σ.right) ∙ ap (λ (ts : List Token). Close ∷ ts) (space_token (word_text names σ.right) ∙ right) in
     let number : tokens (decimal σ.generator ++ 93 ∷ 32 ∷ word_text names σ.right) ≡ Literal σ.generator ∷ Close ∷ side_tokens names σ.right [] =
-      literal_token (decimal σ.generator) (93 ∷ 32 ∷ word_text names σ.right) σ.generator (decimal_is σ.generator (let k = h.listed in omega arith)) (refl, refl) ∙ ap (λ (ts : List Token). Literal σ.generator ∷ ts) closed in
+    literal_token (decimal σ.generator) (93 ∷ 32 ∷ word_text names σ.right) σ.generator (decimal_is σ.generator (let k = h.listed in omega arith)) (refl, refl) ∙ ap (λ (ts : List Token). Literal σ.generator ∷ ts) closed in
     let opened : tokens (32 ∷ 91 ∷ (decimal σ.generator ++ 93 ∷ 32 ∷ word_text names σ.right)) ≡ Open ∷ Literal σ.generator ∷ Close ∷ side_tokens names σ.right [] =
-      space_token (91 ∷ (decimal σ.generator ++ 93 ∷ 32 ∷ word_text names σ.right)) ∙ open_token (decimal σ.generator ++ 93 ∷ 32 ∷ word_text names σ.right) ∙ ap (λ (ts : List Token). Open ∷ ts) number in
-    side_text names σ.left (32 ∷ 91 ∷ (decimal σ.generator ++ 93 ∷ 32 ∷ word_text names σ.right)) ns h.left (refl, refl) ∙ ap (side_tokens names σ.left) opened
+    space_token (91 ∷ (decimal σ.generator ++ 93 ∷ 32 ∷ word_text names σ.right)) ∙ open_token (decimal σ.generator ++ 93 ∷ 32 ∷ word_text names σ.right) ∙ ap (λ (ts : List Token). Open ∷ ts) number in
+    side_text names σ.left (32 ∷ 91 ∷ (decimal σ.generator ++ 93 ∷ 32 ∷ word_text names σ.right)) ns (are_letters names σ.left h.left) (refl, refl) ∙ ap (side_tokens names σ.left) opened
 
-mono_again : (names : List (List ℕ)) (generators : ℕ) (σ : Monomial) → AreNames names → IsPrintedMonomial names generators σ → mono_at names generators (mono_tokens names σ) ≡ Ok σ
+mono_again : (names : List (List ℕ)) (generators : ℕ) (σ : Monomial) → AreNames names → IsTextMonomial (length names) generators σ → mono_at names generators (mono_tokens names σ) ≡ Ok σ
 unfolding mono_at open_at literal_at close_at end_at
 mono_again names generators σ ns h =
-    let inside : (ltb 0 σ.generator && ltb σ.generator (generators + 1)) ≡ true = and_from _ _ (lt-ltb _ _ h.some) (lt-ltb _ _ (let k = h.listed in omega arith)) in
-    rw (side_again names σ.left (Open ∷ Literal σ.generator ∷ Close ∷ side_tokens names σ.right []) ns h.left h.left_short (ends_open _), inside, side_again names σ.right [] ns h.right h.right_short ends_nothing) refl
+    let inside : (ltb 0 σ.generator && ltb σ.generator (generators + 1)) ≡ true = and_from _ _ (lt-ltb 0 σ.generator (let k = h.some in omega arith)) (lt-ltb σ.generator (generators + 1) (let k = h.listed in omega arith)) in
+    rw (side_again names σ.left (Open ∷ Literal σ.generator ∷ Close ∷ side_tokens names σ.right []) ns (are_letters names σ.left h.left) h.left.short (ends_open _), inside, side_again names σ.right [] ns (are_letters names σ.right h.right) h.right.short ends_nothing) refl
 
--- a term of a certificate, and the number of its setting's generators
-pub multiple_again : (p : ℕ) (names : List (List ℕ)) (generators : ℕ) (t : Term Monomial) → p < 65536 → AreNames names → generators ≤ 1000 → t.coefficient < p → IsPrintedMonomial names generators t.key
-    → multiple_at p names generators (tokens (decimal t.coefficient ++ 32 ∷ sig_text names t.key)) ≡ Ok t
+pub text_monomial : (s : NamedSetting) (t : Term Monomial) → IsTextTerm s t → IsTextMonomial (length s.names) (length s.setting.generators) t.key
+text_monomial s t h = record { some = h.generator.0; listed = h.generator.1; left = h.left; right = h.right }
+
+pub multiple_again : (s : NamedSetting) (t : Term Monomial) → s.setting.prime < 65536 → AreNames s.names → length s.setting.generators ≤ 1000 → IsTextTerm s t
+    → multiple_at s.setting.prime s.names (length s.setting.generators) (tokens (decimal t.coefficient ++ 32 ∷ sig_text s.names t.key)) ≡ Ok t
 unfolding multiple_at literal_at
-multiple_again p names generators t small ns few residue h =
-    let text : tokens (decimal t.coefficient ++ 32 ∷ sig_text names t.key) ≡ Literal t.coefficient ∷ mono_tokens names t.key =
-      literal_token (decimal t.coefficient) (32 ∷ sig_text names t.key) t.coefficient (decimal_is t.coefficient (omega arith)) (refl, refl)
-      ∙ ap (λ (ts : List Token). Literal t.coefficient ∷ ts) (space_token (sig_text names t.key) ∙ mono_text names generators t.key ns few h) in
-    ap (multiple_at p names generators) text ∙ rw (mono_again names generators t.key ns h, mod-eq_of_lt residue) refl
+multiple_again s t small ns few h =
+    let σ = text_monomial s t h in
+    let text : tokens (decimal t.coefficient ++ 32 ∷ sig_text s.names t.key) ≡ Literal t.coefficient ∷ mono_tokens s.names t.key =
+    literal_token (decimal t.coefficient) (32 ∷ sig_text s.names t.key) t.coefficient (decimal_is t.coefficient (let k = h.residue in omega arith)) (refl, refl)
+    ∙ ap (λ (ts : List Token). Literal t.coefficient ∷ ts) (space_token (sig_text s.names t.key) ∙ mono_text s.names (length s.setting.generators) t.key ns few σ) in
+    ap (multiple_at s.setting.prime s.names (length s.setting.generators)) text ∙ rw (mono_again s.names (length s.setting.generators) t.key ns σ, mod-eq_of_lt h.residue) refl

@@ -39,9 +39,14 @@ sig_text names σ = word_text names σ.left ++ (codes " [" ++ (decimal σ.genera
 
 -- ---- the lines of a certificate
 
-abbrev pub letters_text : List (List ℕ) → List ℕ
-letters_text names = codes "letters" ++ flat_map (λ name. codes " " ++ name) names
+-- the names, each after one space
+abbrev pub names_line : List (List ℕ) → List ℕ
+names_line names = codes "letters" ++ flat_map (λ name. codes " " ++ name) names
 
+abbrev pub generator_line : List (List ℕ) → Polynomial → List ℕ
+generator_line names f = codes "generator " ++ poly_text names f
+
+-- the coefficient as it is, and the monomial
 abbrev pub term_line : List (List ℕ) → Term Monomial → List ℕ
 term_line names t = codes "term " ++ (decimal t.coefficient ++ (codes " " ++ sig_text names t.key))
 
@@ -49,8 +54,8 @@ abbrev pub certificate_lines : Certificate → List (List ℕ)
 certificate_lines c =
     codes "certificate 1"
     ∷ (codes "field " ++ decimal c.setting.setting.prime)
-    ∷ letters_text c.setting.names
-    ∷ (map (λ f. codes "generator " ++ poly_text c.setting.names f) c.setting.setting.generators
+    ∷ names_line c.setting.names
+    ∷ (map (generator_line c.setting.names) c.setting.setting.generators
     ++ (codes "claim " ++ poly_text c.setting.names c.claim)
     ∷ (map (term_line c.setting.names) c.terms
     ++ codes "end" ∷ []))
@@ -59,5 +64,6 @@ certificate_lines c =
 abbrev pub ended : List (List ℕ) → List ℕ
 ended lines = flat_map (λ line. line ++ 10 ∷ []) lines
 
+-- the certificate as a text, form 1
 abbrev pub certificate_text : Certificate → List ℕ
 certificate_text c = ended (certificate_lines c)

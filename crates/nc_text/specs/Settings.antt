@@ -1,7 +1,7 @@
 -- The lines `field`, `letters` and `generator`, which give the setting of a text.
 use Rattle.nc_algebra.specs.Certificates.{NamedSetting}
 use Rattle.nc_algebra.specs.Polynomials.{Polynomial}
-use Rattle.nc_text.specs.Lines.{End, Line, Row, Written, at_line, begins, behind, the_line}
+use Rattle.nc_text.specs.Lines.{End, Line, Written, at_line, begins, behind, the_line}
 use Rattle.nc_text.specs.Reading.{◌>>=◌}
 use Rattle.nc_text.specs.Rows.{field_at, generator_at, letters_at}
 use Rattle.nc_text.specs.declared.fault.TextFault.{TextFault}

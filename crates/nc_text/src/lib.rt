@@ -9,13 +9,11 @@ mod fault;
 pub use fault::{Kind, TextFault};
 
 /// What is printed of a certificate is read as that certificate.
-#[tactic(auto, using(crate::proofs::RoundTripCertificates::reads_what_is_printed))]
 pub fn reads_what_is_printed()
     ensures { ReadsWhatIsPrinted }
 {}
 
 /// Two certificates with the same text are the same.
-#[tactic(auto, using(crate::proofs::RoundTripCertificates::one_certificate))]
 pub fn one_certificate()
     ensures { OneCertificate }
 {}
