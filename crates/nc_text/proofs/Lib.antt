@@ -11,3 +11,5 @@ pub mod ReadWords
 pub mod ReadRows
 pub mod ReadCertificates
 pub mod Examples
+pub mod WordPatterns
+pub mod RoundTripParts

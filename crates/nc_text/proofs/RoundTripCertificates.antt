@@ -85,10 +85,10 @@ pub listed_facts : (p : ℕ) → is_listed_prime p ≡ true → (0 < p) × (p < 
 listed_facts p e = (grind (arith, nat_tests), grind (arith, nat_tests))
 
 module _ (s : NamedSetting) (is : IsSetting s) where
-  abbrev p : ℕ
+  abbrev pub p : ℕ
   p = s.setting.prime
 
-  abbrev names : List (List ℕ)
+  abbrev pub names : List (List ℕ)
   names = s.names
 
   abbrev IsText : Polynomial → Type 0
@@ -100,13 +100,13 @@ module _ (s : NamedSetting) (is : IsSetting s) where
   abbrev AreTerms : Element → Type 0
   AreTerms α = AllByRecursion (IsTextTerm s) α
 
-  some : 0 < p
+  pub some : 0 < p
   some = (listed_facts p is.prime).0
 
-  small : p < 65536
+  pub small : p < 65536
   small = (listed_facts p is.prime).1
 
-  names_are : AreNames names
+  pub names_are : AreNames names
   names_are = are_names names is.named is.apart
 
   each_name : AreEachNames names

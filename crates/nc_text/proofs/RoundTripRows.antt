@@ -89,7 +89,7 @@ generator_again p names room ts (t ∷ f) some not_zero read =
 
 -- ---- term
 
-abbrev side_tokens : List (List ℕ) → Word → List Token → List Token
+abbrev pub side_tokens : List (List ℕ) → Word → List Token → List Token
 side_tokens names [] rest = Literal 1 ∷ rest
 side_tokens names (x ∷ w) rest = Name (name_of names x) ∷ word_rest names w rest
 
@@ -113,10 +113,10 @@ pub record IsTextMonomial (n generators : ℕ) (σ : Monomial) : Type 0 where
   pub left : IsTextWord n σ.left
   pub right : IsTextWord n σ.right
 
-abbrev mono_tokens : List (List ℕ) → Monomial → List Token
+abbrev pub mono_tokens : List (List ℕ) → Monomial → List Token
 mono_tokens names σ = side_tokens names σ.left (Open ∷ Literal σ.generator ∷ Close ∷ side_tokens names σ.right [])
 
-mono_text : (names : List (List ℕ)) (generators : ℕ) (σ : Monomial) → AreNames names → generators ≤ 1000 → IsTextMonomial (length names) generators σ → tokens (sig_text names σ) ≡ mono_tokens names σ
+pub mono_text : (names : List (List ℕ)) (generators : ℕ) (σ : Monomial) → AreNames names → generators ≤ 1000 → IsTextMonomial (length names) generators σ → tokens (sig_text names σ) ≡ mono_tokens names σ
 mono_text names generators σ ns few h =
     let right : tokens (word_text names σ.right) ≡ side_tokens names σ.right [] = ap tokens (sym (append-nil (word_text names σ.right))) ∙ side_text names σ.right [] ns (are_letters names σ.right h.right) tt ∙ ap (side_tokens names σ.right) nothing in
     let closed : tokens (93 ∷ 32 ∷ word_text names σ.right) ≡ Close ∷ side_tokens names σ.right [] = close_token (32 ∷ word_text names σ.right) ∙ ap (λ (ts : List Token). Close ∷ ts) (space_token (word_text names σ.right) ∙ right) in
@@ -126,7 +126,7 @@ mono_text names generators σ ns few h =
     space_token (91 ∷ (decimal σ.generator ++ 93 ∷ 32 ∷ word_text names σ.right)) ∙ open_token (decimal σ.generator ++ 93 ∷ 32 ∷ word_text names σ.right) ∙ ap (λ (ts : List Token). Open ∷ ts) number in
     side_text names σ.left (32 ∷ 91 ∷ (decimal σ.generator ++ 93 ∷ 32 ∷ word_text names σ.right)) ns (are_letters names σ.left h.left) (refl, refl) ∙ ap (side_tokens names σ.left) opened
 
-mono_again : (names : List (List ℕ)) (generators : ℕ) (σ : Monomial) → AreNames names → IsTextMonomial (length names) generators σ → mono_at names generators (mono_tokens names σ) ≡ Ok σ
+pub mono_again : (names : List (List ℕ)) (generators : ℕ) (σ : Monomial) → AreNames names → IsTextMonomial (length names) generators σ → mono_at names generators (mono_tokens names σ) ≡ Ok σ
 unfolding mono_at open_at literal_at close_at end_at
 mono_again names generators σ ns h =
     let inside : (ltb 0 σ.generator && ltb σ.generator (generators + 1)) ≡ true = and_from _ _ (lt-ltb 0 σ.generator (let k = h.some in omega arith)) (lt-ltb σ.generator (generators + 1) (let k = h.listed in omega arith)) in

@@ -1,6 +1,7 @@
 pub mod Tokens
 pub mod Lines
 pub mod Reading
+pub mod Patterns
 pub mod Rows
 pub mod Settings
 pub mod Certificates
