@@ -7,9 +7,10 @@ pub mod RoundTripRows
 pub mod PrintedLines
 pub mod PlainText
 pub mod RoundTripCertificates
+pub mod RoundTripParts
+pub mod Steps
 pub mod ReadWords
 pub mod ReadRows
 pub mod ReadCertificates
-pub mod Examples
 pub mod WordPatterns
-pub mod RoundTripParts
+pub mod Examples

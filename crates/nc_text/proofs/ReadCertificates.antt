@@ -2,7 +2,8 @@
 use Rattle.nc_algebra.specs.Certificates.{Certificate, IsCertificate, IsSetting, IsTextGenerator, IsTextPolynomial, IsTextTerm, NamedSetting}
 use Rattle.nc_algebra.specs.Primes.{is_listed_prime}
 use Rattle.nc_text.proofs.ReadRows.{AreLetterNames, field_reads, generator_reads, letters_read, multiple_reads, no_names}
-use Rattle.nc_text.proofs.ReadWords.{on_any, on_bind, on_choice, poly_reads}
+use Rattle.nc_text.proofs.ReadWords.{poly_reads}
+use Rattle.nc_text.proofs.Steps.{on_any, on_bind, on_choice}
 use Rattle.nc_text.proofs.RoundTripCertificates.{listed_facts}
 use Rattle.nc_text.specs.Certificates.{certificate_at, claim_line, end_line, form_line, term_lines}
 use Rattle.nc_text.specs.Settings.{field_line, generator_lines, letters_line, setting_lines}

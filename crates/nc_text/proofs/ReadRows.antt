@@ -4,7 +4,8 @@ use Rattle.nc_algebra.specs.Finite.{Among, IsDistinct}
 use Rattle.nc_algebra.specs.Polynomials.{Polynomial}
 use Rattle.nc_algebra.specs.Primes.{is_listed_prime}
 use Rattle.nc_text.proofs.Names.{bytes_same}
-use Rattle.nc_text.proofs.ReadWords.{empty_word, on_any, on_bind, on_choice, poly_reads, word_reads}
+use Rattle.nc_text.proofs.ReadWords.{empty_word, poly_reads, word_reads}
+use Rattle.nc_text.proofs.Steps.{on_any, on_bind, on_choice}
 use Rattle.nc_text.proofs.RoundTripRows.{IsTextMonomial}
 use Rattle.nc_text.specs.Reading.{end_at, literal_at, poly_at}
 use Rattle.nc_text.specs.Rows.{checked, close_at, field_at, further_name, generator_at, letters_at, mono_at, multiple_at, nonzero, open_at, side_at}

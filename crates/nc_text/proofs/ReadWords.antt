@@ -4,7 +4,8 @@ use Rattle.nc_algebra.specs.Certificates.{AreTextWords, IsLetterBelow, IsTextPol
 use Rattle.nc_algebra.specs.Polynomials.{Polynomial, led_by, normal_form, placed, with_term}
 use Rattle.nc_algebra.specs.Sums.{Term}
 use Rattle.nc_algebra.specs.Words.{Letter, Word, compare_words}
-use Rattle.nc_text.specs.Reading.{after_factor, after_term, exponent_at, factor_at, factors_at, letter_of, lengthened, name_at, poly_at, sign_at, sum_at, term_at, terms_at, word_at, word_behind, ◌>>=◌}
+use Rattle.nc_text.proofs.Steps.{on_any, on_bind, on_choice}
+use Rattle.nc_text.specs.Reading.{after_factor, after_term, exponent_at, factor_at, factors_at, letter_of, lengthened, name_at, poly_at, sign_at, sum_at, term_at, terms_at, word_at, word_behind}
 use Rattle.nc_text.specs.Tokens.{Literal, Minus, Plus, Times, Token}
 use Rattle.nc_text.specs.declared.fault.Kind.{Kind}
 use Rattle.nc_text.specs.declared.fault.Kind.TheVariants.{LongWord, UnknownName}
@@ -13,21 +14,6 @@ use Rattle.std.proofs.lemmas.Bool.{ltb-false}
 use Rattle.std.proofs.lemmas.List.Elements.{All-append, All-cons, All-head, All-nil, All-replicate, All-tail}
 use Rattle.std.proofs.lemmas.List.Quantifiers.{position-Some}
 use Rattle.std.proofs.lemmas.List.{length-append, length-replicate}
-
--- what holds of the value of a step, and then of the steps after it
-pub on_bind : {A B E : Type 0} (P : A → Type 0) (Q : B → Type 0) (r : Result A E) (f : A → Result B E) → IfOk r P → ((x : A) → P x → IfOk (f x) Q) → IfOk (r >>= f) Q
-on_bind P Q (Ok x) f h next = next x h
-on_bind P Q (Err e) f h next = tt
-
--- of a step of which nothing is said
-pub on_any : {A E : Type 0} (r : Result A E) → IfOk r (λ x. Unit {0})
-on_any (Ok x) = tt
-on_any (Err e) = tt
-
--- of a choice
-pub on_choice : {A E : Type 0} (P : A → Type 0) (b : Bool) (r s : Result A E) → (b ≡ true → IfOk r P) → (b ≡ false → IfOk s P) → IfOk (cond b r s) P
-on_choice P true r s when_true when_false = when_true refl
-on_choice P false r s when_true when_false = when_false refl
 
 letter_reads : (names : List (List ℕ)) (name : List ℕ) → IfOk (letter_of names name) (λ l. l < length names)
 letter_reads names name = by_place (position (λ n. bytes_eq n name) names) refl
