@@ -1,0 +1,16 @@
+pub mod Pieces
+pub mod Digits
+pub mod PrintedTokens
+pub mod Names
+pub mod RoundTripPolynomials
+pub mod RoundTripRows
+pub mod PrintedLines
+pub mod PlainText
+pub mod RoundTripCertificates
+pub mod RoundTripParts
+pub mod Steps
+pub mod ReadWords
+pub mod ReadRows
+pub mod ReadCertificates
+pub mod WordPatterns
+pub mod Examples

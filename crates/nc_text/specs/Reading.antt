@@ -1,0 +1,124 @@
+-- Reading words and polynomials from the tokens of a line, up to the first fault.
+use Rattle.nc_algebra.specs.Certificates.{letter_at}
+use Rattle.nc_algebra.specs.Polynomials.{Polynomial, normal_form}
+use Rattle.nc_algebra.specs.Sums.{Term}
+use Rattle.nc_algebra.specs.Words.{Letter, Word}
+use Rattle.nc_text.specs.declared.fault.Kind.{Kind}
+use Rattle.nc_text.specs.declared.fault.Kind.TheVariants.{LongLiteral, LongWord, Syntax, UnknownName}
+use Rattle.nc_text.specs.Tokens.{Literal, Long, Minus, Name, Plus, Power, Times, Token}
+use Rattle.std.specs.Prelude.{Bool, Err, List, Ok, Result, [], false, if◌then◌else◌, length, nat_lt, ok_or, position, replicate, suc, true, zero, ℕ, ◌%◌, ◌++◌, ◌+◌, ◌-◌, ◌∷◌}
+use Rattle.std.specs.Str.{bytes_eq}
+
+infixl 10 ◌>>=◌
+-- what comes after a step that told no fault
+abbrev pub ◌>>=◌ : {A B E : Type 0} → Result A E → (A → Result B E) → Result B E
+(Ok x) >>= f = f x
+(Err e) >>= f = Err e
+
+-- ---- what is wanted next: a value and the tokens after it, or the first fault
+
+-- the fault of a token, or of a line's end, where the grammar wants something else
+abbrev pub misplaced : List Token → Kind
+misplaced (Long ∷ _) = LongLiteral
+misplaced _ = Syntax
+
+unfoldable pub literal_at : List Token → Result (ℕ × List Token) Kind
+literal_at (Literal n ∷ rest) = Ok (n, rest)
+literal_at ts = Err (misplaced ts)
+
+unfoldable pub name_at : List Token → Result (List ℕ × List Token) Kind
+name_at (Name name ∷ rest) = Ok (name, rest)
+name_at ts = Err (misplaced ts)
+
+unfoldable pub end_at : List Token → Result (Unit {0}) Kind
+end_at [] = Ok tt
+end_at ts = Err (misplaced ts)
+
+-- ---- words
+
+-- the number of the letter that has a name
+abbrev pub letter_of : List (List ℕ) → List ℕ → Result ℕ Kind
+letter_of names name = ok_or (position (λ n. bytes_eq n name) names) UnknownName
+
+-- the exponent, 1 where no `^` follows
+unfoldable pub exponent_at : List Token → Result (ℕ × List Token) Kind
+exponent_at (Power ∷ rest) = literal_at rest
+exponent_at ts = Ok (1, ts)
+
+-- a word with a letter n times behind it
+abbrev pub lengthened : Word → Letter → ℕ → Result Word Kind
+lengthened word letter n = if nat_lt 255 (length word + n) then Err LongWord else Ok (word ++ replicate n letter)
+
+-- FACTOR, behind the word so far: a name, or a name with an exponent
+unfoldable pub factor_at : List (List ℕ) → Word → List Token → Result (Word × List Token) Kind
+factor_at names word ts = do
+  name ← name_at ts
+  letter ← letter_of names name.0
+  exponent ← exponent_at name.1
+  longer ← lengthened word (letter_at letter) exponent.0
+  Ok (longer, exponent.1)
+
+-- what follows a factor: with `*` a further factor, else nothing of the word
+abbrev pub after_factor : (Word → List Token → Result (Word × List Token) Kind) → Word → List Token → Result (Word × List Token) Kind
+after_factor further word (Times ∷ rest) = further word rest
+after_factor further word ts = Ok (word, ts)
+
+-- FACTOR { * FACTOR }, behind the word so far, of at most n factors
+unfoldable pub factors_at : ℕ → List (List ℕ) → Word → List Token → Result (Word × List Token) Kind
+factors_at zero names word ts = Err (misplaced ts)
+factors_at (suc n) names word ts = do
+  factor ← factor_at names word ts
+  after_factor (factors_at n names) factor.0 factor.1
+
+-- WORD: no more factors than tokens
+abbrev pub word_at : List (List ℕ) → List Token → Result (Word × List Token) Kind
+word_at names ts = factors_at (length ts) names [] ts
+
+-- ---- polynomials
+
+-- a literal as a coefficient modulo the prime, with its sign
+abbrev pub residue_of : ℕ → Bool → ℕ → ℕ
+residue_of p negative n = if negative then (p - n % p) % p else n % p
+
+-- what stands behind the literal of a term: `*` and a word, or nothing
+unfoldable pub word_behind : List (List ℕ) → List Token → Result (Word × List Token) Kind
+word_behind names (Times ∷ rest) = word_at names rest
+word_behind names ts = Ok ([], ts)
+
+-- TERM, with the sign before it: a literal, a literal times a word, or a word
+unfoldable pub term_at : ℕ → List (List ℕ) → Bool → List Token → Result (Term Word × List Token) Kind
+term_at p names negative (Literal n ∷ rest) = do
+  word ← word_behind names rest
+  Ok (record { coefficient = residue_of p negative n; key = word.0 }, word.1)
+term_at p names negative ts = do
+  word ← word_at names ts
+  Ok (record { coefficient = residue_of p negative 1; key = word.0 }, word.1)
+
+-- what follows a term: the end of the line, or a sign and further terms
+abbrev pub after_term : (Bool → List Token → Result Polynomial Kind) → List Token → Result Polynomial Kind
+after_term further [] = Ok []
+after_term further (Plus ∷ rest) = further false rest
+after_term further (Minus ∷ rest) = further true rest
+after_term further ts = Err (misplaced ts)
+
+-- TERM { SIGN TERM } of at most n terms, to the end of the line
+unfoldable pub terms_at : ℕ → ℕ → List (List ℕ) → Bool → List Token → Result Polynomial Kind
+terms_at zero p names negative ts = Err (misplaced ts)
+terms_at (suc n) p names negative ts = do
+  term ← term_at p names negative ts
+  others ← after_term (terms_at n p names) term.1
+  Ok (term.0 ∷ others)
+
+-- the sign that may stand before the first term
+unfoldable pub sign_at : List Token → Bool × List Token
+sign_at (Plus ∷ rest) = (false, rest)
+sign_at (Minus ∷ rest) = (true, rest)
+sign_at ts = (false, ts)
+
+-- the terms of POLY as they are written, to the end of the line: no more terms than tokens
+abbrev pub sum_at : ℕ → List (List ℕ) → List Token → Result Polynomial Kind
+sum_at p names ts = terms_at (length (sign_at ts).1) p names (sign_at ts).0 (sign_at ts).1
+
+-- POLY: the normal form of its terms
+unfoldable pub poly_at : ℕ → List (List ℕ) → List Token → Result Polynomial Kind
+poly_at p names ts = sum_at p names ts >>= λ f. Ok (normal_form p f)

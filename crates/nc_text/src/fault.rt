@@ -1,0 +1,44 @@
+//! Why a text could not be read.
+
+/// What is wrong with a line. Of the faults that could be told at one token, the first of this order is told:
+/// `LongLiteral`, `Syntax`, `BadPrime`, `UnknownName`, `LongWord`, `OutOfRange`; in a `letters` line
+/// `BadName`, `TooManyNames`, `DoubleName`.
+#[derive(Clone, Copy, Debug, PartialEq, Eq)]
+pub enum Kind {
+    /// Outside its comment the line has a byte that is no tab and no printable ASCII.
+    BadByte,
+    /// The line does not begin with a keyword that may stand at its place.
+    WrongLine,
+    /// The text ends where another line must come; the fault's line is the number of lines plus 1.
+    Missing,
+    /// A token, or the end of the line, stands where the grammar wants something else.
+    Syntax,
+    /// A literal has more than 18 digits.
+    LongLiteral,
+    /// The number behind `field` is not a prime of the list.
+    BadPrime,
+    /// A token behind `letters` is not a name of at most 16 characters.
+    BadName,
+    /// A name stands twice behind `letters`.
+    DoubleName,
+    /// There is a 65th name behind `letters`.
+    TooManyNames,
+    /// A name in a word is not one of the letters.
+    UnknownName,
+    /// A word has more than 255 letters; told at the factor that passes 255.
+    LongWord,
+    /// The polynomial of a `generator` line is zero; told after all other faults of its line.
+    ZeroGenerator,
+    /// A number is greater than its limit, is not a generator's, or is not the form of certificates that is read.
+    OutOfRange,
+    /// There is a 1,001st `generator` line; told before all other faults behind its keyword.
+    TooManyGenerators,
+}
+
+/// The first fault of a text.
+#[derive(Clone, Copy, Debug, PartialEq, Eq)]
+pub struct TextFault {
+    /// The line's number, counted from 1. Blank lines and comments count.
+    pub line: u64,
+    pub kind: Kind,
+}

@@ -1,0 +1,39 @@
+//! The texts of problems and certificates: the tokens, lines and values that they have, their faults, and the printed
+//! forms, as definitions with their laws.
+#![tactic(auto)]
+
+ghost use Rattle.nc_text.specs.Laws.{OneCertificate, ReadsCertificates, ReadsMonomials, ReadsPolynomials, ReadsWhatIsPrinted, SameWords};
+
+mod fault;
+
+pub use fault::{Kind, TextFault};
+
+/// What is printed of a certificate is read as that certificate.
+pub fn reads_what_is_printed()
+    ensures { ReadsWhatIsPrinted }
+{}
+
+/// What is printed of a polynomial is read as that polynomial.
+pub fn reads_polynomials()
+    ensures { ReadsPolynomials }
+{}
+
+/// What is printed of a monomial is read as that monomial.
+pub fn reads_monomials()
+    ensures { ReadsMonomials }
+{}
+
+/// Two certificates with the same text are the same.
+pub fn one_certificate()
+    ensures { OneCertificate }
+{}
+
+/// What is read of a text is a certificate.
+pub fn reads_certificates()
+    ensures { ReadsCertificates }
+{}
+
+/// A word read by patterns on its tokens is one read factor after factor.
+pub fn same_words()
+    ensures { SameWords }
+{}
