@@ -3,7 +3,7 @@
 ghost use Rattle.nc_algebra.specs.Polynomials.{AreResidues, IsDescending, Polynomial, normal_form, polynomial_times};
 ghost use Rattle.nc_algebra.specs.Sums.{minus, scale};
 ghost use Rattle.nc_poly.specs.Multiples.{multiples_of};
-ghost use Rattle.std.specs.Prelude.{All, IfOk, IsTrue, OnErr, OnOk, [], length, take, vec_len, ◌+◌, ◌++◌, ◌<◌, ◌≡◌, ◌≤◌, ◌↔◌};
+ghost use Rattle.std.specs.Prelude.{All, IfOk, IfSome, IsNone, IsTrue, OnErr, OnOk, [], length, take, vec_len, ◌+◌, ◌++◌, ◌<◌, ◌∷◌, ◌≡◌, ◌≤◌, ◌↔◌};
 
 use crate::collect::collect;
 use crate::term::Term;
@@ -112,6 +112,14 @@ impl Poly {
         ensures descending { IsDescending self.now }
     {
         self.kept.as_slice()
+    }
+
+    /// The term with the greatest word.
+    pub fn lead(&self) -> Option<&Term>
+        ensures none { IsNone result ↔ (self.now ≡ []) }
+        ensures some { IfSome result (λ t. (others : Polynomial) × (self.now ≡ t.now ∷ others)) }
+    {
+        self.kept.as_slice().first()
     }
 
     /// Whether it is the polynomial 0.
