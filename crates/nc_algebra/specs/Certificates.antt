@@ -2,13 +2,13 @@
 use Rattle.nc_algebra.specs.Elements.{Element, IsGenerator, SamePolynomial, Setting, evaluation, generator_weight}
 use Rattle.nc_algebra.specs.Finite.{IsDistinct}
 use Rattle.nc_algebra.specs.Monomials.{Monomial, Sig, sig_of}
-use Rattle.nc_algebra.specs.Polynomials.{IsNormal, Polynomial}
+use Rattle.nc_algebra.specs.Polynomials.{IsNormal, Polynomial, normal_form}
 use Rattle.nc_algebra.specs.Primes.{is_listed_prime}
-use Rattle.nc_algebra.specs.Sums.{Term, map_keys}
+use Rattle.nc_algebra.specs.Sums.{Term, map_keys, minus}
 use Rattle.nc_algebra.specs.Words.{Letter, Word}
 use Rattle.std.specs.Char.{is_ascii_alphabetic, is_ascii_alphanumeric}
 use Rattle.std.specs.List.{list_all}
-use Rattle.std.specs.Prelude.{All, Bool, IsTrue, List, [], length, nat_le, slice_index, ℕ, ◌&&◌, ◌++◌, ◌<◌, ◌==◌, ◌||◌, ◌≡◌, ◌≢◌, ◌≤◌}
+use Rattle.std.specs.Prelude.{All, Bool, IsTrue, List, [], length, nat_le, slice_index, ℕ, ◌&&◌, ◌<◌, ◌==◌, ◌||◌, ◌≡◌, ◌≢◌, ◌≤◌}
 
 -- ---- names
 
@@ -105,6 +105,6 @@ HasDegree s σ = σ ≡ sig_of (generator_weight s) (monomial_of σ)
 abbrev pub IsValid : Setting → Polynomial → Element → Type 0
 IsValid s claim terms = SamePolynomial s (evaluation s terms) claim
 
--- the rest is the claim minus what the terms multiply out to
-abbrev pub IsRest : Setting → Polynomial → Element → Polynomial → Type 0
-IsRest s claim terms rest = SamePolynomial s (rest ++ evaluation s terms) claim
+-- the rest: the claim minus what the terms multiply out to
+abbrev pub rest_of : Setting → Polynomial → Element → Polynomial
+rest_of s claim terms = normal_form s.prime (minus s.prime claim 1 (evaluation s terms))

@@ -1,4 +1,5 @@
 -- The laws that the functions of this crate carry.
+use Rattle.nc_algebra.specs.Certificates.{IsValid, rest_of}
 use Rattle.nc_algebra.specs.Elements.{degree, IsLabelled, IsLess, Setting, WeighsAtMost, generator_weight}
 use Rattle.nc_algebra.specs.Finite.{IsDistinct, IsOver, monomials_within}
 use Rattle.nc_algebra.specs.Problems.{Bound, IsWithinBound}
@@ -10,7 +11,7 @@ use Rattle.nc_algebra.specs.Primes.{IsPrime, IsZero}
 use Rattle.nc_algebra.specs.Sums.{SameSum}
 use Rattle.nc_algebra.specs.Words.{IsWordLess, Letter, Word, compare_words, same_word, word_weight}
 use Rattle.std.specs.declared.cmp.Ordering.TheVariants.{Less}
-use Rattle.std.specs.Prelude.{Contains, List, ◌↔◌, length, suc, ℕ, ◌%◌, ◌*◌, ◌++◌, ◌+◌, ◌<◌, ◌≡◌, ◌≤◌}
+use Rattle.std.specs.Prelude.{Contains, List, [], ◌↔◌, length, suc, ℕ, ◌%◌, ◌*◌, ◌++◌, ◌+◌, ◌<◌, ◌≡◌, ◌≤◌}
 
 -- the order on words is strict, total and without endless descent, goes with multiplication on both sides, and the comparison says it
 pub record WordOrder : Type 0 where
@@ -59,3 +60,7 @@ pub record NormalForms (p : ℕ) : Type 0 where
   pub normal : (f : Polynomial) → IsNormal p (normal_form p f)
   pub same : (f : Polynomial) → SameSum same_word p (normal_form p f) f
   pub only : (f g : Polynomial) → IsNormal p g → SameSum same_word p g f → g ≡ normal_form p f
+
+-- a certificate is valid exactly where nothing is left of its claim
+abbrev pub Validity : Type 0
+Validity = (s : Setting) (claim : Polynomial) (terms : Element) → 0 < s.prime → IsValid s claim terms ↔ (rest_of s claim terms ≡ [])
