@@ -1,17 +1,14 @@
 -- Collecting terms with one word gives the normal form.
-use Rattle.nc_algebra.proofs.Lists.{same-permutation, same-trans}
+use Rattle.nc_algebra.proofs.Lists.{same-permutation}
 use Rattle.nc_algebra.proofs.NormalForms.{normal_form_only}
-use Rattle.nc_algebra.proofs.Words.{word_laws, word_less_complete, word_total, word_trans}
+use Rattle.nc_algebra.proofs.Words.{word_laws, word_trans}
 use Rattle.nc_algebra.specs.Polynomials.{AllLess, AreResidues, IsDescending, IsNormal, Polynomial, coefficient, normal_form}
-use Rattle.nc_algebra.specs.Sums.{SameSum, Term, is_at}
-use Rattle.nc_algebra.specs.Words.{IsWordLess, Word, compare_words, same_word}
-use Rattle.nc_poly.specs.Collecting.{AllUpTo, IsFalling, carried, carried_behind, collected, gained, has_coefficient, left_of}
-use Rattle.std.proofs.Common.{Bool, List, [], ap, arith, cond, drop, false, get_or, inl, inr, is_lt, length, nat_eq, not, refl, subst, suc, sym, take, true, zero, ℕ, ◌%◌, ◌*◌, ◌+◌, ◌++◌, ◌-◌, ◌<◌, ◌∙◌, ◌∷◌, ◌≡◌, ◌≢◌, ◌≤◌, ◌⊎◌}
-use Rattle.std.proofs.Math.ListN.{set}
-use Rattle.std.proofs.Math.Nat.{add-mod, mod-lt, mod-mod}
-use Rattle.std.proofs.Math.Seq.{get_or-append_seam, set-append_seam}
+use Rattle.nc_algebra.specs.Sums.{Term, is_at}
+use Rattle.nc_algebra.specs.Words.{IsWordLess, Word, same_word}
+use Rattle.nc_poly.specs.Collecting.{AllUpTo, IsFalling, carried_behind, collected, gained, has_coefficient, left_of}
+use Rattle.std.proofs.Common.{Bool, [], ap, arith, cond, false, inl, inr, nat_eq, not, refl, subst, suc, sym, true, zero, ℕ, ◌%◌, ◌*◌, ◌+◌, ◌<◌, ◌∙◌, ◌∷◌, ◌≡◌, ◌⊎◌}
+use Rattle.std.proofs.Math.Nat.{add-mod, mod-lt}
 use Rattle.std.proofs.lemmas.Bool.{eqb-true, false≢true}
-use Rattle.std.proofs.lemmas.List.{append_assoc, length-append}
 use Rattle.std.proofs.lemmas.List.Elements.{All-filter, All-from_recursion, recursion_from_All}
 use Rattle.std.proofs.lemmas.List.Sorted.{All-permutation, length_permutation}
 use Rattle.std.proofs.lemmas.Nat.{mul-mod_first}

@@ -1,15 +1,16 @@
 -- Multiples that code lists are those of the definitions.
+use Rattle.nc_algebra.proofs.Lists.{same-append, same-refl, same-trans}
 use Rattle.nc_algebra.proofs.NormalForms.{normal_form_equal, normal_form_normal}
-use Rattle.nc_algebra.proofs.Sums.{linear_sum-append, linear_sum-map_keys, linear_sum-scale}
+use Rattle.nc_algebra.proofs.Sums.{linear_sum-append, linear_sum-scale}
 use Rattle.nc_algebra.specs.Polynomials.{AreResidues, Polynomial, coefficient, normal_form, polynomial_times}
-use Rattle.nc_algebra.specs.Sums.{SameSum, Term, is_at, minus, scale}
+use Rattle.nc_algebra.specs.Sums.{SameSum, is_at, minus, scale}
 use Rattle.nc_algebra.specs.Words.{Word, same_word}
-use Rattle.nc_poly.specs.Multiples.{multiple_of, multiples_of}
-use Rattle.std.proofs.Common.{List, [], ap, ap₂, arith, length, map, refl, subst, sym, ℕ, ◌%◌, ◌*◌, ◌+◌, ◌++◌, ◌-◌, ◌<◌, ◌∙◌, ◌∷◌, ◌≡◌}
+use Rattle.nc_poly.specs.Multiples.{multiples_of}
+use Rattle.std.proofs.Common.{[], ap, ap₂, arith, subst, sym, ℕ, ◌%◌, ◌*◌, ◌+◌, ◌++◌, ◌-◌, ◌<◌, ◌∙◌, ◌∷◌, ◌≡◌}
 use Rattle.std.proofs.Math.Nat.{add-mod, add-mul-mod_self_left, mod-lt}
-use Rattle.std.proofs.lemmas.List.Elements.{All-append, All-from_recursion}
+use Rattle.std.proofs.lemmas.List.Elements.{All-from_recursion, recursion_from_All}
 use Rattle.std.proofs.lemmas.Nat.{mul-mod_first}
-use Rattle.std.specs.List.{All, AllByRecursion}
+use Rattle.std.specs.List.{AllByRecursion}
 
 module _ (p c : ℕ) (u v : Word) where
   -- what the multiples add to a coefficient
@@ -36,8 +37,8 @@ negative_same p c small = sym (add-mul-mod_self_left (p - c) p c) ∙ (ap (λ n.
     form q e = omega (arith, ap (λ n. n * c) e)
 
 -- adding the multiples by the negative residue subtracts c u g v
-pub subtracted : (p c : ℕ) (u v : Word) (old g : Polynomial) → c < p → normal_form p (old ++ multiples_of p ((p - c) % p) u g v) ≡ normal_form p (minus p old c (polynomial_times u g v))
-subtracted p c u v old g small = normal_form_equal p (old ++ multiples_of p ((p - c) % p) u g v) (minus p old c (polynomial_times u g v)) (omega arith) record { at = each }
+pub same_subtracted : (p c : ℕ) (u v : Word) (old g : Polynomial) → c < p → SameSum same_word p (old ++ multiples_of p ((p - c) % p) u g v) (minus p old c (polynomial_times u g v))
+same_subtracted p c u v old g small = record { at = each }
   where
     sums : (x : Word) → coefficient (multiples_of p ((p - c) % p) u g v) x % p ≡ ((p - 1) * c * coefficient (polynomial_times u g v) x) % p
     sums x = multiples_at p ((p - c) % p) u v g x ∙ (ap (λ n. (n * coefficient (polynomial_times u g v) x) % p) (negative_same p c small) ∙ mul-mod_first ((p - 1) * c) (coefficient (polynomial_times u g v) x) p)
@@ -50,6 +51,19 @@ subtracted p c u v old g small = normal_form_equal p (old ++ multiples_of p ((p 
         ∙ (sym (add-mod (coefficient old x) ((p - 1) * c * coefficient (polynomial_times u g v) x) p)
         ∙ ap (λ n. n % p) (sym (linear_sum-append (is_at same_word x) old (scale ((p - 1) * c) (polynomial_times u g v)) ∙ ap (λ n. coefficient old x + n) (linear_sum-scale (is_at same_word x) ((p - 1) * c) (polynomial_times u g v)))))))
 
--- a normal form has residues
-pub normal_form_residues_from : (p : ℕ) (f g : Polynomial) → 0 < p → g ≡ normal_form p f → AreResidues p g
-normal_form_residues_from p f g some e = subst (λ (h : Polynomial). AreResidues p h) (sym e) (normal_form_normal p f some).1
+pub subtracted : (p c : ℕ) (u v : Word) (old g : Polynomial) → c < p → normal_form p (old ++ multiples_of p ((p - c) % p) u g v) ≡ normal_form p (minus p old c (polynomial_times u g v))
+subtracted p c u v old g small = normal_form_equal p (old ++ multiples_of p ((p - c) % p) u g v) (minus p old c (polynomial_times u g v)) (omega arith) (same_subtracted p c u v old g small)
+
+-- the same from a list that only has the same sum
+pub same_subtracted_from : (p c : ℕ) (u v : Word) (old kept items g : Polynomial) → c < p → SameSum same_word p kept old → items ≡ kept ++ multiples_of p ((p - c) % p) u g v → SameSum same_word p items (minus p old c (polynomial_times u g v))
+same_subtracted_from p c u v old kept items g small same is =
+    subst (λ (l : Polynomial). SameSum same_word p l (minus p old c (polynomial_times u g v))) (sym is)
+    (same-trans same_word p (kept ++ multiples_of p ((p - c) % p) u g v) (old ++ multiples_of p ((p - c) % p) u g v) (minus p old c (polynomial_times u g v))
+    (same-append same_word p kept old (multiples_of p ((p - c) % p) u g v) (multiples_of p ((p - c) % p) u g v) same (same-refl same_word p (multiples_of p ((p - c) % p) u g v)))
+    (same_subtracted p c u v old g small))
+
+-- the normal form of residues has residues
+pub residues_stay : (p : ℕ) (f : Polynomial) → AreResidues p f → AreResidues p (normal_form p f)
+unfolding normal_form
+residues_stay p [] a = All-from_recursion (λ t. t.coefficient < p) [] tt
+residues_stay p (t ∷ f) a = let small = (recursion_from_All (λ u. u.coefficient < p) (t ∷ f) a).0 in (normal_form_normal p (t ∷ f) (omega arith)).1

@@ -3,7 +3,7 @@
 use Rattle.nc_algebra.specs.Polynomials.{Polynomial}
 use Rattle.nc_algebra.specs.Sums.{Term}
 use Rattle.nc_algebra.specs.Words.{IsWordLess, Word, same_word}
-use Rattle.std.specs.Prelude.{Bool, List, [], cond, filter, nat_eq, not, ℕ, ◌%◌, ◌+◌, ◌∷◌, ◌≡◌, ◌⊎◌}
+use Rattle.std.specs.Prelude.{Bool, [], cond, filter, nat_eq, not, ℕ, ◌%◌, ◌+◌, ◌∷◌, ◌≡◌, ◌⊎◌}
 
 -- each listed word is w or less
 abbrev pub AllUpTo : Word → Polynomial → Type 0

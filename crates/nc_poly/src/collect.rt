@@ -56,7 +56,8 @@ fn drop_zeros(terms: &mut Vec<Term>)
 /// Brings a list of terms into normal form.
 pub fn collect(p: Prime, terms: &mut Vec<Term>)
     requires { AreResidues p terms.old.items }
-    ensures { terms.new.items ≡ normal_form p terms.old.items }
+    ensures normal { terms.new.items ≡ normal_form p terms.old.items }
+    ensures residues { AreResidues p terms.new.items }
 {
     sort_by_word(terms);
     carry(p, terms);

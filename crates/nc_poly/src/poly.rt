@@ -2,37 +2,15 @@
 
 ghost use Rattle.nc_algebra.specs.Polynomials.{AreResidues, IsDescending, Polynomial, normal_form, polynomial_times};
 ghost use Rattle.nc_algebra.specs.Sums.{minus, scale};
-ghost use Rattle.nc_poly.specs.Multiples.{multiples_of};
 ghost use Rattle.std.specs.Prelude.{All, IfOk, IfSome, IsNone, IsTrue, OnErr, OnOk, [], length, take, vec_len, ◌+◌, ◌++◌, ◌<◌, ◌∷◌, ◌≡◌, ◌≤◌, ◌↔◌};
 
 use crate::collect::collect;
+use crate::multiple::push_multiple;
 use crate::term::Term;
 use nc_field::{Prime, Residue};
 use nc_words::Letter;
 use std::alloc::{AllocError, Global};
 use std::marker::Model;
-
-/// Appends c u g v, term by term.
-fn push_multiple(
-    alloc: Global,
-    out: &mut Vec<Term>,
-    p: Prime,
-    c: Residue,
-    u: &[Letter],
-    g: &[Term],
-    v: &[Letter],
-) -> Result<(), AllocError>
-    requires factor { c < p }
-    requires residues { AreResidues p g.now }
-    requires few { All (λ t. length u.now + length t.key + length v.now ≤ 200000) g.now }
-    ensures { OnOk result (out.new.items ≡ out.old.items ++ multiples_of p c u.now g.now v.now) }
-{
-    for t in g {
-        let term = t.multiple(alloc, p, c, u, v)?;
-        out.push(term)?;
-    }
-    Ok(())
-}
 
 /// Appends copies of the terms.
 fn push_copies(out: &mut Vec<Term>, terms: &[Term]) -> Result<(), AllocError>
@@ -127,6 +105,14 @@ impl Poly {
         ensures { IsTrue result ↔ (self.now ≡ []) }
     {
         self.kept.is_empty()
+    }
+
+    /// The terms as a list.
+    pub(crate) fn into_terms(self) -> Vec<Term>
+        ensures { result.items ≡ self }
+    {
+        let Poly { kept } = self;
+        kept
     }
 
     /// An equal polynomial.
