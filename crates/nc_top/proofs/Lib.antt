@@ -1,1 +1,4 @@
 pub mod Products
+pub mod Letters
+pub mod Reports
+pub mod CommandWords

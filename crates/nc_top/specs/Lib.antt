@@ -1,2 +1,6 @@
 pub mod Terms
 pub mod Checking
+pub mod Plain
+pub mod Statuses
+pub mod Run
+pub mod Laws

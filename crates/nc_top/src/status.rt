@@ -1,0 +1,38 @@
+//! How a run ends.
+
+ghost use Rattle.nc_top.specs.Statuses.{code_of};
+ghost use Rattle.std.specs.Prelude.{◌≡◌};
+
+/// How a run ended.
+#[derive(Clone, Copy, Debug, PartialEq, Eq)]
+pub enum Status {
+    /// The certificate is valid.
+    Done,
+    /// The certificate is not valid; the report has the rest of the claim.
+    Invalid,
+    /// The words are no command; nothing was read.
+    Usage,
+    /// The bytes are no plain certificate.
+    NotYet,
+    /// The source failed; nothing was written.
+    ReadFault,
+    /// The sink failed; a front of the report was written.
+    WriteFault,
+    /// No memory was left; nothing was written.
+    OutOfMemory,
+}
+
+/// The code with which the program ends.
+pub fn code_of(status: Status) -> u8
+    ensures { result ≡ code_of status }
+{
+    match status {
+        Status::Done => 0,
+        Status::Invalid => 1,
+        Status::Usage => 2,
+        Status::NotYet => 3,
+        Status::ReadFault => 5,
+        Status::WriteFault => 6,
+        Status::OutOfMemory => 7,
+    }
+}
