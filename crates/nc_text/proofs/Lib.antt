@@ -14,3 +14,5 @@ pub mod ReadRows
 pub mod ReadCertificates
 pub mod WordPatterns
 pub mod Examples
+pub mod Values
+pub mod Lines

@@ -5,8 +5,12 @@
 ghost use Rattle.nc_text.specs.Laws.{OneCertificate, ReadsCertificates, ReadsMonomials, ReadsPolynomials, ReadsWhatIsPrinted, SameWords};
 
 mod fault;
+mod line;
+mod text;
+mod token;
+mod tokens;
 
-pub use fault::{Kind, TextFault};
+pub use fault::{Kind, ReadFault, TextFault};
 
 /// What is printed of a certificate is read as that certificate.
 pub fn reads_what_is_printed()
