@@ -16,3 +16,6 @@ pub mod WordPatterns
 pub mod Examples
 pub mod Values
 pub mod Lines
+pub mod Takes
+pub mod Words
+pub mod Light

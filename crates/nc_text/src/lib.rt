@@ -9,6 +9,7 @@ mod line;
 mod text;
 mod token;
 mod tokens;
+mod word;
 
 pub use fault::{Kind, ReadFault, TextFault};
 
