@@ -19,3 +19,4 @@ pub mod Lines
 pub mod Takes
 pub mod Words
 pub mod Light
+pub mod Polynomials
