@@ -20,3 +20,5 @@ pub mod Takes
 pub mod Words
 pub mod Light
 pub mod Polynomials
+pub mod Letters
+pub mod Nonzero

@@ -7,6 +7,7 @@ ghost use Rattle.nc_text.specs.Laws.{OneCertificate, ReadsCertificates, ReadsMon
 mod fault;
 mod line;
 mod polynomial;
+mod rows;
 mod text;
 mod token;
 mod tokens;
