@@ -22,3 +22,7 @@ pub mod Light
 pub mod Polynomials
 pub mod Letters
 pub mod Nonzero
+pub mod At
+pub mod Repeated
+pub mod Generators
+pub mod Terms
