@@ -1,5 +1,5 @@
 -- What is returned of a line is told of the text.
-use Rattle.nc_text.specs.Gives.{FailsText, Gives, GivesText, IsAt}
+use Rattle.nc_text.specs.Gives.{Gives, GivesText, IsAt}
 use Rattle.nc_text.specs.Lines.{at_line}
 use Rattle.nc_text.specs.declared.fault.Kind.{Kind}
 use Rattle.nc_text.specs.declared.fault.LineError.{LineError}

@@ -3,8 +3,7 @@ use Rattle.nc_algebra.specs.Certificates.{IsSetting, NamedSetting}
 use Rattle.nc_algebra.specs.Polynomials.{Polynomial}
 use Rattle.nc_text.proofs.ReadCertificates.{setting_lines_read}
 use Rattle.nc_text.proofs.Repeated.{AreLines, line_then, passed_by, taken}
-use Rattle.nc_text.specs.Lines.{End, Line, Row, Written, a_line, begins}
-use Rattle.nc_text.specs.Reading.{◌>>=◌}
+use Rattle.nc_text.specs.Lines.{End, Line, Row, Written, a_line}
 use Rattle.nc_text.specs.Rows.{generator_at}
 use Rattle.nc_text.specs.Settings.{field_line, generator_lines, letters_line, setting_lines}
 use Rattle.nc_text.specs.declared.fault.TextFault.{TextFault}

@@ -1,5 +1,5 @@
 -- Reading a polynomial term after term, as a loop does.
-use Rattle.std.proofs.Common.{◌≡◌, ℕ, zero, suc, ◌<◌, ◌≤◌, Bool, true, false, List, [], ◌∷◌, ◌++◌, length, Result, Ok, Err, refl, sym, ap, subst, ◌∙◌, append_assoc, arith}
+use Rattle.std.proofs.Common.{◌≡◌, ℕ, zero, suc, ◌≤◌, Bool, true, false, List, [], ◌∷◌, ◌++◌, length, Result, Ok, Err, refl, sym, ap, subst, ◌∙◌, append_assoc, arith}
 use Rattle.std.proofs.lemmas.List.{append-nil, nil_from_length}
 use Rattle.nc_text.specs.declared.fault.Kind.{Kind}
 use Rattle.nc_text.specs.declared.fault.LineError.{LineError}
@@ -11,45 +11,9 @@ use Rattle.nc_algebra.specs.Sums.{Term}
 use Rattle.nc_algebra.specs.Words.{Word}
 use Rattle.nc_text.specs.Gives.{Fails}
 use Rattle.nc_text.specs.Shown.{IsMisplaced, before}
-use Rattle.nc_text.specs.Tokens.{Token, Literal, Times, Plus, Minus}
-use Rattle.nc_text.specs.Reading.{◌>>=◌, misplaced, residue_of, factor_at, after_factor, factors_at, word_at, word_behind, term_at, after_term, terms_at, sign_at, sum_at}
-use Rattle.nc_text.proofs.Takes.{bind_ok, bind_fails, ok_is}
-use Rattle.nc_text.proofs.Words.{factor_shorter}
-
-abbrev Words : Type 0
-Words = Word × List Token
-
-factors_shorter : (n : ℕ) (names : List (List ℕ)) (w : Word) (ts : List Token) (x : Words) → factors_at n names w ts ≡ Ok x → length x.1 < length ts
-unfolding factors_at
-factors_shorter zero names w ts x e = absurd cc
-factors_shorter (suc n) names w ts x e =
-    let a = bind_ok (factor_at names w ts) (λ factor. after_factor (factors_at n names) factor.0 factor.1) x e in
-    omega (arith, factor_shorter names w ts a.0 a.1, by_next a.0.0 a.0.1 a.2 (λ v us h. factors_shorter n names v us x h))
-  where
-    by_next : (v : Word) (us : List Token) → after_factor (factors_at n names) v us ≡ Ok x → ((v : Word) (us : List Token) → factors_at n names v us ≡ Ok x → length x.1 < length us) → length x.1 ≤ length us
-    by_next v (Times ∷ us) h again = omega (arith, again v us h)
-    by_next v us h again = let k : us ≡ x.1 = ap (λ (y : Words). y.1) (ok_is (v, us) x h) in omega (arith, ap length k)
-
-word_shorter : (names : List (List ℕ)) (ts : List Token) (x : Words) → word_at names ts ≡ Ok x → length x.1 < length ts
-word_shorter names ts x e = factors_shorter (length ts) names [] ts x e
-
-behind_shorter : (names : List (List ℕ)) (ts : List Token) (x : Words) → word_behind names ts ≡ Ok x → length x.1 ≤ length ts
-unfolding word_behind
-behind_shorter names (Times ∷ ts) x e = omega (arith, word_shorter names ts x e)
-behind_shorter names ts x e = let k : ts ≡ x.1 = ap (λ (y : Words). y.1) (ok_is ([], ts) x e) in omega (arith, ap length k)
-
-pub term_shorter : (p : ℕ) (names : List (List ℕ)) (negative : Bool) (ts : List Token) (x : Term Word × List Token) → term_at p names negative ts ≡ Ok x → length x.1 < length ts
-unfolding term_at
-term_shorter p names negative (Literal n ∷ ts) x e =
-    let a = bind_ok (word_behind names ts) (λ word. Ok (record { coefficient = residue_of p negative n; key = word.0 }, word.1)) x e in
-    let t : Term Word = record { coefficient = residue_of p negative n; key = a.0.0 } in
-    let k : a.0.1 ≡ x.1 = ap (λ (y : Term Word × List Token). y.1) (ok_is (t, a.0.1) x a.2) in
-    omega (arith, ap length k, behind_shorter names ts a.0 a.1)
-term_shorter p names negative ts x e =
-    let a = bind_ok (word_at names ts) (λ word. Ok (record { coefficient = residue_of p negative 1; key = word.0 }, word.1)) x e in
-    let t : Term Word = record { coefficient = residue_of p negative 1; key = a.0.0 } in
-    let k : a.0.1 ≡ x.1 = ap (λ (y : Term Word × List Token). y.1) (ok_is (t, a.0.1) x a.2) in
-    omega (arith, ap length k, word_shorter names ts a.0 a.1)
+use Rattle.nc_text.specs.Tokens.{Token, Plus, Minus}
+use Rattle.nc_text.specs.Reading.{◌>>=◌, misplaced, factors_at, term_at, after_term, terms_at, sign_at, sum_at}
+use Rattle.nc_text.proofs.Takes.{bind_fails, term_shorter}
 
 abbrev Read : Type 0
 Read = Result (Polynomial) Kind

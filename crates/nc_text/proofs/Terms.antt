@@ -7,12 +7,11 @@ use Rattle.nc_algebra.specs.Sums.{Term}
 use Rattle.nc_text.proofs.ReadCertificates.{certificate_reads}
 use Rattle.nc_text.proofs.Repeated.{AreLines, Read, line_then, passed_by, taken}
 use Rattle.nc_text.specs.Certificates.{certificate_at, claim_line, end_line, form_line, term_lines}
-use Rattle.nc_text.specs.Lines.{End, Line, Row, Written, a_line, begins}
-use Rattle.nc_text.specs.Reading.{◌>>=◌}
+use Rattle.nc_text.specs.Lines.{End, Line, Row, Written, a_line}
 use Rattle.nc_text.specs.Rows.{multiple_at}
 use Rattle.nc_text.specs.Settings.{setting_lines}
 use Rattle.nc_text.specs.declared.fault.TextFault.{TextFault}
-use Rattle.std.proofs.Common.{IfOk, List, None, Ok, Result, Some, [], ap, codes, length, refl, subst, ℕ, ◌++◌, ◌-◌, ◌∷◌, ◌≡◌}
+use Rattle.std.proofs.Common.{IfOk, List, None, Ok, Result, Some, [], ap, codes, length, refl, subst, ℕ, ◌++◌, ◌∷◌, ◌≡◌}
 
 one_more : (p : ℕ) (names : List (List ℕ)) (generators room : ℕ) (w : Written) (r : Row) → a_line (codes "term") w ≡ Some r
     → term_lines p names generators w ≡ line_then r (multiple_at p names generators r.tokens) (term_lines p names generators r.after)

@@ -1,30 +1,16 @@
 -- Reading a word factor after factor, as a loop does.
-use Rattle.std.proofs.Common.{◌≡◌, ℕ, zero, suc, ◌<◌, ◌≤◌, true, false, List, [], ◌∷◌, length, Result, Ok, refl, sym, ap, subst, ◌∙◌, arith}
+use Rattle.std.proofs.Common.{◌≡◌, ℕ, zero, suc, ◌≤◌, true, false, List, [], ◌∷◌, length, Result, Ok, refl, sym, ap, subst, ◌∙◌, arith}
 use Rattle.nc_text.specs.declared.fault.Kind.{Kind}
 use Rattle.nc_text.specs.declared.fault.LineError.{LineError}
 use Rattle.nc_text.specs.Tokens.{Token, Times}
-use Rattle.nc_algebra.specs.Certificates.{letter_at}
 use Rattle.nc_algebra.specs.Words.{Word}
 use Rattle.nc_text.specs.Gives.{Fails}
 use Rattle.nc_text.specs.Shown.{IsTaken}
-use Rattle.nc_text.specs.Reading.{◌>>=◌, name_at, letter_of, exponent_at, lengthened, factor_at, after_factor, factors_at, word_at}
-use Rattle.nc_text.proofs.Takes.{bind_ok, bind_fails, ok_is, name_shorter, exponent_shorter}
+use Rattle.nc_text.specs.Reading.{◌>>=◌, name_at, factor_at, after_factor, factors_at, word_at}
+use Rattle.nc_text.proofs.Takes.{bind_fails, factor_shorter}
 
 abbrev Read : Type 0
 Read = Result (Word × List Token) Kind
-
-pub factor_shorter : (names : List (List ℕ)) (w : Word) (ts : List Token) (x : Word × List Token) → factor_at names w ts ≡ Ok x → length x.1 < length ts
-unfolding factor_at
-factor_shorter names w ts x e =
-    let a = bind_ok (name_at ts) (λ name. letter_of names name.0 >>= λ letter. exponent_at name.1 >>= λ exponent. lengthened w (letter_at letter) exponent.0 >>= λ longer. Ok (longer, exponent.1)) x e in
-    let b = bind_ok (letter_of names a.0.0) (λ letter. exponent_at a.0.1 >>= λ exponent. lengthened w (letter_at letter) exponent.0 >>= λ longer. Ok (longer, exponent.1)) x a.2 in
-    let c = bind_ok (exponent_at a.0.1) (λ exponent. lengthened w (letter_at b.0) exponent.0 >>= λ longer. Ok (longer, exponent.1)) x b.2 in
-    let d = bind_ok (lengthened w (letter_at b.0) c.0.0) (λ longer. Ok (longer, c.0.1)) x c.2 in
-    let k : c.0.1 ≡ x.1 = ap (λ (y : Word × List Token). y.1) (ok_is (d.0, c.0.1) x d.2) in
-    let one = name_shorter ts a.0 a.1 in
-    let two = exponent_shorter a.0.1 c.0 c.1 in
-    let three : length c.0.1 ≡ length x.1 = ap length k in
-    omega arith
 
 -- the word so far, and what follows, are on the way to the whole
 pub record IsOnTheWay (names : List (List ℕ)) (w : Word) (ts : List Token) (whole : Read) : Type 0 where
