@@ -14,3 +14,15 @@ pub mod ReadRows
 pub mod ReadCertificates
 pub mod WordPatterns
 pub mod Examples
+pub mod Values
+pub mod Lines
+pub mod Takes
+pub mod Words
+pub mod Light
+pub mod Polynomials
+pub mod Letters
+pub mod Nonzero
+pub mod At
+pub mod Repeated
+pub mod Generators
+pub mod Terms

@@ -44,7 +44,7 @@ generator_lines_read p names room (Line n clean ts after) some =
     ((let r = is.0 in let k = are.0 in omega arith), All-cons (IsTextGenerator (length names) p) first others.0 is.1 are.1))))
     (λ other. (omega arith, All-nil (IsTextGenerator (length names) p)))
 
-setting_lines_read : (w : Written) → IfOk (setting_lines w) (λ x. IsSetting x.0)
+pub setting_lines_read : (w : Written) → IfOk (setting_lines w) (λ x. IsSetting x.0)
 unfolding setting_lines
 setting_lines_read w =
     on_bind _ _ (field_line w) _ (field_line_reads w) (λ field listed. on_bind _ _ (letters_line field.1) _ (letters_line_reads field.1) (λ names are.
@@ -76,7 +76,7 @@ term_lines_read s (Line n clean ts after) some =
     on_bind _ _ (term_lines s.setting.prime s.names (length s.setting.generators) after) _ (term_lines_read s after some) (λ others are. All-cons (IsTextTerm s) first others.0 is are)))
     (λ other. All-nil (IsTextTerm s))
 
-certificate_reads : (w : Written) → IfOk (certificate_at w) IsCertificate
+pub certificate_reads : (w : Written) → IfOk (certificate_at w) IsCertificate
 unfolding certificate_at
 certificate_reads w =
     on_bind _ _ (form_line w) _ (on_any (form_line w)) (λ form _. on_bind _ _ (setting_lines form) _ (setting_lines_read form) (λ setting is.

@@ -7,3 +7,8 @@ pub mod Settings
 pub mod Certificates
 pub mod Printing
 pub mod Laws
+pub mod Gives
+pub mod Shown
+pub mod Unread
+pub mod Next
+pub mod Taken

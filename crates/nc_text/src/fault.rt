@@ -1,5 +1,12 @@
 //! Why a text could not be read.
 
+ghost use Rattle.nc_text.specs.Gives.{IsAt};
+ghost use Rattle.nc_text.specs.declared.fault.LineError.TheVariants.{Memory};
+ghost use Rattle.nc_text.specs.declared.fault.ReadFault.TheVariants.{OutOfMemory};
+ghost use Rattle.std.specs.Prelude.{◌≡◌};
+
+use std::alloc::{AllocError, AllocFailed};
+
 /// What is wrong with a line. Of the faults that could be told at one token, the first of this order is told:
 /// `LongLiteral`, `Syntax`, `BadPrime`, `UnknownName`, `LongWord`, `OutOfRange`; in a `letters` line
 /// `BadName`, `TooManyNames`, `DoubleName`.
@@ -41,4 +48,65 @@ pub struct TextFault {
     /// The line's number, counted from 1. Blank lines and comments count.
     pub line: u64,
     pub kind: Kind,
+}
+
+/// Why a line was not read.
+#[derive(Debug, Drop)]
+pub enum LineError {
+    /// There was not enough memory.
+    Memory,
+    /// What is wrong with the line.
+    Fault(Kind),
+}
+
+impl From<AllocError> for LineError {
+    ghost from_gives = { λ _ e. e ≡ Memory };
+
+    fn from(_e: AllocError) -> LineError {
+        LineError::Memory
+    }
+}
+
+impl<T: Drop> From<AllocFailed<T>> for LineError {
+    ghost from_gives = { λ _ e. e ≡ Memory };
+
+    fn from(_e: AllocFailed<T>) -> LineError {
+        LineError::Memory
+    }
+}
+
+/// Why a text was not read.
+#[derive(Debug, Drop)]
+pub enum ReadFault {
+    /// It is no such text: its first fault.
+    Text(TextFault),
+    /// There was not enough memory. This says nothing about the text.
+    OutOfMemory,
+}
+
+impl From<AllocError> for ReadFault {
+    ghost from_gives = { λ _ e. e ≡ OutOfMemory };
+
+    fn from(_e: AllocError) -> ReadFault {
+        ReadFault::OutOfMemory
+    }
+}
+
+impl<T: Drop> From<AllocFailed<T>> for ReadFault {
+    ghost from_gives = { λ _ e. e ≡ OutOfMemory };
+
+    fn from(_e: AllocFailed<T>) -> ReadFault {
+        ReadFault::OutOfMemory
+    }
+}
+
+/// What was read in a line, with the line's number in a fault.
+pub fn at<T>(line: u64, read: Result<T, LineError>) -> Result<T, ReadFault>
+    ensures { IsAt line read result }
+{
+    match read {
+        Ok(value) => Ok(value),
+        Err(LineError::Memory) => Err(ReadFault::OutOfMemory),
+        Err(LineError::Fault(kind)) => Err(ReadFault::Text(TextFault { line, kind })),
+    }
 }

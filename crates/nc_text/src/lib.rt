@@ -4,9 +4,19 @@
 
 ghost use Rattle.nc_text.specs.Laws.{OneCertificate, ReadsCertificates, ReadsMonomials, ReadsPolynomials, ReadsWhatIsPrinted, SameWords};
 
+mod certificate;
 mod fault;
+mod line;
+mod polynomial;
+mod rows;
+mod setting;
+mod text;
+mod token;
+mod tokens;
+mod word;
 
-pub use fault::{Kind, TextFault};
+pub use certificate::read_certificate;
+pub use fault::{Kind, ReadFault, TextFault};
 
 /// What is printed of a certificate is read as that certificate.
 pub fn reads_what_is_printed()
