@@ -14,3 +14,4 @@ pub mod ReadRows
 pub mod ReadCertificates
 pub mod WordPatterns
 pub mod Examples
+pub mod Writing

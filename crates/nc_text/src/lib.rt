@@ -5,8 +5,10 @@
 ghost use Rattle.nc_text.specs.Laws.{OneCertificate, ReadsCertificates, ReadsMonomials, ReadsPolynomials, ReadsWhatIsPrinted, SameWords};
 
 mod fault;
+mod write;
 
 pub use fault::{Kind, TextFault};
+pub use write::{write_certificate, write_poly, write_sig};
 
 /// What is printed of a certificate is read as that certificate.
 pub fn reads_what_is_printed()
