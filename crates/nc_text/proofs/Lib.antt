@@ -26,3 +26,4 @@ pub mod At
 pub mod Repeated
 pub mod Generators
 pub mod Terms
+pub mod Writing

@@ -14,9 +14,11 @@ mod text;
 mod token;
 mod tokens;
 mod word;
+mod write;
 
 pub use certificate::read_certificate;
 pub use fault::{Kind, ReadFault, TextFault};
+pub use write::{write_certificate, write_poly, write_sig};
 
 /// What is printed of a certificate is read as that certificate.
 pub fn reads_what_is_printed()
