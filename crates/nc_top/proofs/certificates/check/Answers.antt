@@ -19,8 +19,7 @@ returns-then-is_zero c =
 pub returns-else-is_zero : goal.returns-else-is_zero
 returns-else-is_zero c =
     let whole : Certificate = c.args.certificate.now in
-    let is : c.in_ok-rest.rest ≡ rest_of whole.setting.setting whole.claim whole.terms = c.in_ok-rest.ensures ∙ (ap (λ (l : List (Term Sig)). rest_of c.certificate.inside.setting.setting c.certificate.inside.claim (element_of l)) c.items.ensures ∙ ap (λ (d : Certificate). rest_of d.setting.setting d.claim d.terms) c.certificate.view_is) in
-    (
+    let is : c.in_ok-rest.rest ≡ rest_of whole.setting.setting whole.claim whole.terms = c.in_ok-rest.ensures ∙ (ap (λ (l : List (Term Sig)). rest_of c.certificate.inside.setting.setting c.certificate.inside.claim (element_of l)) c.items.ensures ∙ ap (λ (d : Certificate). rest_of d.setting.setting d.claim d.terms) c.certificate.view_is) in (
       (λ valid. false≢true (sym c.if-is_zero.false ∙ c.is_zero.ensures.1 (nothing_from_valid whole c.in_ok-rest.rest (subst IsCertificate c.certificate.view_is c.certificate.invariant.0) is valid))),
       is,
     )
