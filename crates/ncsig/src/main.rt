@@ -20,7 +20,7 @@ fn complaint(status: Status) -> Option<&'static str> {
 }
 
 /// Runs the command that the words of the command line name, over standard input and output.
-fn status_of(rt: &HostRuntime, given: env::Args<HostRuntime>) -> Status {
+fn status_of(rt: &HostRuntime, given: env::Args) -> Status {
     let alloc = rt.alloc();
     let mut words = Vec::new(alloc);
     for word in given.skip(1) {
