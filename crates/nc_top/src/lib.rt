@@ -18,3 +18,6 @@ pub use status::{Status, code_of};
 pub fn one_answer()
     ensures { OneAnswer }
 {}
+
+#[cfg(test)]
+mod tests;
