@@ -15,12 +15,18 @@ use Rattle.std.specs.List.{All, AllByRecursion}
 -- ---- lines
 
 -- the lines up to the next element are those before it, and then its own
-pub ended_more : {X : Type 0} (line : X → List ℕ) (xs : List X) (i : ℕ) (x : X) → i < length xs → x ≡ get_or xs i x
+ended_more : {X : Type 0} (line : X → List ℕ) (xs : List X) (i : ℕ) (x : X) → i < length xs → x ≡ get_or xs i x
     → ended (map line (take i xs)) ++ (line x ++ 10 ∷ []) ≡ ended (map line (take (i + 1) xs))
 ended_more line xs i x within is =
     sym (ap (λ (ls : List (List ℕ)). ended ls) (ap (map line) (take_more xs i x within) ∙ map-append line (take i xs) (get_or xs i x ∷ []))
     ∙ flat_map-append (λ (l : List ℕ). l ++ 10 ∷ []) (map line (take i xs)) (line (get_or xs i x) ∷ [])
     ∙ ap (λ (l : List ℕ). ended (map line (take i xs)) ++ l) (append-nil (line (get_or xs i x) ++ 10 ∷ []) ∙ ap (λ y. line y ++ 10 ∷ []) (sym is)))
+
+-- one more line behind those that were written
+pub written_more : {X : Type 0} (line : X → List ℕ) (xs : List X) (i : ℕ) (x : X) (old before after : List ℕ) → i < length xs → x ≡ get_or xs i x
+    → before ≡ old ++ ended (map line (take i xs)) → after ≡ before ++ (line x ++ 10 ∷ []) → after ≡ old ++ ended (map line (take (i + 1) xs))
+written_more line xs i x old before after within is so_far now =
+    now ∙ ap (λ (l : List ℕ). l ++ (line x ++ 10 ∷ [])) so_far ∙ append_assoc old (ended (map line (take i xs))) (line x ++ 10 ∷ []) ∙ ap (λ (l : List ℕ). old ++ l) (ended_more line xs i x within is)
 
 -- ---- terms with degrees
 
