@@ -10,6 +10,8 @@ mod line;
 mod polynomial;
 mod rows;
 mod setting;
+#[cfg(test)]
+mod tests;
 mod text;
 mod token;
 mod tokens;
