@@ -65,7 +65,9 @@ fn end_line(text: &mut Text<'_>) -> Result<(), ReadFault>
     text.ends()
 }
 
-/// The certificate that a text is, or its first fault. The time is linear in the number of bytes.
+/// The certificate that a text is, or its first fault.
+///
+/// The text is not copied: each byte is looked at a few times, and the terms of each polynomial are sorted once.
 #[tactic(auto, unfolding(crate::specs::Certificates::certificate_at))]
 pub fn read_certificate(alloc: Global, bytes: &[u8]) -> Result<Certificate, ReadFault>
     ensures { GivesText (λ c. c) result (reads_certificate bytes.now) }
