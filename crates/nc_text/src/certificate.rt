@@ -4,7 +4,7 @@ ghost use Rattle.nc_algebra.specs.Certificates.{HasDegree, element_of};
 ghost use Rattle.nc_text.specs.Certificates.{claim_line, end_line, form_line, reads_certificate, term_lines};
 ghost use Rattle.nc_text.specs.Gives.{GivesText};
 ghost use Rattle.nc_text.specs.Unread.{left};
-ghost use Rattle.std.specs.Prelude.{All, IfOk, length, ◌≡◌};
+ghost use Rattle.std.specs.Prelude.{All, IfOk, length};
 
 use crate::fault::{ReadFault, at};
 use crate::polynomial::poly_of;
