@@ -4,7 +4,7 @@ ghost use Rattle.nc_algebra.specs.Certificates.{HasDegree, element_of};
 ghost use Rattle.nc_text.specs.Certificates.{claim_line, end_line, form_line, reads_certificate, term_lines};
 ghost use Rattle.nc_text.specs.Gives.{GivesText};
 ghost use Rattle.nc_text.specs.Unread.{left};
-ghost use Rattle.std.specs.Prelude.{All, IfOk, length, ◌≡◌};
+ghost use Rattle.std.specs.Prelude.{All, IfOk, length};
 
 use crate::fault::{ReadFault, at};
 use crate::polynomial::poly_of;
@@ -65,7 +65,9 @@ fn end_line(text: &mut Text<'_>) -> Result<(), ReadFault>
     text.ends()
 }
 
-/// The certificate that a text is, or its first fault. The time is linear in the number of bytes.
+/// The certificate that a text is, or its first fault.
+///
+/// The text is not copied: each byte is looked at a few times, and the terms of each polynomial are sorted once.
 #[tactic(auto, unfolding(crate::specs::Certificates::certificate_at))]
 pub fn read_certificate(alloc: Global, bytes: &[u8]) -> Result<Certificate, ReadFault>
     ensures { GivesText (λ c. c) result (reads_certificate bytes.now) }

@@ -1,5 +1,5 @@
-//! The texts of problems and certificates: the tokens, lines and values that they have, their faults, and the printed
-//! forms, as definitions with their laws.
+//! The texts of problems and certificates: the reader of certificates, which gives the certificate or the first fault;
+//! and the tokens, lines and values that texts have, and the printed forms, as definitions with their laws.
 #![tactic(auto)]
 
 ghost use Rattle.nc_text.specs.Laws.{OneCertificate, ReadsCertificates, ReadsMonomials, ReadsPolynomials, ReadsWhatIsPrinted, SameWords};
@@ -10,6 +10,8 @@ mod line;
 mod polynomial;
 mod rows;
 mod setting;
+#[cfg(test)]
+mod tests;
 mod text;
 mod token;
 mod tokens;

@@ -1,10 +1,10 @@
 //! The lines of a text.
 
-ghost use Rattle.std.specs.Prelude.{◌≡◌, ◌+◌, ◌<◌, ◌≤◌, ◌^◌, ◌∷◌, length, not, ◌==◌};
-ghost use Rattle.std.specs.List.{prefix_len, list_all};
-ghost use Rattle.nc_text.specs.Tokens.{is_blank};
-ghost use Rattle.nc_text.specs.Lines.{lines, content, is_allowed, written};
+ghost use Rattle.nc_text.specs.Lines.{content, is_allowed, lines, written};
 ghost use Rattle.nc_text.specs.Next.{IsNext};
+ghost use Rattle.nc_text.specs.Tokens.{is_blank};
+ghost use Rattle.std.specs.List.{list_all, prefix_len};
+ghost use Rattle.std.specs.Prelude.{length, not, ◌+◌, ◌<◌, ◌==◌, ◌^◌, ◌∷◌, ◌≡◌, ◌≤◌};
 
 use crate::token::is_blank;
 

@@ -6,7 +6,7 @@ ghost use Rattle.nc_algebra.specs.Words.{word_weight};
 ghost use Rattle.nc_text.specs.Gives.{Gives};
 ghost use Rattle.nc_text.specs.Rows.{field_at, form_at, further_name, generator_at, letters_at, mono_at, multiple_at, side_at};
 ghost use Rattle.std.specs.List.{list_any};
-ghost use Rattle.std.specs.Prelude.{IfOk, None, OnOk, Some, [], if◌then◌else◌, length, ◌<◌, ◌≡◌, ◌≤◌};
+ghost use Rattle.std.specs.Prelude.{IfOk, None, OnOk, Some, length, [], if◌then◌else◌, ◌<◌, ◌≡◌, ◌≤◌};
 ghost use Rattle.std.specs.Str.{bytes_eq};
 
 use crate::fault::{Kind, LineError};

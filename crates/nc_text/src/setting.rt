@@ -3,7 +3,7 @@
 ghost use Rattle.nc_text.specs.Gives.{GivesText};
 ghost use Rattle.nc_text.specs.Settings.{field_line, generator_lines, letters_line, setting_lines};
 ghost use Rattle.nc_text.specs.Unread.{left};
-ghost use Rattle.std.specs.Prelude.{IfOk, length, ◌≡◌, ◌≤◌};
+ghost use Rattle.std.specs.Prelude.{IfOk, length, ◌≤◌};
 
 use crate::fault::{ReadFault, at};
 use crate::rows::{field_of, generator_of, letters_of};

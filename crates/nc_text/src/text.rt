@@ -1,11 +1,11 @@
 //! A text, line after line.
 
-ghost use Rattle.std.specs.Prelude.{◌≡◌, ◌+◌, ◌<◌, ◌^◌, length, codes};
-ghost use Rattle.nc_text.specs.Unread.{left};
-ghost use Rattle.nc_text.specs.Tokens.{tokens};
 ghost use Rattle.nc_text.specs.Gives.{GivesText};
-ghost use Rattle.nc_text.specs.Lines.{lines, begins, behind, a_line, the_line, the_end};
+ghost use Rattle.nc_text.specs.Lines.{a_line, lines, the_end, the_line};
 ghost use Rattle.nc_text.specs.Taken.{IsBegun, IsTakenRow, seen_row};
+ghost use Rattle.nc_text.specs.Tokens.{tokens};
+ghost use Rattle.nc_text.specs.Unread.{left};
+ghost use Rattle.std.specs.Prelude.{◌≡◌};
 
 use crate::fault::{Kind, ReadFault, TextFault};
 use crate::line::{Next, are_allowed, next_line};

@@ -1,12 +1,11 @@
 //! The tokens of a line.
 
-ghost use Rattle.std.specs.Prelude.{slice_index, EachIndex, ◌≡◌, true, ◌<◌, ◌≤◌, ◌^◌, length, take, drop, IfSome, is_some, All};
-ghost use Rattle.std.specs.List.{prefix_len, list_all};
-ghost use Rattle.std.specs.Char.{is_ascii_digit};
-ghost use Rattle.std.specs.Str.Parse.{digits_value};
 ghost use Rattle.nc_algebra.specs.Certificates.{is_name_byte};
-ghost use Rattle.nc_text.specs.Shown.{before, IsShownAs};
-ghost use Rattle.nc_text.specs.Tokens.{is_blank, tokens, sign_of, literal_of};
+ghost use Rattle.nc_text.specs.Shown.{IsShownAs, before};
+ghost use Rattle.nc_text.specs.Tokens.{is_blank, literal_of, sign_of, tokens};
+ghost use Rattle.std.specs.Char.{is_ascii_digit};
+ghost use Rattle.std.specs.List.{prefix_len};
+ghost use Rattle.std.specs.Prelude.{EachIndex, length, slice_index, ◌≡◌, ◌≤◌};
 
 use nc_module::is_name_byte;
 

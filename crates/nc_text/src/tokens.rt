@@ -1,12 +1,12 @@
 //! A line's tokens, one after the other.
 
-ghost use Rattle.std.specs.Prelude.{◌≡◌, List};
-ghost use Rattle.nc_text.specs.Tokens.{tokens};
-ghost use Rattle.nc_text.specs.Tokens as spec;
 ghost use Rattle.nc_text.specs.Gives.{Gives};
-ghost use Rattle.nc_text.specs.Shown.{before, IsMisplaced, IsTaken, IsTakenLiteral};
-ghost use Rattle.nc_text.specs.Reading.{sign_at, literal_at, name_at, end_at, exponent_at};
-ghost use Rattle.nc_text.specs.Rows.{open_at, close_at};
+ghost use Rattle.nc_text.specs.Reading.{end_at, exponent_at, literal_at, name_at, sign_at};
+ghost use Rattle.nc_text.specs.Rows.{close_at, open_at};
+ghost use Rattle.nc_text.specs.Shown.{IsMisplaced, IsTaken, IsTakenLiteral, before};
+ghost use Rattle.nc_text.specs.Tokens as spec;
+ghost use Rattle.nc_text.specs.Tokens.{tokens};
+ghost use Rattle.std.specs.Prelude.{◌≡◌};
 
 use crate::fault::{Kind, LineError};
 use crate::token::{Token, next_token};
