@@ -44,6 +44,6 @@ module _ (s : Setting) where
       go (inr (inl h)) = omega (arith, h)
       go (inr (inr h)) = absurd (n (subst (IsZero s.prime) (sym (coefficient-evaluation s α x)) (linear_sum_zero same_monomial (IsLess s) (monomial_laws (generator_weight s)) s.prime (image s x) α (each h))))
 
-  -- so an entry's words are of at most the weight of its signature's degree
+  -- so each word of a labelled polynomial weighs at most its signature's degree
   pub labelled_limited : (τ : Monomial) (f : Polynomial) (α : Element) → IsLabelled s τ f α → (x : Word) → ¬ IsZero s.prime (coefficient f x) → word_weight x ≤ degree_of (generator_weight s) τ
   labelled_limited τ f α l x n = words_limited α τ l.leads x (λ z. n (sym (l.evaluates.at x) ∙ z))

@@ -53,8 +53,9 @@ module _ (s : Setting) where
   pub element_times_coefficient : (u : Word) (α : Element) (v : Word) (σ : Monomial) → coefficient_by same_monomial (element_times u α v) (times u σ v) % s.prime ≡ coefficient_by same_monomial α σ % s.prime
   element_times_coefficient u α v σ = coefficient_map_keys same_monomial (IsLess s) (monomial_laws (generator_weight s)) same_monomial (IsLess s) (monomial_laws (generator_weight s)) s.prime α σ (λ τ. times u τ v) (λ x y h. monomial_times (generator_weight s) u v x y h)
 
-  abbrev pub IsValid : Monomial → Type 0
-  IsValid σ = IsGenerator s σ.generator
+  -- its generator is one of the setting
+  abbrev pub HasGenerator : Monomial → Type 0
+  HasGenerator σ = IsGenerator s σ.generator
 
   pub generator_dec : (i : ℕ) → IsGenerator s i ⊎ ¬ IsGenerator s i
   generator_dec i = go (nat_order 0 i) (nat_order i (length s.generators))
@@ -66,23 +67,23 @@ module _ (s : Setting) where
       go (inr (inl h)) o = inr (λ g. omega (arith, g.0, g.1))
       go (inr (inr h)) o = inr (λ g. omega (arith, g.0, g.1))
 
-  pub in_times : (u : Word) (α : Element) (v : Word) → IsIn s α IsValid → IsIn s (element_times u α v) IsValid
+  pub in_times : (u : Word) (α : Element) (v : Word) → IsIn s α HasGenerator → IsIn s (element_times u α v) HasGenerator
   in_times u α v h σ n = go (generator_dec σ.generator)
     where
-      other : ¬ IsValid σ → (τ : Monomial) → ¬ IsZero s.prime (coefficient_by same_monomial α τ) → σ ≢ times u τ v
-      other nm τ nz e = nm (subst IsValid (sym e) (h τ nz))
+      other : ¬ HasGenerator σ → (τ : Monomial) → ¬ IsZero s.prime (coefficient_by same_monomial α τ) → σ ≢ times u τ v
+      other nm τ nz e = nm (subst HasGenerator (sym e) (h τ nz))
 
-      each : ¬ IsValid σ → (τ : Monomial) → IsZero s.prime (coefficient_by same_monomial α τ) ⊎ IsZero s.prime (is_at same_monomial σ (times u τ v))
+      each : ¬ HasGenerator σ → (τ : Monomial) → IsZero s.prime (coefficient_by same_monomial α τ) ⊎ IsZero s.prime (is_at same_monomial σ (times u τ v))
       each nm τ = elim (zero_dec s.prime (coefficient_by same_monomial α τ)) [ inl z ↦ inl z | inr nz ↦ inr (subst (IsZero s.prime) (sym (at_other same_monomial (IsLess s) (monomial_laws (generator_weight s)) σ (times u τ v) (other nm τ nz))) (zero_number s.prime)) ]
 
-      go : IsValid σ ⊎ ¬ IsValid σ → IsValid σ
+      go : HasGenerator σ ⊎ ¬ HasGenerator σ → HasGenerator σ
       go (inl m) = m
       go (inr nm) = absurd (n (subst (IsZero s.prime) (sym (linear_sum-map_keys (is_at same_monomial σ) (λ τ. times u τ v) α)) (linear_sum_zero same_monomial (IsLess s) (monomial_laws (generator_weight s)) s.prime (λ τ. is_at same_monomial σ (times u τ v)) α (each nm))))
 
-  pub in_minus : (α : Element) (c : ℕ) (β : Element) → IsIn s α IsValid → IsIn s β IsValid → IsIn s (minus s.prime α c β) IsValid
+  pub in_minus : (α : Element) (c : ℕ) (β : Element) → IsIn s α HasGenerator → IsIn s β HasGenerator → IsIn s (minus s.prime α c β) HasGenerator
   in_minus α c β h k σ n = go (zero_dec s.prime (coefficient_by same_monomial α σ)) (zero_dec s.prime (coefficient_by same_monomial β σ))
     where
-      go : IsZero s.prime (coefficient_by same_monomial α σ) ⊎ ¬ IsZero s.prime (coefficient_by same_monomial α σ) → IsZero s.prime (coefficient_by same_monomial β σ) ⊎ ¬ IsZero s.prime (coefficient_by same_monomial β σ) → IsValid σ
+      go : IsZero s.prime (coefficient_by same_monomial α σ) ⊎ ¬ IsZero s.prime (coefficient_by same_monomial α σ) → IsZero s.prime (coefficient_by same_monomial β σ) ⊎ ¬ IsZero s.prime (coefficient_by same_monomial β σ) → HasGenerator σ
       go (inr nz) o = h σ nz
       go (inl z) (inr nz) = k σ nz
       go (inl z) (inl y) = absurd (n (subst (IsZero s.prime) (sym (coefficient-minus same_monomial (IsLess s) (monomial_laws (generator_weight s)) s.prime α c β σ)) (zero_add s.prime (coefficient_by same_monomial α σ) ((s.prime - 1) * c * coefficient_by same_monomial β σ) z (zero_mul_left s.prime ((s.prime - 1) * c) (coefficient_by same_monomial β σ) y))))

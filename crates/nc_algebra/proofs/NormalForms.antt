@@ -33,6 +33,11 @@ first_coefficient t f a = omega (arith, ap (λ n. t.coefficient * n) (at_self sa
 pub other_coefficient : (t : Term Word) (f : Polynomial) (x : Word) → x ≢ t.key → coefficient (t ∷ f) x ≡ coefficient f x
 other_coefficient t f x n = omega (arith, ap (λ m. t.coefficient * m) (at_other same_word IsWordLess word_laws x t.key n))
 
+-- what the test does not find to be 0 is more
+pub positive : (n : ℕ) → nat_eq n 0 ≡ false → 0 < n
+positive zero e = absurd (false≢true (sym e))
+positive (suc n) e = omega arith
+
 module _ (p : ℕ) where
   residue_not_zero : (c : ℕ) → c < p → 0 < c → ¬ IsZero p c
   residue_not_zero c a b z = let e : c % p ≡ c = mod-eq_of_lt a in omega (arith, e, z)
@@ -79,7 +84,7 @@ module _ (p : ℕ) where
   -- ---- the normal form that is computed
 
   -- a coefficient counts modulo p
-  scaled : (c a s : ℕ) → ((c % p) * a + s) % p ≡ (c * a + s) % p
+  pub scaled : (c a s : ℕ) → ((c % p) * a + s) % p ≡ (c * a + s) % p
   scaled c a s = add-mod ((c % p) * a) s p ∙ (ap (λ n. (n + s % p) % p) (mul-mod_first c a p) ∙ sym (add-mod (c * a) s p))
 
   -- what a term before f adds
@@ -100,10 +105,6 @@ module _ (p : ℕ) where
   led_descends : (c : ℕ) (v : Word) (f : Polynomial) → AllLess v f → IsDescending f → IsDescending (led_by p c v f)
   led_descends c v f a d = go (nat_eq (c % p) 0) refl
     where
-      positive : (n : ℕ) → nat_eq n 0 ≡ false → 0 < n
-      positive zero e = absurd (false≢true (sym e))
-      positive (suc n) e = omega arith
-
       go : (b : Bool) → nat_eq (c % p) 0 ≡ b → IsDescending (cond b f (record { coefficient = c % p; key = v } ∷ f))
       go true e = d
       go false e = (positive (c % p) e, a, d)
@@ -176,6 +177,35 @@ module _ (p : ℕ) where
   unfolding normal_form
   normal_form_at [] x = refl
   normal_form_at (t ∷ f) x = with_term_same t (normal_form p f) x ∙ (add-mod (t.coefficient * is_at same_word x t.key) (coefficient (normal_form p f) x) p ∙ (ap (λ n. ((t.coefficient * is_at same_word x t.key) % p + n) % p) (normal_form_at f x) ∙ sym (add-mod (t.coefficient * is_at same_word x t.key) (coefficient f x) p)))
+
+-- ---- the normal form lists no other words
+
+module _ (P : Word → Type 0) (p : ℕ) where
+  -- each listed word has the property
+  abbrev pub AreListed : Polynomial → Type 0
+  AreListed f = AllByRecursion (λ t. P t.key) f
+
+  led_listed : (c : ℕ) (w : Word) (f : Polynomial) → P w → AreListed f → AreListed (led_by p c w f)
+  led_listed c w f h a = go (nat_eq (c % p) 0)
+    where
+      go : (b : Bool) → AreListed (cond b f (record { coefficient = c % p; key = w } ∷ f))
+      go true = a
+      go false = (h, a)
+
+  with_term_listed : (t : Term Word) (f : Polynomial) → P t.key → AreListed f → AreListed (with_term p t f)
+  unfolding with_term
+  with_term_listed t [] h a = led_listed t.coefficient t.key [] h tt
+  with_term_listed t (u ∷ f) h a = go (compare_words t.key u.key) (with_term_listed t f h a.1)
+    where
+      go : (o : Ordering) → AreListed (with_term p t f) → AreListed (placed p t u f (with_term p t f) o)
+      go Less b = (a.0, b)
+      go Equal b = led_listed (t.coefficient + u.coefficient) u.key f a.0 a.1
+      go Greater b = led_listed t.coefficient t.key (u ∷ f) h a
+
+  pub normal_form_listed : (f : Polynomial) → AreListed f → AreListed (normal_form p f)
+  unfolding normal_form
+  normal_form_listed [] a = tt
+  normal_form_listed (t ∷ f) a = with_term_listed t (normal_form p f) a.0 (normal_form_listed f a.1)
 
 -- it is a normal form
 pub normal_form_normal : (p : ℕ) (f : Polynomial) → 0 < p → IsNormal p (normal_form p f)

@@ -1,5 +1,5 @@
 -- Each syzygy signature is that of a module element that evaluates to zero.
-use Rattle.nc_algebra.proofs.Elements.{IsValid, coefficient-evaluation, element_times_leads, evaluation-minus, evaluation_times, generator_dec, image, in_minus, in_times, leads_minus}
+use Rattle.nc_algebra.proofs.Elements.{HasGenerator, coefficient-evaluation, element_times_leads, evaluation-minus, evaluation_times, generator_dec, image, in_minus, in_times, leads_minus}
 use Rattle.nc_algebra.proofs.Monomials.{monomial_laws, monomial_left, monomial_right}
 use Rattle.nc_algebra.proofs.Sums.{leads_substitute, linear_sum-ext, linear_sum-map_keys, linear_sum-substitute, linear_sum_cong, linear_sum_swap, linear_sum_zero, zero_dec, zero_from_same}
 use Rattle.nc_algebra.proofs.Words.{word_back, word_front, word_laws}
@@ -14,7 +14,7 @@ use Rattle.std.proofs.Common.{◌≡◌, ◌%◌, ◌<◌, ◌⊎◌, [], ◌++�
 -- a module element that evaluates to zero, with signature ρ
 pub record Relation (s : Setting) (ρ : Monomial) : Type 0 where
   pub element : Element
-  pub lies : IsIn s element (IsValid s)
+  pub lies : IsIn s element (HasGenerator s)
   pub leads : IsSignatureOf s element ρ
   pub vanishes : IsZeroPolynomial s (evaluation s element)
 
@@ -22,13 +22,13 @@ module _ (s : Setting) where
   evaluation-substitute : (g : Polynomial) (φ : Word → Element) (y : Word) → coefficient (evaluation s (substitute g φ)) y ≡ linear_sum (λ w. coefficient (evaluation s (φ w)) y) g
   evaluation-substitute g φ y = coefficient-evaluation s (substitute g φ) y ∙ (linear_sum-substitute (image s y) φ g ∙ linear_sum-ext (λ w. linear_sum (image s y) (φ w)) (λ w. coefficient (evaluation s (φ w)) y) g (λ w. sym (coefficient-evaluation s (φ w) y)))
 
-  in_substitute : (g : Polynomial) (φ : Word → Element) → ((w : Word) → IsIn s (φ w) (IsValid s)) → IsIn s (substitute g φ) (IsValid s)
+  in_substitute : (g : Polynomial) (φ : Word → Element) → ((w : Word) → IsIn s (φ w) (HasGenerator s)) → IsIn s (substitute g φ) (HasGenerator s)
   in_substitute g φ h σ n = go (generator_dec s σ.generator)
     where
-      each : ¬ IsValid s σ → (w : Word) → IsZero s.prime (coefficient_by same_monomial (φ w) σ)
+      each : ¬ HasGenerator s σ → (w : Word) → IsZero s.prime (coefficient_by same_monomial (φ w) σ)
       each nm w = elim (zero_dec s.prime (coefficient_by same_monomial (φ w) σ)) [ inl z ↦ z | inr nz ↦ absurd (nm (h w σ nz)) ]
 
-      go : IsValid s σ ⊎ ¬ IsValid s σ → IsValid s σ
+      go : HasGenerator s σ ⊎ ¬ HasGenerator s σ → HasGenerator s σ
       go (inl m) = m
       go (inr nm) = absurd (n (subst (IsZero s.prime) (sym (linear_sum-substitute (is_at same_monomial σ) φ g)) (linear_sum_zero same_word IsWordLess word_laws s.prime (λ w. coefficient_by same_monomial (φ w) σ) g (λ w. inr (each nm w)))))
 

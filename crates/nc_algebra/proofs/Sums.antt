@@ -87,7 +87,6 @@ zero_dec p n = go (n % p) refl
 pub zero_number : (p : ℕ) → IsZero p 0
 zero_number p = mod-eq-zero_of_dvd p (subst (λ n. p ∣ n) (mul-zero p) (dvd-mul_right p 0))
 
--- what the order of the keys has to be
 -- f without its terms at k
 pub without : {K : Type 0} → (K → K → Bool) → K → List (Term K) → List (Term K)
 without same k [] = []

@@ -80,6 +80,10 @@ pub record Certificate : Type 0 where
 abbrev pub monomial_of : Sig → Monomial
 monomial_of σ = record { left = σ.left; generator = σ.generator; right = σ.right }
 
+-- a term without the degree that stands beside its monomial
+abbrev pub term_of : Term Sig → Term Monomial
+term_of t = record { coefficient = t.coefficient; key = monomial_of t.key }
+
 -- the element of terms with degrees
 abbrev pub element_of : List (Term Sig) → Element
 element_of = map_keys monomial_of

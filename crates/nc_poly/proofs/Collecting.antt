@@ -1,6 +1,6 @@
 -- Collecting terms with one word gives the normal form.
 use Rattle.nc_algebra.proofs.Lists.{same-permutation}
-use Rattle.nc_algebra.proofs.NormalForms.{normal_form_only}
+use Rattle.nc_algebra.proofs.NormalForms.{normal_form_only, positive, scaled}
 use Rattle.nc_algebra.proofs.Words.{word_laws, word_trans}
 use Rattle.nc_algebra.specs.Polynomials.{AllLess, AreResidues, IsDescending, IsNormal, Polynomial, coefficient, normal_form}
 use Rattle.nc_algebra.specs.Sums.{Term, is_at}
@@ -54,14 +54,11 @@ pair_same p t u s x = go (same_word t.key u.key) refl
     at : Word → ℕ
     at w = is_at same_word x w
 
-    scaled : (c a r : ℕ) → ((c % p) * a + r) % p ≡ (c * a + r) % p
-    scaled c a r = add-mod ((c % p) * a) r p ∙ (ap (λ n. (n + r % p) % p) (mul-mod_first c a p) ∙ sym (add-mod (c * a) r p))
-
     go : (b : Bool) → same_word t.key u.key ≡ b → ((cond b (record { coefficient = 0; key = t.key }) t).coefficient * is_at same_word x (cond b (record { coefficient = 0; key = t.key }) t).key + ((cond b (record { coefficient = (t.coefficient + u.coefficient) % p; key = u.key }) u).coefficient * is_at same_word x (cond b (record { coefficient = (t.coefficient + u.coefficient) % p; key = u.key }) u).key + s)) % p ≡ (t.coefficient * is_at same_word x t.key + (u.coefficient * is_at same_word x u.key + s)) % p
     go false e = refl
     go true e =
         let keys : is_at same_word x t.key ≡ is_at same_word x u.key = ap (is_at same_word x) (word_laws.same_eq t.key u.key e) in
-        ap (λ n. n % p) (omega arith) ∙ (scaled (t.coefficient + u.coefficient) (is_at same_word x u.key) s ∙ ap (λ n. n % p) (omega (arith, ap (λ n. t.coefficient * n) keys)))
+        ap (λ n. n % p) (omega arith) ∙ (scaled p (t.coefficient + u.coefficient) (is_at same_word x u.key) s ∙ ap (λ n. n % p) (omega (arith, ap (λ n. t.coefficient * n) keys)))
 
 carried_at : (p : ℕ) (t : Term Word) (f : Polynomial) (x : Word) → coefficient (carried_behind p t f) x % p ≡ coefficient (t ∷ f) x % p
 carried_at p t [] x = refl
@@ -110,10 +107,6 @@ filter_less w v (t ∷ f) l a = go (nat_eq t.coefficient 0) (filter_less w v f l
     go : (b : Bool) → AllLess v (filter has_coefficient f) → AllLess v (cond (not b) (t ∷ filter has_coefficient f) (filter has_coefficient f))
     go true h = h
     go false h = (first a.0, h)
-
-positive : (n : ℕ) → nat_eq n 0 ≡ false → 0 < n
-positive zero e = absurd (false≢true (sym e))
-positive (suc n) e = omega arith
 
 descends : (p : ℕ) (t : Term Word) (f : Polynomial) → IsFalling (t ∷ f) → IsDescending (filter has_coefficient (carried_behind p t f))
 descends p t [] h = go (nat_eq t.coefficient 0) refl

@@ -28,12 +28,15 @@ abbrev pub carried_behind : ℕ → Term Word → Polynomial → Polynomial
 carried_behind p t [] = t ∷ []
 carried_behind p t (u ∷ f) = left_of t u ∷ carried_behind p (gained p t u) f
 
+-- the same of a whole list
 abbrev pub carried : ℕ → Polynomial → Polynomial
 carried p [] = []
 carried p (t ∷ f) = carried_behind p t f
 
+-- whether a term has a coefficient other than 0
 abbrev pub has_coefficient : Term Word → Bool
 has_coefficient t = not (nat_eq t.coefficient 0)
 
+-- carried on, and without the terms that have no coefficient
 abbrev pub collected : ℕ → Polynomial → Polynomial
 collected p f = filter has_coefficient (carried p f)

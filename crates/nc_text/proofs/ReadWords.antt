@@ -1,5 +1,5 @@
 -- What is read as a word or a polynomial may stand in a text.
-use Rattle.nc_algebra.proofs.NormalForms.{normal_form_normal}
+use Rattle.nc_algebra.proofs.NormalForms.{normal_form_listed, normal_form_normal}
 use Rattle.nc_algebra.specs.Certificates.{AreTextWords, IsLetterBelow, IsTextPolynomial, IsTextWord, IsWordBelow, letter_at}
 use Rattle.nc_algebra.specs.Polynomials.{Polynomial, led_by, normal_form, placed, with_term}
 use Rattle.nc_algebra.specs.Sums.{Term}
@@ -11,7 +11,7 @@ use Rattle.nc_text.specs.declared.fault.Kind.{Kind}
 use Rattle.nc_text.specs.declared.fault.Kind.TheVariants.{LongWord, UnknownName}
 use Rattle.std.proofs.Common.{All, Bool, Err, List, None, Ok, IfOk, Option, Result, Some, [], arith, bytes_eq, cond, false, length, ltb, nat_eq, ok_or, position, refl, replicate, suc, true, zero, ℕ, ◌%◌, ◌++◌, ◌+◌, ◌<◌, ◌∷◌, ◌≡◌, Less, Equal, Greater, Ordering}
 use Rattle.std.proofs.lemmas.Bool.{ltb-false}
-use Rattle.std.proofs.lemmas.List.Elements.{All-append, All-cons, All-head, All-nil, All-replicate, All-tail}
+use Rattle.std.proofs.lemmas.List.Elements.{All-append, All-cons, All-from_recursion, All-head, All-nil, All-replicate, All-tail, recursion_from_All}
 use Rattle.std.proofs.lemmas.List.Quantifiers.{position-Some}
 use Rattle.std.proofs.lemmas.List.{length-append, length-replicate}
 
@@ -92,33 +92,6 @@ terms_read (suc m) p names negative ts =
 sum_reads : (p : ℕ) (names : List (List ℕ)) (ts : List Token) → IfOk (sum_at p names ts) (λ f. AreTextWords (length names) f)
 sum_reads p names ts = terms_read (length (sign_at ts).1) p names (sign_at ts).0 (sign_at ts).1
 
--- the normal form has no other words
-module _ (P : Word → Type 0) (p : ℕ) where
-  led_keeps : (c : ℕ) (w : Word) (f : Polynomial) → P w → Words P f → Words P (led_by p c w f)
-  led_keeps c w f h all = by_zero (nat_eq (c % p) 0)
-    where
-      by_zero : (b : Bool) → Words P (cond b f (record { coefficient = c % p; key = w } ∷ f))
-      by_zero true = all
-      by_zero false = All-cons (λ t. P t.key) (record { coefficient = c % p; key = w }) f h all
-
-  placed_keeps : (t u : Term Word) (f behind : Polynomial) (o : Ordering) → P t.key → P u.key → Words P f → Words P behind → Words P (placed p t u f behind o)
-  placed_keeps t u f behind Less h k all rest = All-cons (λ t. P t.key) u behind k rest
-  placed_keeps t u f behind Equal h k all rest = led_keeps (t.coefficient + u.coefficient) u.key f k all
-  placed_keeps t u f behind Greater h k all rest = led_keeps t.coefficient t.key (u ∷ f) h (All-cons (λ t. P t.key) u f k all)
-
-  with_term_keeps : (t : Term Word) (f : Polynomial) → P t.key → Words P f → Words P (with_term p t f)
-  unfolding with_term
-  with_term_keeps t [] h all = led_keeps t.coefficient t.key [] h all
-  with_term_keeps t (u ∷ f) h all =
-      let k = All-head (λ t. P t.key) u f all in
-      let rest = All-tail (λ t. P t.key) u f all in
-      placed_keeps t u f (with_term p t f) (compare_words t.key u.key) h k rest (with_term_keeps t f h rest)
-
-  normal_form_keeps : (f : Polynomial) → Words P f → Words P (normal_form p f)
-  unfolding normal_form
-  normal_form_keeps [] all = all
-  normal_form_keeps (t ∷ f) all = with_term_keeps t (normal_form p f) (All-head (λ t. P t.key) t f all) (normal_form_keeps f (All-tail (λ t. P t.key) t f all))
-
 pub poly_reads : (p : ℕ) (names : List (List ℕ)) (ts : List Token) → 0 < p → IfOk (poly_at p names ts) (λ f. IsTextPolynomial (length names) p f)
 unfolding poly_at
-poly_reads p names ts some = on_bind _ _ (sum_at p names ts) _ (sum_reads p names ts) (λ f texts. record { normal = normal_form_normal p f some; words = normal_form_keeps (λ w. IsTextWord (length names) w) p f texts })
+poly_reads p names ts some = on_bind _ _ (sum_at p names ts) _ (sum_reads p names ts) (λ f texts. record { normal = normal_form_normal p f some; words = All-from_recursion (λ t. IsTextWord (length names) t.key) (normal_form p f) (normal_form_listed (IsTextWord (length names)) p f (recursion_from_All (λ t. IsTextWord (length names) t.key) f texts)) })

@@ -1,5 +1,5 @@
 -- Lemmas on the texts that are written piece after piece.
-use Rattle.nc_algebra.specs.Certificates.{Certificate, IsTextTerm, IsTextWord, NamedSetting, element_of, monomial_of}
+use Rattle.nc_algebra.specs.Certificates.{Certificate, IsTextTerm, IsTextWord, NamedSetting, element_of, monomial_of, term_of}
 use Rattle.nc_algebra.specs.Monomials.{Monomial, Sig}
 use Rattle.nc_algebra.specs.Polynomials.{Polynomial}
 use Rattle.nc_algebra.specs.Sums.{Term}
@@ -30,27 +30,24 @@ written_more line xs i x old before after within is so_far now =
 
 -- ---- terms with degrees
 
-abbrev pub without_degree : Term Sig → Term Monomial
-without_degree t = record { coefficient = t.coefficient; key = monomial_of t.key }
-
-map_element : (f : Term Monomial → List ℕ) (terms : List (Term Sig)) → map (λ t. f (without_degree t)) terms ≡ map f (element_of terms)
+map_element : (f : Term Monomial → List ℕ) (terms : List (Term Sig)) → map (λ t. f (term_of t)) terms ≡ map f (element_of terms)
 map_element f [] = refl
-map_element f (t ∷ terms) = ap (λ (l : List (List ℕ)). f (without_degree t) ∷ l) (map_element f terms)
+map_element f (t ∷ terms) = ap (λ (l : List (List ℕ)). f (term_of t) ∷ l) (map_element f terms)
 
 -- the lines of all terms
 pub all_term_lines : (names : List (List ℕ)) (terms : List (Term Sig)) (i : ℕ) → length terms ≤ i
     → ended (map (λ t. term_line names (record { coefficient = t.coefficient; key = monomial_of t.key })) (take i terms)) ≡ ended (map (term_line names) (element_of terms))
 all_term_lines names terms i long =
-    ap (λ (l : List (Term Sig)). ended (map (λ t. term_line names (without_degree t)) l)) (take_all i terms long) ∙ ap (λ (ls : List (List ℕ)). ended ls) (map_element (term_line names) terms)
+    ap (λ (l : List (Term Sig)). ended (map (λ t. term_line names (term_of t)) l)) (take_all i terms long) ∙ ap (λ (ls : List (List ℕ)). ended ls) (map_element (term_line names) terms)
 
 -- ---- letters
 
 -- what holds of each term without its degree
-each_term : (P : Term Monomial → Type 0) (Q : Term Sig → Type 0) (terms : List (Term Sig)) → ((t : Term Sig) → P (without_degree t) → Q t) → AllByRecursion P (element_of terms) → AllByRecursion Q terms
+each_term : (P : Term Monomial → Type 0) (Q : Term Sig → Type 0) (terms : List (Term Sig)) → ((t : Term Sig) → P (term_of t) → Q t) → AllByRecursion P (element_of terms) → AllByRecursion Q terms
 each_term P Q [] one all = tt
 each_term P Q (t ∷ terms) one all = (one t all.0, each_term P Q terms one all.1)
 
-each_item : (P : Term Monomial → Type 0) (Q : Term Sig → Type 0) (terms items : List (Term Sig)) → items ≡ terms → ((t : Term Sig) → P (without_degree t) → Q t) → All P (element_of terms) → All Q items
+each_item : (P : Term Monomial → Type 0) (Q : Term Sig → Type 0) (terms items : List (Term Sig)) → items ≡ terms → ((t : Term Sig) → P (term_of t) → Q t) → All P (element_of terms) → All Q items
 each_item P Q terms items same one all = subst (All Q) (sym same) (All-from_recursion Q terms (each_term P Q terms one (recursion_from_All P (element_of terms) all)))
 
 -- each letter of a word has a name

@@ -7,6 +7,7 @@ use Rattle.nc_text.specs.declared.fault.ReadFault.TheVariants as faults
 use Rattle.nc_text.specs.declared.fault.TextFault.{TextFault}
 use Rattle.std.specs.Prelude.{Err, Ok, Result, ℕ, ◌≡◌}
 
+-- memory ran out, or reading gives this fault
 abbrev pub Fails : {Y : Type 0} → LineError → Result Y Kind → Type 0
 Fails errors.Memory read = Unit {0}
 Fails (errors.Fault kind) read = read ≡ Err kind
@@ -16,6 +17,7 @@ abbrev pub Gives : {X Y : Type 0} → (X → Y) → Result X LineError → Resul
 Gives view (Ok x) read = read ≡ Ok (view x)
 Gives view (Err e) read = Fails e read
 
+-- the same of a text
 abbrev pub FailsText : {Y : Type 0} → ReadFault → Result Y TextFault → Type 0
 FailsText faults.OutOfMemory read = Unit {0}
 FailsText (faults.Text fault) read = read ≡ Err fault

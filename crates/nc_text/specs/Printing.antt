@@ -25,6 +25,7 @@ abbrev pub coefficient_and_word : List (List ℕ) → ℕ → Word → List ℕ
 coefficient_and_word names c [] = decimal c
 coefficient_and_word names c (x ∷ w) = (if c == 1 then [] else decimal c ++ codes "*") ++ word_text names (x ∷ w)
 
+-- a term, as above
 abbrev pub term_text : List (List ℕ) → Term Word → List ℕ
 term_text names t = coefficient_and_word names t.coefficient t.key
 
@@ -43,6 +44,7 @@ sig_text names σ = word_text names σ.left ++ (codes " [" ++ (decimal σ.genera
 abbrev pub names_line : List (List ℕ) → List ℕ
 names_line names = codes "letters" ++ flat_map (λ name. codes " " ++ name) names
 
+-- a generator behind its keyword
 abbrev pub generator_line : List (List ℕ) → Polynomial → List ℕ
 generator_line names f = codes "generator " ++ poly_text names f
 
@@ -50,6 +52,7 @@ generator_line names f = codes "generator " ++ poly_text names f
 abbrev pub term_line : List (List ℕ) → Term Monomial → List ℕ
 term_line names t = codes "term " ++ (decimal t.coefficient ++ (codes " " ++ sig_text names t.key))
 
+-- all lines, in their order
 abbrev pub certificate_lines : Certificate → List (List ℕ)
 certificate_lines c =
     codes "certificate 1"

@@ -22,14 +22,17 @@ abbrev pub misplaced : List Token → Kind
 misplaced (Long ∷ _) = LongLiteral
 misplaced _ = Syntax
 
+-- a literal
 unfoldable pub literal_at : List Token → Result (ℕ × List Token) Kind
 literal_at (Literal n ∷ rest) = Ok (n, rest)
 literal_at ts = Err (misplaced ts)
 
+-- a name
 unfoldable pub name_at : List Token → Result (List ℕ × List Token) Kind
 name_at (Name name ∷ rest) = Ok (name, rest)
 name_at ts = Err (misplaced ts)
 
+-- the end of the line
 unfoldable pub end_at : List Token → Result (Unit {0}) Kind
 end_at [] = Ok tt
 end_at ts = Err (misplaced ts)

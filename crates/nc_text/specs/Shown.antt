@@ -26,6 +26,7 @@ abbrev pub before : shown.Token → List Token → List Token
 before code.End rest = []
 before token rest = seen token ∷ rest
 
+-- a token of the code that is seen as this one
 abbrev pub IsShownAs : shown.Token → Token → Type 0
 IsShownAs token as_seen = (rest : List Token) → before token rest ≡ as_seen ∷ rest
 

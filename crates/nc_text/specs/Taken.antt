@@ -14,6 +14,7 @@ IsBegun keyword ts None = lines.begins keyword ts ≡ false
 abbrev pub seen_row : Row → Written → lines.Row
 seen_row r after = lines.row r.number r.tokens after
 
+-- the next line is taken if it has the keyword, and else none is
 abbrev pub IsTakenRow : Option lines.Row → Written → Written → Option Row → Type 0
 IsTakenRow row old new (Some r) = row ≡ Some (seen_row r new)
 IsTakenRow row old new None = (row ≡ None) × (new ≡ old)

@@ -7,5 +7,6 @@ pub record Unread : Type 0 where
   pub number : ℕ
   pub lines : List (List ℕ)
 
+-- the lines that are not read yet, as they are written
 abbrev pub left : Unread → Written
 left u = written u.number u.lines

@@ -1,4 +1,5 @@
 -- The letters of what is left of a claim are letters of its setting.
+use Rattle.nc_algebra.proofs.NormalForms.{normal_form_listed}
 use Rattle.nc_algebra.specs.Certificates.{Certificate, IsCertificate, IsLetterBelow, IsTextGenerator, IsTextTerm, IsTextWord, IsWordBelow, NamedSetting, rest_of}
 use Rattle.nc_algebra.specs.Elements.{Element, IsGenerator, Setting, evaluation, generator}
 use Rattle.nc_algebra.specs.Monomials.{Monomial}
@@ -10,31 +11,9 @@ use Rattle.std.proofs.lemmas.List.Elements.{All-append, All-from_recursion, All-
 use Rattle.std.specs.List.{All, AllByRecursion}
 
 module _ (P : Word → Type 0) where
-  -- each word that is listed has the property
+  -- each listed word has the property
   abbrev Has : Polynomial → Type 0
   Has f = AllByRecursion (λ t. P t.key) f
-
-  led : (p c : ℕ) (w : Word) (f : Polynomial) → P w → Has f → Has (led_by p c w f)
-  led p c w f h a = go (nat_eq (c % p) 0)
-    where
-      go : (b : Bool) → Has (cond b f (record { coefficient = c % p; key = w } ∷ f))
-      go true = a
-      go false = (h, a)
-
-  with_term_has : (p : ℕ) (t : Term Word) (f : Polynomial) → P t.key → Has f → Has (with_term p t f)
-  unfolding with_term
-  with_term_has p t [] h a = led p t.coefficient t.key [] h tt
-  with_term_has p t (u ∷ f) h a = go (compare_words t.key u.key) (with_term_has p t f h a.1)
-    where
-      go : (o : Ordering) → Has (with_term p t f) → Has (placed p t u f (with_term p t f) o)
-      go Less b = (a.0, b)
-      go Equal b = led p (t.coefficient + u.coefficient) u.key f a.0 a.1
-      go Greater b = led p t.coefficient t.key (u ∷ f) h a
-
-  normal_form_has : (p : ℕ) (f : Polynomial) → Has f → Has (normal_form p f)
-  unfolding normal_form
-  normal_form_has p [] a = tt
-  normal_form_has p (t ∷ f) a = with_term_has p t (normal_form p f) a.0 (normal_form_has p f a.1)
 
   append_has : (f g : Polynomial) → Has f → Has g → Has (f ++ g)
   append_has [] g a b = b
@@ -78,7 +57,7 @@ pub rest_named : (c : Certificate) → IsCertificate c → All (λ t. All (λ x.
 rest_named c h =
     All-weaker (λ t. IsWordBelow (length c.setting.names) t.key) (λ t. All (λ x. x.index < length c.setting.names) t.key) (λ t k. All-weaker (IsLetterBelow (length c.setting.names)) (λ x. x.index < length c.setting.names) (λ x l. l.0) t.key k) (rest_of c.setting.setting c.claim c.terms)
     (All-from_recursion (λ t. IsWordBelow (length c.setting.names) t.key) (rest_of c.setting.setting c.claim c.terms)
-    (normal_form_has (IsWordBelow (length c.setting.names)) c.setting.setting.prime (minus c.setting.setting.prime c.claim 1 (evaluation c.setting.setting c.terms))
+    (normal_form_listed (IsWordBelow (length c.setting.names)) c.setting.setting.prime (minus c.setting.setting.prime c.claim 1 (evaluation c.setting.setting c.terms))
     (append_has (IsWordBelow (length c.setting.names)) c.claim (scale ((c.setting.setting.prime - 1) * 1) (evaluation c.setting.setting c.terms))
     (claim_has (length c.setting.names) c.claim (recursion_from_All (λ t. IsTextWord (length c.setting.names) t.key) c.claim h.claim.words))
     (scale_has (IsWordBelow (length c.setting.names)) ((c.setting.setting.prime - 1) * 1) (evaluation c.setting.setting c.terms) (evaluation_has c.setting h.setting.each c.terms (recursion_from_All (IsTextTerm c.setting) c.terms h.terms))))))

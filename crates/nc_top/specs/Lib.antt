@@ -1,4 +1,3 @@
-pub mod Terms
 pub mod Checking
 pub mod Plain
 pub mod Statuses

@@ -45,6 +45,7 @@ pub record IsNotYet (bytes report : List ℕ) : Type 0 where
   pub not_plain : IsNotPlain bytes
   pub written : report ≡ codes "not yet\n"
 
+-- status and report for the bytes of a certificate
 abbrev pub IsAnswer : List ℕ → Status → List ℕ → Type 0
 IsAnswer bytes Done report = IsDone bytes report
 IsAnswer bytes Invalid report = IsInvalid bytes report

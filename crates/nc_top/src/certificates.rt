@@ -1,12 +1,11 @@
 //! The check of a certificate.
 
-ghost use Rattle.nc_algebra.specs.Certificates.{IsTextPolynomial, IsTextTerm, element_of, rest_of};
+ghost use Rattle.nc_algebra.specs.Certificates.{IsTextPolynomial, IsTextTerm, element_of, rest_of, term_of};
 ghost use Rattle.nc_algebra.specs.Elements.{generator};
 ghost use Rattle.nc_algebra.specs.Polynomials.{AreResidues, polynomial_times};
 ghost use Rattle.nc_algebra.specs.Sums.{SameSum, minus};
 ghost use Rattle.nc_algebra.specs.Words.{same_word};
 ghost use Rattle.nc_top.specs.Checking.{IsVerdict};
-ghost use Rattle.nc_top.specs.Terms.{term_of};
 ghost use Rattle.std.specs.Prelude.{All, IfOk, OnOk, length, ◌≡◌};
 
 use nc_module::{Certificate, ModuleTerm, Setting};
