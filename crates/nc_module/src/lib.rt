@@ -5,6 +5,8 @@ mod certificate;
 mod name;
 mod setting;
 mod term;
+#[cfg(test)]
+mod tests;
 
 pub use certificate::Certificate;
 pub use name::{Name, is_name_byte};

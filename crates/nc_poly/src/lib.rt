@@ -6,6 +6,8 @@ mod collect;
 mod multiple;
 mod poly;
 mod term;
+#[cfg(test)]
+mod tests;
 
 pub use accumulator::Accumulator;
 pub use poly::Poly;

@@ -45,3 +45,27 @@ impl Sig {
         }
     }
 }
+
+#[cfg(test)]
+mod tests {
+    use super::*;
+    use nc_words::Letter;
+    use std::test::Fail;
+
+    #[test]
+    fn degrees_add_up(rt: HostRuntime) -> Result<(), Fail> {
+        let alloc = rt.alloc();
+        let x = Letter::of(0, 1).ok_or("no such letter")?;
+        let heavy = Letter::of(1, 3).ok_or("no such letter")?;
+        let left = Word::join(alloc, &[x], &[heavy], &[x])?;
+        let right = Word::join(alloc, &[heavy], &[heavy], &[])?;
+        assert!(rt; left.weight() == 5);
+        assert!(rt; right.weight() == 6);
+        let sig = Sig::of(7, 2, left, right);
+        assert_eq!(rt; sig.degree, 18);
+        assert_eq!(rt; sig.generator, 2);
+        assert_eq!(rt; sig.left.letters().len(), 3);
+        assert_eq!(rt; sig.right.letters().len(), 2);
+        Ok(())
+    }
+}
