@@ -1,6 +1,7 @@
 -- What holds of the generators of a setting.
+use Rattle.nc_algebra.proofs.Certificates.{text_word_light}
 use Rattle.nc_algebra.proofs.Leading.{leading-normal}
-use Rattle.nc_algebra.specs.Certificates.{IsLetterBelow, IsSetting, IsTextGenerator, IsTextWord, NamedSetting}
+use Rattle.nc_algebra.specs.Certificates.{IsSetting, IsTextGenerator, IsTextWord, NamedSetting}
 use Rattle.nc_algebra.specs.Elements.{IsGenerator, generator, generator_weight}
 use Rattle.nc_algebra.specs.Polynomials.{IsNormal, Polynomial, leading}
 use Rattle.nc_algebra.specs.Sums.{Term}
@@ -8,7 +9,7 @@ use Rattle.nc_algebra.specs.Words.{Word, word_weight}
 use Rattle.std.proofs.Common.{[], ap, arith, get_or, length, subst, ℕ, ◌-◌, ◌∙◌, ◌∷◌, ◌≡◌, ◌≤◌}
 use Rattle.std.proofs.lemmas.List.{get_or_read}
 use Rattle.std.proofs.lemmas.List.Elements.{recursion_from_All}
-use Rattle.std.specs.List.{All, AllByRecursion}
+use Rattle.std.specs.List.{All}
 
 -- the generator that code reads
 pub generator_read : (s : NamedSetting) (i : ℕ) (f : Polynomial) → IsGenerator s.setting i → f ≡ get_or s.setting.generators (i - 1) f → f ≡ generator s.setting i
@@ -23,14 +24,8 @@ generator_is_text s i h g = h.each (i - 1) [] (omega arith)
 pub weight_first : (s : NamedSetting) (i : ℕ) (t : Term Word) (f : Polynomial) → IsTextGenerator (length s.names) s.setting.prime (generator s.setting i) → generator s.setting i ≡ t ∷ f → generator_weight s.setting i ≡ word_weight t.key
 weight_first s i t f h e = ap word_weight (ap (leading s.setting.prime) e ∙ leading-normal s.setting.prime t f (subst (IsNormal s.setting.prime) e h.polynomial.normal))
 
-weighs_its_length : (n : ℕ) (w : Word) → AllByRecursion (IsLetterBelow n) w → word_weight w ≡ length w
-weighs_its_length n [] a = omega arith
-weighs_its_length n (x ∷ w) a = omega (arith, weighs_its_length n w a.1, a.0.1)
-
 pub first_is_short : (s : NamedSetting) (i : ℕ) (t : Term Word) (f : Polynomial) → IsTextGenerator (length s.names) s.setting.prime (generator s.setting i) → generator s.setting i ≡ t ∷ f → word_weight t.key ≤ 255
 first_is_short s i t f h e =
     let words = recursion_from_All (λ u. IsTextWord (length s.names) u.key) (t ∷ f) (subst (λ (g : Polynomial). All (λ u. IsTextWord (length s.names) u.key) g) e h.polynomial.words) in
     let first : IsTextWord (length s.names) t.key = words.0 in
-    let weight : word_weight t.key ≡ length t.key = weighs_its_length (length s.names) t.key (recursion_from_All (IsLetterBelow (length s.names)) t.key first.letters) in
-    let short : length t.key ≤ 255 = first.short in
-    omega arith
+    text_word_light (length s.names) t.key first

@@ -6,12 +6,11 @@ use Rattle.nc_algebra.specs.Polynomials.{AllLess, AreResidues, IsDescending, IsN
 use Rattle.nc_algebra.specs.Sums.{Term, is_at}
 use Rattle.nc_algebra.specs.Words.{IsWordLess, Word, same_word}
 use Rattle.nc_poly.specs.Collecting.{AllUpTo, IsFalling, carried_behind, collected, gained, has_coefficient, left_of}
-use Rattle.std.proofs.Common.{Bool, [], ap, arith, cond, false, inl, inr, nat_eq, not, refl, subst, suc, sym, true, zero, ℕ, ◌%◌, ◌*◌, ◌+◌, ◌<◌, ◌∙◌, ◌∷◌, ◌≡◌, ◌⊎◌}
+use Rattle.std.proofs.Common.{Bool, [], ap, arith, cond, false, inl, inr, nat_eq, not, refl, subst, sym, true, ℕ, ◌%◌, ◌*◌, ◌+◌, ◌<◌, ◌∙◌, ◌∷◌, ◌≡◌, ◌⊎◌}
 use Rattle.std.proofs.Math.Nat.{add-mod, mod-lt}
 use Rattle.std.proofs.lemmas.Bool.{eqb-true, false≢true}
 use Rattle.std.proofs.lemmas.List.Elements.{All-filter, All-from_recursion, recursion_from_All}
 use Rattle.std.proofs.lemmas.List.Sorted.{All-permutation, length_permutation}
-use Rattle.std.proofs.lemmas.Nat.{mul-mod_first}
 use Rattle.std.specs.List.{AllByRecursion, filter}
 use Rattle.std.specs.List.Sorted.{IsPermutation}
 

@@ -1,17 +1,16 @@
 -- What is read as a word or a polynomial may stand in a text.
 use Rattle.nc_algebra.proofs.NormalForms.{normal_form_listed, normal_form_normal}
 use Rattle.nc_algebra.specs.Certificates.{AreTextWords, IsLetterBelow, IsTextPolynomial, IsTextWord, IsWordBelow, letter_at}
-use Rattle.nc_algebra.specs.Polynomials.{Polynomial, led_by, normal_form, placed, with_term}
-use Rattle.nc_algebra.specs.Sums.{Term}
-use Rattle.nc_algebra.specs.Words.{Letter, Word, compare_words}
+use Rattle.nc_algebra.specs.Polynomials.{Polynomial, normal_form}
+use Rattle.nc_algebra.specs.Words.{Letter, Word}
 use Rattle.nc_text.proofs.Steps.{on_any, on_bind, on_choice}
 use Rattle.nc_text.specs.Reading.{after_factor, after_term, exponent_at, factor_at, factors_at, letter_of, lengthened, name_at, poly_at, sign_at, sum_at, term_at, terms_at, word_at, word_behind}
 use Rattle.nc_text.specs.Tokens.{Literal, Minus, Plus, Times, Token}
 use Rattle.nc_text.specs.declared.fault.Kind.{Kind}
 use Rattle.nc_text.specs.declared.fault.Kind.TheVariants.{LongWord, UnknownName}
-use Rattle.std.proofs.Common.{All, Bool, Err, List, None, Ok, IfOk, Option, Result, Some, [], arith, bytes_eq, cond, false, length, ltb, nat_eq, ok_or, position, refl, replicate, suc, true, zero, ℕ, ◌%◌, ◌++◌, ◌+◌, ◌<◌, ◌∷◌, ◌≡◌, Less, Equal, Greater, Ordering}
+use Rattle.std.proofs.Common.{All, Bool, Err, List, None, Ok, IfOk, Option, Result, Some, [], arith, bytes_eq, false, length, ltb, ok_or, position, refl, replicate, suc, true, zero, ℕ, ◌++◌, ◌+◌, ◌<◌, ◌∷◌, ◌≡◌}
 use Rattle.std.proofs.lemmas.Bool.{ltb-false}
-use Rattle.std.proofs.lemmas.List.Elements.{All-append, All-cons, All-from_recursion, All-head, All-nil, All-replicate, All-tail, recursion_from_All}
+use Rattle.std.proofs.lemmas.List.Elements.{All-append, All-cons, All-from_recursion, All-nil, All-replicate, recursion_from_All}
 use Rattle.std.proofs.lemmas.List.Quantifiers.{position-Some}
 use Rattle.std.proofs.lemmas.List.{length-append, length-replicate}
 

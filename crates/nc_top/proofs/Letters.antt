@@ -1,12 +1,11 @@
 -- The letters of what is left of a claim are letters of its setting.
 use Rattle.nc_algebra.proofs.NormalForms.{normal_form_listed}
 use Rattle.nc_algebra.specs.Certificates.{Certificate, IsCertificate, IsLetterBelow, IsTextGenerator, IsTextTerm, IsTextWord, IsWordBelow, NamedSetting, rest_of}
-use Rattle.nc_algebra.specs.Elements.{Element, IsGenerator, Setting, evaluation, generator}
-use Rattle.nc_algebra.specs.Monomials.{Monomial}
-use Rattle.nc_algebra.specs.Polynomials.{Polynomial, led_by, normal_form, placed, polynomial_times, with_term}
-use Rattle.nc_algebra.specs.Sums.{Term, minus, scale}
-use Rattle.nc_algebra.specs.Words.{Word, compare_words}
-use Rattle.std.proofs.Common.{Bool, Equal, Greater, Less, List, Ordering, [], arith, cond, false, length, nat_eq, true, ℕ, ◌%◌, ◌*◌, ◌+◌, ◌++◌, ◌-◌, ◌<◌, ◌∷◌, ◌≡◌}
+use Rattle.nc_algebra.specs.Elements.{Element, IsGenerator, evaluation, generator}
+use Rattle.nc_algebra.specs.Polynomials.{Polynomial, polynomial_times}
+use Rattle.nc_algebra.specs.Sums.{minus, scale}
+use Rattle.nc_algebra.specs.Words.{Word}
+use Rattle.std.proofs.Common.{[], arith, length, ℕ, ◌*◌, ◌++◌, ◌-◌, ◌<◌, ◌∷◌}
 use Rattle.std.proofs.lemmas.List.Elements.{All-append, All-from_recursion, All-weaker, recursion_from_All}
 use Rattle.std.specs.List.{All, AllByRecursion}
 

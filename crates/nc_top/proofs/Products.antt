@@ -6,12 +6,12 @@ use Rattle.nc_algebra.proofs.Sums.{coefficient-minus, linear_sum-append, linear_
 use Rattle.nc_algebra.proofs.Words.{word_laws}
 use Rattle.nc_algebra.specs.Certificates.{Certificate, IsCertificate, IsSetting, IsTextGenerator, IsTextTerm, IsTextWord, IsValid, NamedSetting, element_of, monomial_of, rest_of, term_of}
 use Rattle.nc_algebra.specs.Elements.{Setting, evaluation, generator}
-use Rattle.nc_algebra.specs.Monomials.{Monomial, Sig}
+use Rattle.nc_algebra.specs.Monomials.{Sig}
 use Rattle.nc_algebra.specs.Polynomials.{Polynomial, coefficient, normal_form, polynomial_times}
 use Rattle.nc_algebra.specs.Sums.{SameSum, Term, linear_sum, minus}
 use Rattle.nc_algebra.specs.Words.{IsWordLess, Word, same_word}
 use Rattle.nc_field.proofs.Primes.{listed_is_prime}
-use Rattle.std.proofs.Common.{List, [], ap, ap₂, arith, get_or, length, refl, subst, sym, take, ℕ, ◌%◌, ◌*◌, ◌+◌, ◌++◌, ◌-◌, ◌<◌, ◌∙◌, ◌∷◌, ◌≡◌, ◌≤◌}
+use Rattle.std.proofs.Common.{List, [], ap, arith, get_or, length, subst, sym, take, ℕ, ◌%◌, ◌*◌, ◌+◌, ◌++◌, ◌-◌, ◌<◌, ◌∙◌, ◌∷◌, ◌≡◌, ◌≤◌}
 use Rattle.std.proofs.Math.Nat.{add-mod}
 use Rattle.std.proofs.lemmas.List.{take_all, take_more}
 use Rattle.std.proofs.lemmas.List.Elements.{All-from_recursion, recursion_from_All}

@@ -1,13 +1,11 @@
 -- What a text is as a plain certificate, and what is answered for it.
-use Rattle.nc_algebra.specs.Certificates.{Certificate, IsCertificate}
+use Rattle.nc_algebra.specs.Certificates.{Certificate}
 use Rattle.nc_text.proofs.RoundTripCertificates.{one_certificate, reads_what_is_printed}
 use Rattle.nc_text.specs.Certificates.{reads_certificate}
-use Rattle.nc_text.specs.Printing.{certificate_text}
 use Rattle.nc_top.specs.Checking.{IsValidCertificate}
 use Rattle.nc_top.specs.Laws.{OneAnswer}
-use Rattle.nc_top.specs.Plain.{IsNotPlain, IsPlain}
-use Rattle.nc_top.specs.Run.{IsAnswer, invalid_report}
-use Rattle.nc_top.specs.declared.status.Status.{Status}
+use Rattle.nc_top.specs.Plain.{IsPlain}
+use Rattle.nc_top.specs.Run.{invalid_report}
 use Rattle.nc_top.specs.declared.status.Status.TheVariants.{Done, Invalid, NotYet, OutOfMemory, ReadFault, Usage, WriteFault}
 use Rattle.std.proofs.Common.{List, Ok, ap, refl, subst, sym, ℕ, ◌∙◌, ◌≡◌}
 

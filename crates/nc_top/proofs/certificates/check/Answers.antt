@@ -1,9 +1,8 @@
 use Rattle.nc_algebra.specs.Certificates.{Certificate, IsCertificate, element_of, rest_of}
 use Rattle.nc_algebra.specs.Monomials.{Sig}
-use Rattle.nc_algebra.specs.Polynomials.{Polynomial}
 use Rattle.nc_algebra.specs.Sums.{Term}
 use Rattle.nc_top.proofs.Products.{are_text_terms, nothing_from_valid, valid_from_nothing}
-use Rattle.std.proofs.Common.{List, ap, false, subst, sym, true, ◌∙◌, ◌≡◌}
+use Rattle.std.proofs.Common.{List, ap, subst, sym, ◌∙◌, ◌≡◌}
 use Rattle.std.proofs.lemmas.Bool.{false≢true}
 use Rattle.nc_top.proofs.certificates.check.Goals as goal
 
