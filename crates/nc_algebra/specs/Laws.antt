@@ -9,9 +9,9 @@ use Rattle.nc_algebra.specs.Polynomials.{IsNormal, Polynomial, normal_form}
 use Rattle.nc_algebra.specs.Elements.{Element}
 use Rattle.nc_algebra.specs.Primes.{IsPrime, IsZero}
 use Rattle.nc_algebra.specs.Sums.{SameSum}
-use Rattle.nc_algebra.specs.Words.{IsWordLess, Letter, Word, compare_words, same_word, word_weight}
+use Rattle.nc_algebra.specs.Words.{IsWordLess, Letter, OccursAt, Word, compare_words, same_word, word_weight}
 use Rattle.std.specs.declared.cmp.Ordering.TheVariants.{Less}
-use Rattle.std.specs.Prelude.{Contains, List, [], ◌↔◌, length, suc, ℕ, ◌%◌, ◌*◌, ◌++◌, ◌+◌, ◌<◌, ◌≡◌, ◌≤◌}
+use Rattle.std.specs.Prelude.{Contains, List, [], ◌↔◌, length, suc, ℕ, ◌%◌, ◌*◌, ◌++◌, ◌+◌, ◌<◌, ◌≡◌, ◌≤◌, ◌⊎◌}
 
 -- the order on words is strict, total and without endless descent, goes with multiplication on both sides, and the comparison says it
 pub record WordOrder : Type 0 where
@@ -24,7 +24,8 @@ pub record WordOrder : Type 0 where
   pub additive : (u v : Word) → word_weight (u ++ v) ≡ word_weight u + word_weight v
   pub lighter : (u v : Word) → word_weight u < word_weight v → IsWordLess u v
   pub weighs : (u v : Word) → IsWordLess u v → word_weight u ≤ word_weight v
-  pub factor : (u w v : Word) → word_weight w ≤ word_weight (u ++ (w ++ v))
+  pub factor : (v w : Word) (q : ℕ) → OccursAt v w q → word_weight v ≤ word_weight w
+  pub proper : (v w : Word) (q : ℕ) → OccursAt v w q → (v ≡ w) ⊎ IsWordLess v w
   pub long : (w : Word) → length w ≤ word_weight w
 
 -- the same of the order on module monomials

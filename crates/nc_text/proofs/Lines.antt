@@ -4,7 +4,7 @@ use Rattle.std.specs.List.{prefix_len, list_all}
 use Rattle.std.proofs.lemmas.Bool.{eqb-true}
 use Rattle.std.proofs.lemmas.List.{nil_from_length, take_all, length-drop}
 use Rattle.nc_text.specs.Tokens.{is_blank, tokens}
-use Rattle.nc_text.specs.Lines.{led_by, lines, content, is_allowed, End, Line, written}
+use Rattle.nc_text.specs.Lines.{with_byte, lines, content, is_allowed, End, Line, written}
 
 abbrev pub line_len : List ℕ → ℕ
 line_len bs = prefix_len (λ b. not (eqb b 10)) bs
@@ -25,9 +25,9 @@ line_split (b ∷ c ∷ bs) h = by_byte (eqb b 10) refl (line_split (c ∷ bs) (
     by_byte false e again =
         let m = line_len (c ∷ bs) in
         let one : 1 + m ≡ suc m = omega arith in
-        let step : lines (b ∷ c ∷ bs) ≡ led_by b (lines (c ∷ bs)) = rw (e) refl in
+        let step : lines (b ∷ c ∷ bs) ≡ with_byte b (lines (c ∷ bs)) = rw (e) refl in
         let len : line_len (b ∷ c ∷ bs) ≡ 1 + m = rw (e) refl in
-        step ∙ ap (led_by b) again ∙ rw (len, one) refl
+        step ∙ ap (with_byte b) again ∙ rw (len, one) refl
 
 pub split_here : (bs line rest : List ℕ) (n : ℕ) → 0 < length bs → n ≡ line_len bs → line ≡ take n bs → rest ≡ drop n bs → lines bs ≡ line ∷ lines (drop 1 rest)
 split_here bs line rest n some is_n is_line is_rest =

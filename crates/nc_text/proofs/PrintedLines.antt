@@ -1,5 +1,5 @@
 -- Lines of printable bytes without a comment: cut at their line feeds they are the lines that were ended.
-use Rattle.nc_text.specs.Lines.{Line, content, is_allowed, led_by, lines, without_return, written}
+use Rattle.nc_text.specs.Lines.{Line, content, is_allowed, with_byte, lines, without_return, written}
 use Rattle.nc_text.specs.Printing.{ended}
 use Rattle.nc_text.specs.Tokens.{is_blank, tokens}
 use Rattle.std.proofs.Common.{Bool, List, [], ap, arith, eqb, false, get_or, length, not, refl, true, ℕ, ◌&&◌, ◌++◌, ◌+◌, ◌-◌, ◌<◌, ◌∙◌, ◌∷◌, ◌≡◌, append_assoc}
@@ -31,7 +31,7 @@ unfolding lines
 first_line [] rest h = refl
 first_line (b ∷ line) rest h =
     let k = and_parts (is_plain b) (list_all is_plain line) h in
-    rw ((plain_facts b k.0).0) (ap (led_by b) (first_line line rest k.1))
+    rw ((plain_facts b k.0).0) (ap (with_byte b) (first_line line rest k.1))
 
 pub lines_ended : (ls : List (List ℕ)) → AllByRecursion IsPrintedLine ls → lines (ended ls) ≡ ls
 unfolding lines

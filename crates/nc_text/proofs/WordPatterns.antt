@@ -35,16 +35,16 @@ missing names x m more f = by_letter (letter_of names x)
     by_letter (Ok l) = refl
     by_letter (Err e) = refl
 
-same_word : (n : ℕ) (names : List (List ℕ)) (w : Word) (ts : List Token) → length ts ≤ n → word_by_patterns names w ts ≡ factors_at n names w ts
+word_agrees : (n : ℕ) (names : List (List ℕ)) (w : Word) (ts : List Token) → length ts ≤ n → word_by_patterns names w ts ≡ factors_at n names w ts
 unfolding word_by_patterns factors_at factor_at name_at exponent_at literal_at
-same_word zero names w [] h = refl
-same_word zero names w (t ∷ ts) h = absurd (omega arith)
-same_word (suc n) names w (Name x ∷ Power ∷ Literal k ∷ Times ∷ ts) h = stepped names w x k (Times ∷ ts) (λ v. word_by_patterns names v ts) (λ factor. after_factor (factors_at n names) factor.0 factor.1) (λ v. same_word n names v ts (omega arith))
-same_word (suc n) names w (Name x ∷ Power ∷ Literal k ∷ ts) h = stepped names w x k ts (λ v. Ok (v, ts)) (λ factor. after_factor (factors_at n names) factor.0 factor.1) (λ v. refl)
-same_word (suc n) names w (Name x ∷ Power ∷ ts) h = missing names x (misplaced ts) (λ factor. after_factor (factors_at n names) factor.0 factor.1) (λ letter exponent. lengthened w (letter_at letter) exponent.0 >>= λ longer. Ok (longer, exponent.1))
-same_word (suc n) names w (Name x ∷ Times ∷ ts) h = stepped names w x 1 (Times ∷ ts) (λ v. word_by_patterns names v ts) (λ factor. after_factor (factors_at n names) factor.0 factor.1) (λ v. same_word n names v ts (omega arith))
-same_word (suc n) names w (Name x ∷ ts) h = stepped names w x 1 ts (λ v. Ok (v, ts)) (λ factor. after_factor (factors_at n names) factor.0 factor.1) (λ v. refl)
-same_word (suc n) names w ts h = refl
+word_agrees zero names w [] h = refl
+word_agrees zero names w (t ∷ ts) h = absurd (omega arith)
+word_agrees (suc n) names w (Name x ∷ Power ∷ Literal k ∷ Times ∷ ts) h = stepped names w x k (Times ∷ ts) (λ v. word_by_patterns names v ts) (λ factor. after_factor (factors_at n names) factor.0 factor.1) (λ v. word_agrees n names v ts (omega arith))
+word_agrees (suc n) names w (Name x ∷ Power ∷ Literal k ∷ ts) h = stepped names w x k ts (λ v. Ok (v, ts)) (λ factor. after_factor (factors_at n names) factor.0 factor.1) (λ v. refl)
+word_agrees (suc n) names w (Name x ∷ Power ∷ ts) h = missing names x (misplaced ts) (λ factor. after_factor (factors_at n names) factor.0 factor.1) (λ letter exponent. lengthened w (letter_at letter) exponent.0 >>= λ longer. Ok (longer, exponent.1))
+word_agrees (suc n) names w (Name x ∷ Times ∷ ts) h = stepped names w x 1 (Times ∷ ts) (λ v. word_by_patterns names v ts) (λ factor. after_factor (factors_at n names) factor.0 factor.1) (λ v. word_agrees n names v ts (omega arith))
+word_agrees (suc n) names w (Name x ∷ ts) h = stepped names w x 1 ts (λ v. Ok (v, ts)) (λ factor. after_factor (factors_at n names) factor.0 factor.1) (λ v. refl)
+word_agrees (suc n) names w ts h = refl
 
 pub same_words : SameWords
-same_words names w ts = same_word (length ts) names w ts (omega arith)
+same_words names w ts = word_agrees (length ts) names w ts (omega arith)

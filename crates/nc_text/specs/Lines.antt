@@ -11,14 +11,14 @@ use Rattle.std.specs.Str.{bytes_eq}
 -- ---- cutting a text into lines
 
 -- a byte in front of the first line
-abbrev pub led_by : ℕ → List (List ℕ) → List (List ℕ)
-led_by b [] = (b ∷ []) ∷ []
-led_by b (line ∷ lines) = (b ∷ line) ∷ lines
+abbrev pub with_byte : ℕ → List (List ℕ) → List (List ℕ)
+with_byte b [] = (b ∷ []) ∷ []
+with_byte b (line ∷ lines) = (b ∷ line) ∷ lines
 
 -- the lines, without the line feeds that end them; a last piece is a line where it is not empty
 unfoldable pub lines : List ℕ → List (List ℕ)
 lines [] = []
-lines (b ∷ bs) = if b == 10 then [] ∷ lines bs else led_by b (lines bs)
+lines (b ∷ bs) = if b == 10 then [] ∷ lines bs else with_byte b (lines bs)
 
 -- a line without a carriage return that stands last
 abbrev pub without_return : List ℕ → List ℕ

@@ -42,6 +42,7 @@ fn content_of(line: &[u8]) -> &[u8]
     content
 }
 
+/// Whether a byte may stand in a line, outside its comment.
 fn is_allowed(byte: u8) -> bool
     ensures { result ≡ is_allowed byte }
 {
@@ -55,6 +56,7 @@ pub fn are_allowed(bytes: &[u8]) -> bool
     bytes.iter().all(|b| is_allowed(*b))
 }
 
+/// Whether a line is blank.
 fn are_blanks(bytes: &[u8]) -> bool
     ensures { result ≡ list_all is_blank bytes.now }
 {

@@ -59,6 +59,7 @@ pub fn field_of(line: &mut Tokens<'_>) -> Result<Prime, LineError>
     Ok(prime)
 }
 
+/// Whether a name is one of these.
 fn has_name(names: &[Name], name: &[u8]) -> bool
     ensures { result ≡ list_any (λ n. bytes_eq n name.now) names.now }
 {

@@ -39,6 +39,7 @@ pub struct Row<'a> {
     pub tokens: Tokens<'a>,
 }
 
+/// A fault in a line.
 fn fault_at(line: u64, kind: Kind) -> ReadFault
     ensures { result ≡ ReadFault.Text (record { line = line; kind = kind }) }
 {

@@ -12,7 +12,9 @@ use nc_module::is_name_byte;
 /// A token, or the end of the line.
 #[derive(Clone, Copy)]
 pub enum Token<'a> {
+    /// At most 18 digits, as a number.
     Literal(u64),
+    /// More digits than that.
     Long,
     Name(&'a [u8]),
     Plus,
@@ -21,16 +23,19 @@ pub enum Token<'a> {
     Power,
     Open,
     Close,
+    /// A byte that begins no token.
     Bad,
     End,
 }
 
+/// Whether a byte is a space or a tab.
 pub fn is_blank(byte: u8) -> bool
     ensures { result ≡ is_blank byte }
 {
     byte == b' ' || byte == b'\t'
 }
 
+/// How many blanks stand first.
 fn blanks_len(bytes: &[u8]) -> usize
     ensures value { result ≡ prefix_len is_blank bytes.now }
     ensures within { result ≤ length bytes.now }
@@ -38,6 +43,7 @@ fn blanks_len(bytes: &[u8]) -> usize
     bytes.iter().take_while(|b| is_blank(**b)).count()
 }
 
+/// How many digits stand first.
 fn digits_len(bytes: &[u8]) -> usize
     ensures value { result ≡ prefix_len is_ascii_digit bytes.now }
     ensures within { result ≤ length bytes.now }
@@ -45,6 +51,7 @@ fn digits_len(bytes: &[u8]) -> usize
     bytes.iter().take_while(|b| b.is_ascii_digit()).count()
 }
 
+/// How many bytes of a name stand first.
 fn name_len(bytes: &[u8]) -> usize
     ensures value { result ≡ prefix_len is_name_byte bytes.now }
     ensures within { result ≤ length bytes.now }
@@ -52,6 +59,7 @@ fn name_len(bytes: &[u8]) -> usize
     bytes.iter().take_while(|b| is_name_byte(**b)).count()
 }
 
+/// The token of a byte that is no blank, digit or letter.
 fn sign_of(byte: u8) -> Token<'static>
     ensures { IsShownAs result (sign_of byte) }
 {

@@ -1,7 +1,7 @@
 //! Writers of the printed forms.
 
 ghost use Rattle.nc_algebra.specs.Certificates.{element_of, monomial_of};
-ghost use Rattle.nc_text.specs.Printing.{certificate_text, coefficient_and_word, ended, generator_line, name_of, names_line, poly_text, sig_text, term_line, term_text, word_text};
+ghost use Rattle.nc_text.specs.Printing.{certificate_text, ended, generator_line, name_of, names_line, poly_text, sig_text, term_line, term_text, word_text};
 ghost use Rattle.std.specs.Prelude.{All, IfOk, IsTrue, OnOk, [], codes, decimal, flat_map, length, map, ◌++◌, ◌<◌, ◌∷◌, ◌≡◌, ◌↔◌};
 
 use itoa::Buffer;
