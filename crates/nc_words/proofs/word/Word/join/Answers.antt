@@ -1,6 +1,6 @@
 use Rattle.nc_algebra.proofs.Words.{weight-append}
 use Rattle.nc_algebra.specs.Words.{Word}
-use Rattle.std.proofs.Common.{ap, arith, length, ◌++◌, ◌∙◌, ◌≡◌}
+use Rattle.std.proofs.Common.{ap, arith, ◌++◌, ◌∙◌, ◌≡◌}
 use Rattle.std.proofs.lemmas.List.{append_assoc, length-append}
 use Rattle.nc_words.proofs.word.Word.join.Goals as goal
 
