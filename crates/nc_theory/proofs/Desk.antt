@@ -1,0 +1,143 @@
+-- Every play of events leaves the desk at a state of the run, and its counts add up.
+use Rattle.nc_algebra.specs.Finite.{Among}
+use Rattle.nc_algebra.specs.Elements.{generator_weight}
+use Rattle.nc_algebra.specs.Monomials.{same_monomial, Monomial, compare_monomials}
+use Rattle.nc_algebra.specs.Primes.{IsField}
+use Rattle.nc_algebra.specs.Problems.{Problem}
+use Rattle.nc_theory.proofs.Determinism.{run_unique}
+use Rattle.nc_theory.specs.Desk.{node_of, Abandons, Advances, Claims, Desk, Does, Event, IsGiven, IsLawful, Node, Plays, Submits, Submitted, Ticket, Work, generation_at, insert_node, open_desk, with_work, without_node}
+use Rattle.nc_theory.specs.Runs.{Handles, SequentialRun}
+use Rattle.nc_theory.specs.States.{State}
+use Rattle.std.proofs.Common.{Bool, List, None, Option, Some, [], ap, arith, cond, false, inl, inr, length, nat_eq, refl, subst, sym, true, ℕ, ◌*◌, ◌+◌, ◌∙◌, ◌∷◌, ◌≡◌, ◌⊎◌}
+use Rattle.std.proofs.lemmas.Bool.{eq-eqb, false≢true}
+use Rattle.std.specs.Ordering.{is_lt}
+
+-- ---- the snapshot
+
+module _ (P : Problem) where
+  abbrev pub IsAtRun : Desk → Type 0
+  IsAtRun d = SequentialRun P d.handled d.state d.last
+
+  advance_runs : {d d' : Desk} → Advances P d d' → IsAtRun d → IsAtRun d'
+  advance_runs (Advances.at_end f) run = run
+  advance_runs (Advances.no_work f none) run = run
+  advance_runs (Advances.drops f τ n w ready not) run = run
+  advance_runs (Advances.commits f τ n w ready handles more) run = advance_runs more (SequentialRun.handled run τ ready.next w.outcome handles)
+
+  submit_runs : (d : Desk) (t : Ticket) (w : Work) (answer : Submitted) (d' : Desk) → Submits P d t w answer d' → IsAtRun d → IsAtRun d'
+  submit_runs d t w answer d' (Submits.is_gone n) run = run
+  submit_runs d t w answer d' (Submits.is_foreign g n) run = run
+  submit_runs d t w answer d' (Submits.is_ahead g p n) run = run
+  submit_runs d t w answer d' (Submits.is_other g p n node i s) run = run
+  submit_runs d t w answer d' (Submits.is_taken g p n node i s) run = run
+
+  abandon_runs : (d : Desk) (t : Ticket) (d' : Desk) → Abandons d t d' → IsAtRun d → IsAtRun d'
+  abandon_runs d t d' (Abandons.is_gone n) run = run
+  abandon_runs d t d' (Abandons.is_freed g) run = run
+
+  event_runs : {d d' : Desk} {e : Event} → Does P d e d' → IsAtRun d → IsAtRun d'
+  event_runs (Does.claims (Claims.is_finished f)) run = run
+  event_runs (Does.claims (Claims.is_none f o)) run = run
+  event_runs (Does.claims (Claims.is_task f i others free few τ first)) run = run
+  event_runs {d} {d'} (Does.submits {answer = answer} t given w l s) run = submit_runs d t w answer d' s run
+  event_runs {d} {d'} (Does.abandons t given a) run = abandon_runs d t d' a run
+  event_runs (Does.advances a) run = advance_runs a run
+
+  play_runs : {d d' : Desk} {events : List Event} → Plays P events d d' → IsAtRun d → IsAtRun d'
+  play_runs Plays.ends run = run
+  play_runs (Plays.goes e does more) run = play_runs more (event_runs does run)
+
+  pub snapshot : (capacity : ℕ) {events : List Event} {d : Desk} → Plays P events (open_desk capacity) d → IsAtRun d
+  snapshot capacity plays = play_runs plays SequentialRun.opened
+
+-- ---- the counts
+
+insert_counts : (weight : ℕ → ℕ) (n : Node) (window : List Node) → length (insert_node weight n window) ≡ length window + 1
+insert_counts weight n [] = refl
+insert_counts weight n (m ∷ ns) = go (is_lt (compare_monomials weight n.signature m.signature)) (insert_counts weight n ns)
+  where
+    go : (b : Bool) → length (insert_node weight n ns) ≡ length ns + 1 → length (cond b (n ∷ m ∷ ns) (m ∷ insert_node weight n ns)) ≡ length (m ∷ ns) + 1
+    go true e = omega arith
+    go false e = omega (arith, e)
+
+work_counts : (i : ℕ) (w : Work) (window : List Node) → length (with_work i w window) ≡ length window
+work_counts i w [] = refl
+work_counts i w (n ∷ ns) = go (nat_eq n.index i) (work_counts i w ns)
+  where
+    go : (b : Bool) → length (with_work i w ns) ≡ length ns → length (cond b (record { signature = n.signature; index = n.index; generation = n.generation + 1; work = Some w } ∷ ns) (n ∷ with_work i w ns)) ≡ length (n ∷ ns)
+    go true e = refl
+    go false e = omega (arith, e)
+
+-- a node is taken out, where one has the index
+remove_counts : (i : ℕ) (window : List Node) (n : Node) → Among n window → n.index ≡ i → length (without_node i window) + 1 ≡ length window
+remove_counts i [] n k e = absurd k
+remove_counts i (m ∷ ns) n k e = go (nat_eq m.index i) refl k (λ h. remove_counts i ns n h e)
+  where
+    go : (b : Bool) → nat_eq m.index i ≡ b → (n ≡ m) ⊎ Among n ns → (Among n ns → length (without_node i ns) + 1 ≡ length ns) → length (cond b ns (m ∷ without_node i ns)) + 1 ≡ length (m ∷ ns)
+    go true d o f = omega arith
+    go false d (inl j) f = absurd (false≢true (sym d ∙ eq-eqb m.index i (ap (λ x. x.index) (sym j) ∙ e)))
+    go false d (inr h) f = let l : length (without_node i ns) + 1 ≡ length ns = f h in omega (arith, l)
+
+-- and where the generation is not 0
+generation_counts : (i : ℕ) (window : List Node) (c : ℕ) → 2 * c + 1 ≡ generation_at window i → length (without_node i window) + 1 ≡ length window
+generation_counts i [] c e = absurd (omega (arith, e))
+generation_counts i (n ∷ ns) c e = go (nat_eq n.index i) refl e (generation_counts i ns c)
+  where
+    go : (b : Bool) → nat_eq n.index i ≡ b → 2 * c + 1 ≡ cond b n.generation (generation_at ns i) → (2 * c + 1 ≡ generation_at ns i → length (without_node i ns) + 1 ≡ length ns) → length (cond b ns (n ∷ without_node i ns)) + 1 ≡ length (n ∷ ns)
+    go true d g f = omega arith
+    go false d g f = let l : length (without_node i ns) + 1 ≡ length ns = f g in omega (arith, l)
+
+-- a node that is found stands in the window
+found : (window : List Node) (τ : Monomial) (n : Node) → node_of window τ ≡ Some n → Among n window
+found [] τ n e = let none : ⊥ = cc in absurd none
+found (m ∷ ns) τ n e = go (same_monomial m.signature τ) e (found ns τ n)
+  where
+    go : (b : Bool) → cond b (Some m) (node_of ns τ) ≡ Some n → (node_of ns τ ≡ Some n → Among n ns) → (n ≡ m) ⊎ Among n ns
+    go true d f = inl (cc)
+    go false d f = inr (f d)
+
+abbrev pub IsCounted : Desk → Type 0
+IsCounted d = (d.claimed ≡ d.committed + d.dropped + d.abandoned + length d.window) × (d.handled ≡ d.committed)
+
+module _ (P : Problem) where
+  advance_counts : {d d' : Desk} → Advances P d d' → IsCounted d → IsCounted d'
+  advance_counts (Advances.at_end f) h = h
+  advance_counts (Advances.no_work f none) h = h
+  advance_counts (Advances.drops {d = d} f τ n w ready not) h = (omega (arith, h.0, remove_counts n.index d.window n (found d.window τ n ready.held) refl), h.1)
+  advance_counts (Advances.commits {d = d} f τ n w ready handles more) h = advance_counts more (omega (arith, h.0, remove_counts n.index d.window n (found d.window τ n ready.held) refl), omega (arith, h.1))
+
+  submit_counts : (d : Desk) (t : Ticket) (w : Work) (answer : Submitted) (d' : Desk) → Submits P d t w answer d' → IsCounted d → IsCounted d'
+  submit_counts d t w answer d' (Submits.is_gone n) h = h
+  submit_counts d t w answer d' (Submits.is_foreign g n) h = h
+  submit_counts d t w answer d' (Submits.is_ahead g p n) h = h
+  submit_counts d t w answer d' (Submits.is_other g p n node i s) h = h
+  submit_counts d t w answer d' (Submits.is_taken g p n node i s) h = (omega (arith, h.0, work_counts t.index w d.window), h.1)
+
+  abandon_counts : (d : Desk) (t : Ticket) → IsGiven t → (d' : Desk) → Abandons d t d' → IsCounted d → IsCounted d'
+  abandon_counts d t given d' (Abandons.is_gone n) h = h
+  abandon_counts d t given d' (Abandons.is_freed g) h = (omega (arith, h.0, generation_counts t.index d.window given.0 (sym given.1 ∙ g)), h.1)
+
+  event_counts : {d d' : Desk} {e : Event} → Does P d e d' → IsCounted d → IsCounted d'
+  event_counts (Does.claims (Claims.is_finished f)) h = h
+  event_counts (Does.claims (Claims.is_none f o)) h = h
+  event_counts {d} (Does.claims (Claims.is_task f i others free few τ first)) h = (omega (arith, h.0, insert_counts (generator_weight P.setting) (record { signature = τ; index = i; generation = 2 * d.claimed + 1; work = None }) d.window), h.1)
+  event_counts {d} {d'} (Does.submits {answer = answer} t given w l s) h = submit_counts d t w answer d' s h
+  event_counts {d} {d'} (Does.abandons t given a) h = abandon_counts d t given d' a h
+  event_counts (Does.advances a) h = advance_counts a h
+
+  play_counts : {d d' : Desk} {events : List Event} → Plays P events d d' → IsCounted d → IsCounted d'
+  play_counts Plays.ends h = h
+  play_counts (Plays.goes e does more) h = play_counts more (event_counts does h)
+
+  pub counted : (capacity : ℕ) {events : List Event} {d : Desk} → Plays P events (open_desk capacity) d → IsCounted d
+  counted capacity plays = play_counts plays (refl, refl)
+
+-- a lawful work over the desk's own state is what handling gives there
+pub own_stands : (P : Problem) → IsField P.setting.prime → {n : ℕ} {state : State} {last : Option Monomial} → SequentialRun P n state last → (w : Work) → IsLawful w → w.problem ≡ P → w.number ≡ n → Handles P.setting state w.signature w.outcome
+own_stands P field {n} {state} {last} run w l p e = go (run_unique P field here run)
+  where
+    here : SequentialRun P n l.state l.last
+    here = subst (λ m. SequentialRun P m l.state l.last) e (subst (λ Q. SequentialRun Q w.number l.state l.last) p l.run)
+
+    go : (l.state ≡ state) × (l.last ≡ last) → Handles P.setting state w.signature w.outcome
+    go t = subst (λ s. Handles P.setting s w.signature w.outcome) t.0 (subst (λ Q. Handles Q.setting l.state w.signature w.outcome) p l.handles)

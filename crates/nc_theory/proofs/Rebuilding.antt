@@ -1,0 +1,136 @@
+-- Entries with a signature of at least τ do not matter at τ, and each listed item is rebuilt from those before it.
+use Rattle.nc_algebra.proofs.Monomials.{monomial_laws}
+use Rattle.nc_algebra.specs.Elements.{IsLess, IsZeroPolynomial, Setting, generator_weight}
+use Rattle.nc_algebra.specs.Monomials.{Monomial, times}
+use Rattle.nc_algebra.specs.Polynomials.{Polynomial}
+use Rattle.nc_algebra.specs.Primes.{IsField}
+use Rattle.nc_algebra.specs.Problems.{Problem}
+use Rattle.nc_algebra.specs.Words.{Word}
+use Rattle.nc_theory.proofs.Completeness.{Invariant, IsReached, invariant, reached_less}
+use Rattle.nc_theory.proofs.Decisions.{less_dec}
+use Rattle.nc_theory.proofs.Determinism.{reduction_unique}
+use Rattle.nc_theory.proofs.Existence.{reduce_exists}
+use Rattle.nc_theory.proofs.Places.{at_most_multiple}
+use Rattle.nc_theory.proofs.Stale.{front_or_later, in_front, reduction_on}
+use Rattle.nc_theory.proofs.Traces.{only_one}
+use Rattle.nc_theory.specs.Divisors.{RegularDivisor}
+use Rattle.nc_theory.specs.Rebuilding.{IsFrom, Rebuilds}
+use Rattle.nc_theory.specs.Reductions.{ReductionAt}
+use Rattle.nc_theory.specs.Runs.{Handles, IsNext, Outcome, SequentialRun, Starts, state_after}
+use Rattle.nc_theory.specs.States.{Entry, Start, State, Step, Syzygy, Trace}
+use Rattle.std.proofs.Common.{Contains, List, Option, Some, [], ap, append-nil, append_assoc, arith, inl, inr, length, length-append, refl, subst, subst₂, sym, ℕ, ◌++◌, ◌<◌, ◌↔◌, ◌∙◌, ◌∷◌, ◌≡◌, ◌≤◌, ◌⊎◌}
+use Rattle.std.proofs.lemmas.List.Elements.{Contains-append_cases, Contains-push_cases}
+
+-- a multiple of an entry with a signature of at least τ has one too
+pub from_not_below : (s : Setting) (τ : Monomial) (e : Entry) (u v : Word) → IsFrom s τ e → IsLess s (times u e.signature v) τ → ⊥
+from_not_below s τ e u v f l = go (at_most_multiple s u v e.signature) f
+  where
+    under : (e.signature ≡ times u e.signature v) ⊎ IsLess s e.signature (times u e.signature v) → IsLess s e.signature τ
+    under (inl i) = subst (λ κ. IsLess s κ τ) (sym i) l
+    under (inr m) = (monomial_laws (generator_weight s)).trans e.signature (times u e.signature v) τ m l
+
+    go : (e.signature ≡ times u e.signature v) ⊎ IsLess s e.signature (times u e.signature v) → (e.signature ≡ τ) ⊎ IsLess s τ e.signature → ⊥
+    go o (inl i) = (monomial_laws (generator_weight s)).irrefl τ (subst (λ κ. IsLess s κ τ) i (under o))
+    go o (inr m) = (monomial_laws (generator_weight s)).irrefl τ ((monomial_laws (generator_weight s)).trans τ e.signature τ m (under o))
+
+module _ (s : Setting) (field : IsField s.prime) (first rest : List Entry) (τ : Monomial) (alive : (e : Entry) → Contains first e → ¬ IsZeroPolynomial s e.polynomial) (lively : (e : Entry) → Contains rest e → ¬ IsZeroPolynomial s e.polynomial) (others : (e : Entry) → Contains rest e → IsFrom s τ e) where
+  pub regular_front : (w : Word) → RegularDivisor s (first ++ rest) τ w ↔ RegularDivisor s first τ w
+  regular_front w = (λ r. go r (front_or_later first rest r.divisor.entry r.divisor.listed), λ r. record { divisor = record { entry = r.divisor.entry; listed = in_front first rest r.divisor.entry r.divisor.listed; left = r.divisor.left; right = r.divisor.right; spells = r.divisor.spells }; below = r.below })
+    where
+      go : (r : RegularDivisor s (first ++ rest) τ w) → ((l : Contains first r.divisor.entry) × (l.0 ≡ r.divisor.listed.0)) ⊎ (Contains rest r.divisor.entry × (length first ≤ r.divisor.listed.0)) → RegularDivisor s first τ w
+      go r (inl (l, e)) = record { divisor = record { entry = r.divisor.entry; listed = l; left = r.divisor.left; right = r.divisor.right; spells = r.divisor.spells }; below = r.below }
+      go r (inr (c, b)) = absurd (from_not_below s τ r.divisor.entry r.divisor.left r.divisor.right (others r.divisor.entry c) r.below)
+
+  all_alive : (e : Entry) → Contains (first ++ rest) e → ¬ IsZeroPolynomial s e.polynomial
+  all_alive e c = elim (Contains-append_cases first rest e c) [ inl k ↦ alive e k | inr k ↦ lively e k ]
+
+  state : State
+  state = record { entries = first; syzygies = []; covered = 0; settled = 0 }
+
+  reduction_forth : {f kept : Polynomial} {steps : List Step} → ReductionAt s first τ f kept steps → ReductionAt s (first ++ rest) τ f kept steps
+  reduction_forth r = reduction_on s field (record { entries = first; syzygies = []; covered = 0; settled = 0 }) alive rest [] 0 0 τ r (λ x nz n. from_not_below s τ n.0.divisor.entry n.0.divisor.left n.0.divisor.right (others n.0.divisor.entry n.1) n.0.below)
+
+  reduction_back : {f kept : Polynomial} {steps : List Step} → ReductionAt s (first ++ rest) τ f kept steps → ReductionAt s first τ f kept steps
+  reduction_back {f} {kept} {steps} r = go (reduce_exists s field first alive (λ σ. IsLess s σ τ) (λ σ. less_dec s σ τ) f)
+    where
+      go : (kept' : Polynomial) × (steps' : List Step) × ReductionAt s first τ f kept' steps' → ReductionAt s first τ f kept steps
+      go (kept', steps', r') = let t : (kept' ≡ kept) × (steps' ≡ steps) = reduction_unique s field (first ++ rest) all_alive (λ σ. IsLess s σ τ) (reduction_forth r') r (record { at = λ w. refl }) in subst₂ (ReductionAt s first τ f) t.0 t.1 r'
+
+  pub reduction_front : (f kept : Polynomial) (steps : List Step) → ReductionAt s (first ++ rest) τ f kept steps ↔ ReductionAt s first τ f kept steps
+  reduction_front f kept steps = (reduction_back, reduction_forth)
+
+-- ---- runs
+
+-- one more entry behind does not matter
+more : (s : Setting) (entries : List Entry) (σ : Monomial) (trace : Trace) (result : Polynomial) → Rebuilds s entries σ trace result → (new : Entry) → IsFrom s σ new → Rebuilds s (entries ++ (new ∷ [])) σ trace result
+more s entries σ trace result r new f = record { first = r.first; rest = r.rest ++ (new ∷ []); splits = ap (λ l. l ++ (new ∷ [])) r.splits ∙ append_assoc r.first r.rest (new ∷ []); lesser = r.lesser; others = λ e c. go e (Contains-push_cases r.rest new e c); start = r.start; starts = r.starts; reduces = r.reduces }
+  where
+    go : (e : Entry) → Contains r.rest e ⊎ (new ≡ e) → IsFrom s σ e
+    go e (inl c) = r.others e c
+    go e (inr i) = subst (IsFrom s σ) i f
+
+-- a list that ascends still does with a greater element behind
+ascend_push : {X : Type 0} (s : Setting) (sig : X → Monomial) (xs : List X) (new : X) → ((x y : X) (k : Contains xs x) (l : Contains xs y) → k.0 < l.0 → IsLess s (sig x) (sig y)) → ((x : X) → Contains xs x → IsLess s (sig x) (sig new)) → (x y : X) (k : Contains (xs ++ (new ∷ [])) x) (l : Contains (xs ++ (new ∷ [])) y) → k.0 < l.0 → IsLess s (sig x) (sig y)
+ascend_push s sig xs new old below x y k l m = go (front_or_later xs (new ∷ []) x k) (front_or_later xs (new ∷ []) y l)
+  where
+    go : ((k' : Contains xs x) × (k'.0 ≡ k.0)) ⊎ (Contains (new ∷ []) x × (length xs ≤ k.0)) → ((l' : Contains xs y) × (l'.0 ≡ l.0)) ⊎ (Contains (new ∷ []) y × (length xs ≤ l.0)) → IsLess s (sig x) (sig y)
+    go (inl (k', e)) (inl (l', d)) = old x y k' l' (omega (arith, e, d, m))
+    go (inl (k', e)) (inr (c, b)) = subst (λ z. IsLess s (sig x) (sig z)) (only_one new y c) (below x k')
+    go (inr (c, b)) o = absurd (omega (arith, b, m, l.1, length-append xs (new ∷ [])))
+
+pub record Rebuilt (P : Problem) (state : State) (last : Option Monomial) : Type 0 where
+  pub entries : (e : Entry) → Contains state.entries e → Rebuilds P.setting state.entries e.signature e.trace e.polynomial
+  pub syzygies : (h : Syzygy) → Contains state.syzygies h → Rebuilds P.setting state.entries h.signature h.trace []
+  pub reached : (h : Syzygy) → Contains state.syzygies h → IsReached P.setting last h.signature
+  pub entries_ascend : (e e' : Entry) (k : Contains state.entries e) (k' : Contains state.entries e') → k.0 < k'.0 → IsLess P.setting e.signature e'.signature
+  pub syzygies_ascend : (h h' : Syzygy) (k : Contains state.syzygies h) (k' : Contains state.syzygies h') → k.0 < k'.0 → IsLess P.setting h.signature h'.signature
+
+module _ (P : Problem) (field : IsField P.setting.prime) (state : State) (last : Option Monomial) (inv : Invariant P state last) (old : Rebuilt P state last) (τ : Monomial) (next : IsNext P state last τ) where
+  below : (e : Entry) → Contains state.entries e → IsLess P.setting e.signature τ
+  below e c = reached_less P last e.signature τ (inv.below_last e c) next.left
+
+  below' : (h : Syzygy) → Contains state.syzygies h → IsLess P.setting h.signature τ
+  below' h c = reached_less P last h.signature τ (old.reached h c) next.left
+
+  still : (h : Syzygy) → Contains state.syzygies h → IsReached P.setting (Some τ) h.signature
+  still h c = inr (below' h c)
+
+  now : {f result : Polynomial} {start : Start} {steps : List Step} → Starts P.setting state.entries τ f start → ReductionAt P.setting state.entries τ f result steps → Rebuilds P.setting state.entries τ (record { start = start; steps = steps }) result
+  now {f} starts reduction = record { first = state.entries; rest = []; splits = sym (append-nil state.entries); lesser = below; others = λ e c. absurd (omega (arith, c.1)); start = f; starts = starts; reduces = reduction }
+
+  rebuilt_step : {o : Outcome} → Handles P.setting state τ o → Rebuilt P (state_after state τ o) (Some τ)
+  rebuilt_step (Handles.is_covered k) = record { entries = old.entries; syzygies = old.syzygies; reached = still; entries_ascend = old.entries_ascend; syzygies_ascend = old.syzygies_ascend }
+  rebuilt_step (Handles.is_settled n u w d b m) = record { entries = old.entries; syzygies = old.syzygies; reached = still; entries_ascend = old.entries_ascend; syzygies_ascend = old.syzygies_ascend }
+  rebuilt_step (Handles.is_syzygy n {start = start} {steps = steps} starts reduction) = record {
+    entries = old.entries;
+    syzygies = λ h c. each h (Contains-push_cases state.syzygies new h c);
+    reached = λ h c. reach h (Contains-push_cases state.syzygies new h c);
+    entries_ascend = old.entries_ascend;
+    syzygies_ascend = ascend_push P.setting (λ h. h.signature) state.syzygies new old.syzygies_ascend below';
+  }
+    where
+      new : Syzygy
+      new = record { signature = τ; trace = record { start = start; steps = steps } }
+
+      each : (h : Syzygy) → Contains state.syzygies h ⊎ (new ≡ h) → Rebuilds P.setting state.entries h.signature h.trace []
+      each h (inl c) = old.syzygies h c
+      each h (inr i) = subst (λ g. Rebuilds P.setting state.entries g.signature g.trace []) i (now starts reduction)
+
+      reach : (h : Syzygy) → Contains state.syzygies h ⊎ (new ≡ h) → IsReached P.setting (Some τ) h.signature
+      reach h (inl c) = still h c
+      reach h (inr i) = inl (ap (λ g. g.signature) (sym i))
+  rebuilt_step (Handles.is_entry n {kept = kept} {t = t} {start = start} {steps = steps} starts reduction) = record {
+    entries = λ e c. each e (Contains-push_cases state.entries (record { signature = τ; polynomial = t ∷ kept; trace = record { start = start; steps = steps } }) e c);
+    syzygies = λ h c. more P.setting state.entries h.signature h.trace [] (old.syzygies h c) (record { signature = τ; polynomial = t ∷ kept; trace = record { start = start; steps = steps } }) (inr (below' h c));
+    reached = still;
+    entries_ascend = ascend_push P.setting (λ e. e.signature) state.entries (record { signature = τ; polynomial = t ∷ kept; trace = record { start = start; steps = steps } }) old.entries_ascend below;
+    syzygies_ascend = old.syzygies_ascend;
+  }
+    where
+      each : (e : Entry) → Contains state.entries e ⊎ (record { signature = τ; polynomial = t ∷ kept; trace = record { start = start; steps = steps } } ≡ e) → Rebuilds P.setting (state.entries ++ (record { signature = τ; polynomial = t ∷ kept; trace = record { start = start; steps = steps } } ∷ [])) e.signature e.trace e.polynomial
+      each e (inl c) = more P.setting state.entries e.signature e.trace e.polynomial (old.entries e c) (record { signature = τ; polynomial = t ∷ kept; trace = record { start = start; steps = steps } }) (inr (below e c))
+      each e (inr i) = subst (λ g. Rebuilds P.setting (state.entries ++ (record { signature = τ; polynomial = t ∷ kept; trace = record { start = start; steps = steps } } ∷ [])) g.signature g.trace g.polynomial) i (more P.setting state.entries τ (record { start = start; steps = steps }) (t ∷ kept) (now starts reduction) (record { signature = τ; polynomial = t ∷ kept; trace = record { start = start; steps = steps } }) (inl refl))
+
+pub rebuilt : (P : Problem) → IsField P.setting.prime → {n : ℕ} {state : State} {last : Option Monomial} → SequentialRun P n state last → Rebuilt P state last
+rebuilt P field SequentialRun.opened = record { entries = λ e c. absurd (omega (arith, c.1)); syzygies = λ h c. absurd (omega (arith, c.1)); reached = λ h c. absurd (omega (arith, c.1)); entries_ascend = λ e e' k k' l. absurd (omega (arith, k.1)); syzygies_ascend = λ e e' k k' l. absurd (omega (arith, k.1)) }
+rebuilt P field (SequentialRun.handled {state = state} {last = last} run τ next o h) = rebuilt_step P field state last (invariant P field run) (rebuilt P field run) τ next h
