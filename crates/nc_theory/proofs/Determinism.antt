@@ -46,7 +46,7 @@ module _ (s : Setting) (field : IsField s.prime) (entries : List Entry) where
   multiple_same : (w : Word) (d e : Divisor s entries w) → d.listed.0 ≡ e.listed.0 → d.left ≡ e.left → multiple_at s entries w d ≡ multiple_at s entries w e
   multiple_same w d e k l = let t : (d.entry ≡ e.entry) × (d.right ≡ e.right) = parts_same w d e k l in (λ i. polynomial_times (l i) (t.0 i).polynomial (t.1 i))
 
-  chosen_same : (set : Monomial → Type 0) (w : Word) (d e : Divisor s entries w) → IsChosenDivisor s entries set w d → IsChosenDivisor s entries set w e → (d.listed.0 ≡ e.listed.0) × (d.left ≡ e.left)
+  pub chosen_same : (set : Monomial → Type 0) (w : Word) (d e : Divisor s entries w) → IsChosenDivisor s entries set w d → IsChosenDivisor s entries set w e → (d.listed.0 ≡ e.listed.0) × (d.left ≡ e.left)
   chosen_same set w d e c c' = go (c.least e c'.allowed) (c'.least d c.allowed)
     where
       go : (d.listed.0 + 1 < e.listed.0 + 1) ⊎ ((d.listed.0 + 1 ≡ e.listed.0 + 1) × (length d.left ≤ length e.left)) → (e.listed.0 + 1 < d.listed.0 + 1) ⊎ ((e.listed.0 + 1 ≡ d.listed.0 + 1) × (length e.left ≤ length d.left)) → (d.listed.0 ≡ e.listed.0) × (d.left ≡ e.left)

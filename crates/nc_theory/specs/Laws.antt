@@ -9,7 +9,7 @@ use Rattle.nc_algebra.specs.Primes.{IsPrime}
 use Rattle.nc_algebra.specs.Words.{Letter, Word}
 use Rattle.nc_theory.specs.Bases.{HasRepresentation, IsBasisBelow, IsCanonical, IsClosed, IsSound, IsSyzygyBasisBelow}
 use Rattle.nc_theory.specs.Desk.{Desk, Event, IsLawful, Plays, Work, open_desk}
-use Rattle.nc_theory.specs.Divisors.{Divisor, RegularDivisor, multiple_at, signature_at}
+use Rattle.nc_theory.specs.Divisors.{Divisor, IsChosenDivisor, RegularDivisor, multiple_at, number_of, signature_at}
 use Rattle.nc_theory.specs.Labels.{label_at, labels_of, step_multiples, trace_label}
 use Rattle.nc_theory.specs.Letters.{AreOver}
 use Rattle.nc_theory.specs.Rebuilding.{IsFrom, Rebuilds}
@@ -169,8 +169,11 @@ OutcomesExist = OfEachRun (λ P n state last. (τ : Monomial) → IsCandidate P 
 abbrev pub TrivialSyzygyLaw : Type 0
 TrivialSyzygyLaw = (s : Setting) (entries : List Entry) (τ : Monomial) → ((ρ : Monomial) × TrivialSyzygy s entries ρ × Divides ρ τ) ↔ ApartAt s entries τ
 
--- in the set each polynomial has one reduction: what is kept is a normal list, and equal polynomials have equal results
+-- in the set each word that has a divisor has one that is chosen, and one alone, and each polynomial has one reduction: what is kept is in
+-- normal form, and equal polynomials have equal results
 pub record ReducesOnce (s : Setting) (entries : List Entry) (set : Monomial → Type 0) : Type 0 where
+  pub chosen : (w : Word) → ((d : Divisor s entries w) × IsChosenDivisor s entries set w d) ⊎ ((d : Divisor s entries w) → ¬ set (signature_at s entries w d))
+  pub one : (w : Word) (d e : Divisor s entries w) → IsChosenDivisor s entries set w d → IsChosenDivisor s entries set w e → (number_of s entries w d ≡ number_of s entries w e) × (d.left ≡ e.left) × (d.right ≡ e.right)
   pub exists : (f : Polynomial) → (kept : Polynomial) × (steps : List Step) × Reduction s entries set f kept steps
   pub normal : (f kept : Polynomial) (steps : List Step) → Reduction s entries set f kept steps → IsNormal s.prime kept
   pub unique : (f f' kept kept' : Polynomial) (steps steps' : List Step) → SamePolynomial s f f' → Reduction s entries set f kept steps → Reduction s entries set f' kept' steps' → (kept ≡ kept') × (steps ≡ steps')
