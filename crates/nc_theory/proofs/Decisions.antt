@@ -54,7 +54,7 @@ ends a b = go (nat_order (length a) (length b))
     go (inr (inl e)) = at 0 (omega (arith, e))
     go (inr (inr l)) = inr (λ t. omega (arith, l, ap length t.1, length-append t.0 a))
 
-nat_dec : (a b : ℕ) → Decided (a ≡ b)
+pub nat_dec : (a b : ℕ) → Decided (a ≡ b)
 nat_dec a b = go (nat_order a b)
   where
     go : (a < b) ⊎ ((a ≡ b) ⊎ (b < a)) → Decided (a ≡ b)

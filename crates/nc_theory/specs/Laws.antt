@@ -143,6 +143,10 @@ StepLimit = (P : Problem) → IsPrime P.setting.prime → (letters : List Letter
 abbrev pub SnapshotLaw : Type 0
 SnapshotLaw = (P : Problem) (capacity : ℕ) (events : List Event) (d : Desk) → Plays P events (open_desk capacity) d → SequentialRun P d.handled d.state d.last
 
+-- each list of events has a play
+abbrev pub PlaysExist : Type 0
+PlaysExist = (P : Problem) → IsPrime P.setting.prime → (capacity : ℕ) (events : List Event) → (d : Desk) × Plays P events (open_desk capacity) d
+
 -- a list of events leaves one desk
 abbrev pub PlaysAreDetermined : Type 0
 PlaysAreDetermined = (P : Problem) (events : List Event) (d a b : Desk) → Plays P events d a → Plays P events d b → a ≡ b
