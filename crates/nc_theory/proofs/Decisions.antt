@@ -32,6 +32,12 @@ any P dec (x ∷ xs) = go (dec x) (any P dec xs)
         here t (inl c) = n (subst P (sym (only_one x t.0 c)) t.2)
         here t (inr c) = m (t.0, c, t.2)
 
+-- both of two facts
+pub pair_dec : {A B : Type 0} → Decided A → Decided B → Decided (A × B)
+pair_dec (inl a) (inl b) = inl (a, b)
+pair_dec (inr n) o = inr (λ t. n t.0)
+pair_dec (inl a) (inr n) = inr (λ t. n t.1)
+
 pub word_dec : (u v : Word) → Decided (u ≡ v)
 word_dec u v = key_dec same_word (λ a b. IsWordLess a b) word_laws u v
 

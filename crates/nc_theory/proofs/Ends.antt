@@ -10,7 +10,7 @@ use Rattle.nc_algebra.specs.Primes.{IsField}
 use Rattle.nc_algebra.specs.Problems.{Bound, IsInBound, IsWithin, Problem}
 use Rattle.nc_algebra.specs.Words.{Word}
 use Rattle.nc_theory.proofs.Completeness.{invariant}
-use Rattle.nc_theory.proofs.Decisions.{best_exists, covered_dec, less_dec, regular_dec, word_dec}
+use Rattle.nc_theory.proofs.Decisions.{best_exists, covered_dec, less_dec, pair_dec, regular_dec, word_dec}
 use Rattle.nc_theory.proofs.Determinism.{fronts_same, next_unique, run_unique}
 use Rattle.nc_theory.proofs.Existence.{reduce_exists}
 use Rattle.nc_theory.proofs.Traces.{only_one}
@@ -413,13 +413,8 @@ module _ (P : Problem) (state : State) (last : Option Monomial) where
 
   -- of the waiting signatures with a property there is a least, or none has it
   pub first_with : (Q : Monomial → Type 0) → ((σ : Monomial) → Decided (Q σ)) → ((τ : Monomial) × IsWaiting P state last τ × Q τ × ((σ : Monomial) → IsWaiting P state last σ → Q σ → (σ ≡ τ) ⊎ IsLess P.setting τ σ)) ⊎ ((τ : Monomial) → IsWaiting P state last τ → ¬ Q τ)
-  first_with Q dec = go (pick P.setting state.entries (λ σ. Good σ × Q σ) (λ σ. with_dec (good_dec σ) (dec σ)) all)
+  first_with Q dec = go (pick P.setting state.entries (λ σ. Good σ × Q σ) (λ σ. pair_dec (good_dec σ) (dec σ)) all)
     where
-      with_dec : {A B : Type 0} → Decided A → Decided B → Decided (A × B)
-      with_dec (inl a) (inl b) = inl (a, b)
-      with_dec (inr n) o = inr (λ t. n t.0)
-      with_dec (inl a) (inr n) = inr (λ t. n t.1)
-
       go : ((x : Found P.setting state.entries) × (Good x.0 × Q x.0) × ((y : Found P.setting state.entries) → Contains all y → Good y.0 × Q y.0 → (y.0 ≡ x.0) ⊎ IsLess P.setting x.0 y.0)) ⊎ ((y : Found P.setting state.entries) → Contains all y → ¬ (Good y.0 × Q y.0)) → ((τ : Monomial) × IsWaiting P state last τ × Q τ × ((σ : Monomial) → IsWaiting P state last σ → Q σ → (σ ≡ τ) ⊎ IsLess P.setting τ σ)) ⊎ ((τ : Monomial) → IsWaiting P state last τ → ¬ Q τ)
       go (inl (x, g, best)) = inl (x.0, ((g.0.0, x.1), g.0.1), g.1, λ σ c q. at σ c q (in_all σ c.0))
         where

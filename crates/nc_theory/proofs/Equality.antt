@@ -8,25 +8,18 @@ use Rattle.nc_algebra.specs.Polynomials.{Polynomial}
 use Rattle.nc_algebra.specs.Problems.{Bound, Problem}
 use Rattle.nc_algebra.specs.Sums.{Term}
 use Rattle.nc_algebra.specs.Words.{Word}
-use Rattle.nc_theory.proofs.Decisions.{nat_dec, word_dec}
+use Rattle.nc_theory.proofs.Decisions.{nat_dec, pair_dec, word_dec}
 use Rattle.nc_theory.specs.Runs.{Outcome}
 use Rattle.nc_theory.specs.States.{Start, Step, Trace}
 use Rattle.std.proofs.Common.{List, [], ap, inl, inr, refl, ◌∷◌, ◌≡◌}
 
--- of two facts, and of a fact that they make up
-pair_dec : {A B : Type 0} → Decided A → Decided B → Decided (A × B)
-pair_dec (inl a) (inl b) = inl (a, b)
-pair_dec (inr n) o = inr (λ t. n t.0)
-pair_dec (inl a) (inr n) = inr (λ t. n t.1)
-
-both : {A B C : Type 0} → Decided A → Decided B → (A → B → C) → (C → A) → (C → B) → Decided C
-both (inl a) (inl b) join first second = inl (join a b)
-both (inr n) o join first second = inr (λ c. n (first c))
-both (inl a) (inr n) join first second = inr (λ c. n (second c))
-
+-- a fact that one or two others make up
 one : {A C : Type 0} → Decided A → (A → C) → (C → A) → Decided C
 one (inl a) join first = inl (join a)
 one (inr n) join first = inr (λ c. n (first c))
+
+both : {A B C : Type 0} → Decided A → Decided B → (A → B → C) → (C → A) → (C → B) → Decided C
+both a b join first second = one (pair_dec a b) (λ t. join t.0 t.1) (λ c. (first c, second c))
 
 list_dec : {X : Type 0} → ((x y : X) → Decided (x ≡ y)) → (xs ys : List X) → Decided (xs ≡ ys)
 list_dec dec [] [] = inl refl

@@ -26,7 +26,7 @@ node_there (n ∷ ns) i c e = go (nat_eq n.index i) e (node_there ns i c)
     go false e f = f e
 
 module _ (P : Problem) where
-  held_dec : (d : Desk) (τ : Monomial) → Decided (IsHeld d τ)
+  pub held_dec : (d : Desk) (τ : Monomial) → Decided (IsHeld d τ)
   held_dec d τ = any (λ n. n.signature ≡ τ) (λ n. monomial_dec n.signature τ) d.window
 
   finished_dec : (d : Desk) → Decided (IsFinished P d)
