@@ -32,6 +32,12 @@ any P dec (x ∷ xs) = go (dec x) (any P dec xs)
         here t (inl c) = n (subst P (sym (only_one x t.0 c)) t.2)
         here t (inr c) = m (t.0, c, t.2)
 
+-- both of two facts
+pub pair_dec : {A B : Type 0} → Decided A → Decided B → Decided (A × B)
+pair_dec (inl a) (inl b) = inl (a, b)
+pair_dec (inr n) o = inr (λ t. n t.0)
+pair_dec (inl a) (inr n) = inr (λ t. n t.1)
+
 pub word_dec : (u v : Word) → Decided (u ≡ v)
 word_dec u v = key_dec same_word (λ a b. IsWordLess a b) word_laws u v
 
@@ -54,7 +60,7 @@ ends a b = go (nat_order (length a) (length b))
     go (inr (inl e)) = at 0 (omega (arith, e))
     go (inr (inr l)) = inr (λ t. omega (arith, l, ap length t.1, length-append t.0 a))
 
-nat_dec : (a b : ℕ) → Decided (a ≡ b)
+pub nat_dec : (a b : ℕ) → Decided (a ≡ b)
 nat_dec a b = go (nat_order a b)
   where
     go : (a < b) ⊎ ((a ≡ b) ⊎ (b < a)) → Decided (a ≡ b)

@@ -18,7 +18,7 @@ module _ (P : Problem) where
   abbrev pub IsAtRun : Desk → Type 0
   IsAtRun d = SequentialRun P d.handled d.state d.last
 
-  advance_runs : {d d' : Desk} → Advances P d d' → IsAtRun d → IsAtRun d'
+  pub advance_runs : {d d' : Desk} → Advances P d d' → IsAtRun d → IsAtRun d'
   advance_runs (Advances.at_end f) run = run
   advance_runs (Advances.no_work f none) run = run
   advance_runs (Advances.drops f τ n w ready not) run = run
@@ -35,7 +35,7 @@ module _ (P : Problem) where
   abandon_runs d t d' (Abandons.is_gone n) run = run
   abandon_runs d t d' (Abandons.is_freed g) run = run
 
-  event_runs : {d d' : Desk} {e : Event} → Does P d e d' → IsAtRun d → IsAtRun d'
+  pub event_runs : {d d' : Desk} {e : Event} → Does P d e d' → IsAtRun d → IsAtRun d'
   event_runs (Does.claims (Claims.is_finished f)) run = run
   event_runs (Does.claims (Claims.is_none f o)) run = run
   event_runs (Does.claims (Claims.is_task f i others free few τ first)) run = run
@@ -69,7 +69,7 @@ work_counts i w (n ∷ ns) = go (nat_eq n.index i) (work_counts i w ns)
     go false e = omega (arith, e)
 
 -- a node is taken out, where one has the index
-remove_counts : (i : ℕ) (window : List Node) (n : Node) → Among n window → n.index ≡ i → length (without_node i window) + 1 ≡ length window
+pub remove_counts : (i : ℕ) (window : List Node) (n : Node) → Among n window → n.index ≡ i → length (without_node i window) + 1 ≡ length window
 remove_counts i [] n k e = absurd k
 remove_counts i (m ∷ ns) n k e = go (nat_eq m.index i) refl k (λ h. remove_counts i ns n h e)
   where
@@ -88,7 +88,7 @@ generation_counts i (n ∷ ns) c e = go (nat_eq n.index i) refl e (generation_co
     go false d g f = let l : length (without_node i ns) + 1 ≡ length ns = f g in omega (arith, l)
 
 -- a node that is found stands in the window
-found : (window : List Node) (τ : Monomial) (n : Node) → node_of window τ ≡ Some n → Among n window
+pub found : (window : List Node) (τ : Monomial) (n : Node) → node_of window τ ≡ Some n → Among n window
 found [] τ n e = let none : ⊥ = cc in absurd none
 found (m ∷ ns) τ n e = go (same_monomial m.signature τ) e (found ns τ n)
   where

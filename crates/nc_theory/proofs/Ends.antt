@@ -10,14 +10,14 @@ use Rattle.nc_algebra.specs.Primes.{IsField}
 use Rattle.nc_algebra.specs.Problems.{Bound, IsInBound, IsWithin, Problem}
 use Rattle.nc_algebra.specs.Words.{Word}
 use Rattle.nc_theory.proofs.Completeness.{invariant}
-use Rattle.nc_theory.proofs.Decisions.{best_exists, covered_dec, less_dec, regular_dec, word_dec}
+use Rattle.nc_theory.proofs.Decisions.{best_exists, covered_dec, less_dec, pair_dec, regular_dec, word_dec}
 use Rattle.nc_theory.proofs.Determinism.{fronts_same, next_unique, run_unique}
 use Rattle.nc_theory.proofs.Existence.{reduce_exists}
 use Rattle.nc_theory.proofs.Traces.{only_one}
 use Rattle.nc_theory.specs.Ambiguities.{Ambiguity}
 use Rattle.nc_theory.specs.Divisors.{Divisor, IsBestMultiple, Multiple, RegularDivisor}
 use Rattle.nc_theory.specs.Reductions.{Reduction}
-use Rattle.nc_theory.specs.Runs.{End, Handles, IsAfter, IsCandidate, IsEnd, IsNext, Outcome, SequentialRun, Starts, state_after, opening}
+use Rattle.nc_theory.specs.Runs.{End, Handles, IsAfter, IsCandidate, IsEnd, IsNext, IsWaiting, Outcome, SequentialRun, Starts, state_after, opening}
 use Rattle.nc_theory.specs.States.{Entry, Start, State, Step}
 use Rattle.nc_theory.specs.Syzygies.{Covered}
 use Rattle.std.proofs.lemmas.List.Elements.{Contains-append_cases, Contains-append_left, Contains-append_right}
@@ -411,19 +411,27 @@ module _ (P : Problem) (state : State) (last : Option Monomial) where
   in_all σ (within, inl (i, e)) = let g : σ.generator ≡ i = ap (λ ρ. ρ.generator) e in let t : (x : Found P.setting state.entries) × Contains (units P.setting state.entries (length P.setting.generators)) x × (x.0 ≡ unit_monomial i) = in_units P.setting state.entries (length P.setting.generators) i (omega (arith, within.0.0, g)) (omega (arith, within.0.1, g)) in (t.0, Contains-append_right (all_pairs P.setting state.entries) (units P.setting state.entries (length P.setting.generators)) t.0 t.1, t.2 ∙ sym e)
   in_all σ (within, inr (w, amb)) = let t : (x : Found P.setting state.entries) × Contains (all_pairs P.setting state.entries) x × (x.0 ≡ σ) = in_all_pairs P.setting state.entries σ w amb in (t.0, Contains-append_left (all_pairs P.setting state.entries) (units P.setting state.entries (length P.setting.generators)) t.0 t.1, t.2)
 
+  -- of the waiting signatures with a property there is a least, or none has it
+  pub first_with : (Q : Monomial → Type 0) → ((σ : Monomial) → Decided (Q σ)) → ((τ : Monomial) × IsWaiting P state last τ × Q τ × ((σ : Monomial) → IsWaiting P state last σ → Q σ → (σ ≡ τ) ⊎ IsLess P.setting τ σ)) ⊎ ((τ : Monomial) → IsWaiting P state last τ → ¬ Q τ)
+  first_with Q dec = go (pick P.setting state.entries (λ σ. Good σ × Q σ) (λ σ. pair_dec (good_dec σ) (dec σ)) all)
+    where
+      go : ((x : Found P.setting state.entries) × (Good x.0 × Q x.0) × ((y : Found P.setting state.entries) → Contains all y → Good y.0 × Q y.0 → (y.0 ≡ x.0) ⊎ IsLess P.setting x.0 y.0)) ⊎ ((y : Found P.setting state.entries) → Contains all y → ¬ (Good y.0 × Q y.0)) → ((τ : Monomial) × IsWaiting P state last τ × Q τ × ((σ : Monomial) → IsWaiting P state last σ → Q σ → (σ ≡ τ) ⊎ IsLess P.setting τ σ)) ⊎ ((τ : Monomial) → IsWaiting P state last τ → ¬ Q τ)
+      go (inl (x, g, best)) = inl (x.0, ((g.0.0, x.1), g.0.1), g.1, λ σ c q. at σ c q (in_all σ c.0))
+        where
+          at : (σ : Monomial) → IsWaiting P state last σ → Q σ → (y : Found P.setting state.entries) × Contains all y × (y.0 ≡ σ) → (σ ≡ x.0) ⊎ IsLess P.setting x.0 σ
+          at σ c q (y, k, e) = subst (λ q. (q ≡ x.0) ⊎ IsLess P.setting x.0 q) e (best y k (subst (λ ρ. Good ρ × Q ρ) (sym e) ((c.0.0, c.1), q)))
+      go (inr none) = inr (λ τ c q. at τ c q (in_all τ c.0))
+        where
+          at : (τ : Monomial) → IsWaiting P state last τ → Q τ → (y : Found P.setting state.entries) × Contains all y × (y.0 ≡ τ) → ⊥
+          at τ c q (y, k, e) = none y k (subst (λ ρ. Good ρ × Q ρ) (sym e) ((c.0.0, c.1), q))
+
   -- a least candidate is left, or none is
   pub next_exists : ((τ : Monomial) × IsNext P state last τ) ⊎ ((τ : Monomial) → IsCandidate P state τ → ¬ IsAfter P last τ)
-  next_exists = go (pick P.setting state.entries Good good_dec all)
+  next_exists = go (first_with (λ σ. Unit {0}) (λ σ. inl tt))
     where
-      go : ((x : Found P.setting state.entries) × Good x.0 × ((y : Found P.setting state.entries) → Contains all y → Good y.0 → (y.0 ≡ x.0) ⊎ IsLess P.setting x.0 y.0)) ⊎ ((y : Found P.setting state.entries) → Contains all y → ¬ Good y.0) → ((τ : Monomial) × IsNext P state last τ) ⊎ ((τ : Monomial) → IsCandidate P state τ → ¬ IsAfter P last τ)
-      go (inl (x, g, best)) = inl (x.0, record { candidate = (g.0, x.1); left = g.1; least = λ σ c l. at σ c l (in_all σ c) })
-        where
-          at : (σ : Monomial) → IsCandidate P state σ → IsAfter P last σ → (y : Found P.setting state.entries) × Contains all y × (y.0 ≡ σ) → (σ ≡ x.0) ⊎ IsLess P.setting x.0 σ
-          at σ c l (y, k, e) = subst (λ q. (q ≡ x.0) ⊎ IsLess P.setting x.0 q) e (best y k (subst Good (sym e) (c.0, l)))
-      go (inr none) = inr (λ τ c l. at τ c l (in_all τ c))
-        where
-          at : (τ : Monomial) → IsCandidate P state τ → IsAfter P last τ → (y : Found P.setting state.entries) × Contains all y × (y.0 ≡ τ) → ⊥
-          at τ c l (y, k, e) = none y k (subst Good (sym e) (c.0, l))
+      go : ((τ : Monomial) × IsWaiting P state last τ × Unit {0} × ((σ : Monomial) → IsWaiting P state last σ → Unit {0} → (σ ≡ τ) ⊎ IsLess P.setting τ σ)) ⊎ ((τ : Monomial) → IsWaiting P state last τ → ¬ Unit {0}) → ((τ : Monomial) × IsNext P state last τ) ⊎ ((τ : Monomial) → IsCandidate P state τ → ¬ IsAfter P last τ)
+      go (inl (τ, w, q, least)) = inl (τ, record { candidate = w.0; left = w.1; least = λ σ c l. least σ (c, l) tt })
+      go (inr none) = inr (λ τ c l. none τ (c, l) tt)
 
 module _ (P : Problem) (field : IsField P.setting.prime) where
   Run : ℕ → Type 0

@@ -18,6 +18,7 @@ use Rattle.nc_theory.specs.Runs.{End, NewWith, Handles, IsCandidate, IsEnd, IsNe
 use Rattle.nc_theory.specs.Stale.{Extension, Unaffected}
 use Rattle.nc_theory.specs.States.{Entry, Start, State, Step, Syzygy}
 use Rattle.nc_theory.specs.Syzygies.{ApartAt, TrivialSyzygy}
+use Rattle.nc_theory.specs.Windows.{WindowLaw}
 use Rattle.std.specs.Prelude.{Contains, List, Option, Some, [], length, ℕ, ◌++◌, ◌+◌, ◌<◌, ◌↔◌, ◌≡◌, ◌≢◌, ◌≤◌, ◌⊎◌}
 
 -- something that holds of each state that a run reaches, over a prime
@@ -143,9 +144,17 @@ StepLimit = (P : Problem) → IsPrime P.setting.prime → (letters : List Letter
 abbrev pub SnapshotLaw : Type 0
 SnapshotLaw = (P : Problem) (capacity : ℕ) (events : List Event) (d : Desk) → Plays P events (open_desk capacity) d → SequentialRun P d.handled d.state d.last
 
+-- each list of events has a play
+abbrev pub PlaysExist : Type 0
+PlaysExist = (P : Problem) → IsPrime P.setting.prime → (capacity : ℕ) (events : List Event) → (d : Desk) × Plays P events (open_desk capacity) d
+
 -- a list of events leaves one desk
 abbrev pub PlaysAreDetermined : Type 0
 PlaysAreDetermined = (P : Problem) (events : List Event) (d a b : Desk) → Plays P events d a → Plays P events d b → a ≡ b
+
+-- for every list of events the window is as it should be
+abbrev pub WindowsAreKept : Type 0
+WindowsAreKept = (P : Problem) → IsPrime P.setting.prime → (capacity : ℕ) (events : List Event) (d : Desk) → Plays P events (open_desk capacity) d → WindowLaw P capacity d
 
 -- each claim was committed, dropped, given up or is still held
 abbrev pub DeskCounts : Type 0
