@@ -1,12 +1,11 @@
 -- The laws that the functions of this crate carry.
 use Rattle.nc_algebra.specs.Certificates.{IsValid, rest_of}
-use Rattle.nc_algebra.specs.Elements.{degree, IsLabelled, IsLess, Setting, WeighsAtMost, generator_weight}
+use Rattle.nc_algebra.specs.Elements.{degree, Element, IsLabelled, IsLess, Setting, WeighsAtMost, generator_weight}
 use Rattle.nc_algebra.specs.Finite.{IsDistinct, IsOver, monomials_within}
 use Rattle.nc_algebra.specs.Problems.{Bound, IsWithinBound}
 use Rattle.nc_algebra.specs.Monomials.{Monomial, above_degree, compare_monomials, compare_sigs, sig_of, sig_times, times}
 use Rattle.nc_algebra.specs.Orders.{Compares}
 use Rattle.nc_algebra.specs.Polynomials.{IsNormal, Polynomial, normal_form}
-use Rattle.nc_algebra.specs.Elements.{Element}
 use Rattle.nc_algebra.specs.Primes.{IsPrime, IsZero}
 use Rattle.nc_algebra.specs.Sums.{SameSum}
 use Rattle.nc_algebra.specs.Words.{IsWordLess, Letter, OccursAt, Word, compare_words, same_word, word_weight}
