@@ -222,7 +222,7 @@ module _ (P : Problem) (field : IsField P.setting.prime) (state : State) (last :
     ambiguities = ambiguities_step Outcome.covered (λ w amb. inl (covered_after P.setting state τ Outcome.covered τ k));
   }
 
-  -- Settled: the best multiple has a lesser word than each ambiguity
+  -- where it is settled, the best multiple has a lesser word than each ambiguity
   step_settled : (j : ℕ) → ((i : ℕ) → τ ≢ unit_monomial i) → (b : Word) (d : Divisor P.setting state.entries b) → IsBestMultiple P.setting state.entries τ b d → ¬ RegularDivisor P.setting state.entries τ b → Invariant P (state_after state τ (Outcome.settled j)) (Some τ)
   step_settled j not_unit b d best not_regular = record {
     below_last = λ e c. reached_after e.signature (inv.below_last e c);

@@ -60,7 +60,7 @@ abbrev pub UniquenessTheorem : Type 0
 UniquenessTheorem = OfEachRun (λ P n state last. (e : Entry) → Contains state.entries e →
     IsCanonical P.setting state.entries e.signature e.polynomial × ((f : Polynomial) → IsCanonical P.setting state.entries e.signature f → SamePolynomial P.setting f e.polynomial))
 
--- what was found over an earlier state stands over a later one exactly where it is Covered or nothing newer bears on it
+-- what was found over an earlier state stands over a later one exactly where it is covered or nothing newer bears on it
 abbrev pub StaleLaw : Type 0
 StaleLaw = (P : Problem) → IsPrime P.setting.prime → (k n : ℕ) (state later : State) (before last : Option Monomial) → SequentialRun P k state before → SequentialRun P n later last → k ≤ n →
     (x : Extension state later) × ((τ : Monomial) (o : Outcome) → Handles P.setting state τ o → Handles P.setting later τ o ↔ ((o ≡ Outcome.covered) ⊎ Unaffected P.setting state x.es x.hs τ o))
@@ -187,7 +187,7 @@ RepresentationLaw = OfEachRun (λ P n state last. (f rest : Polynomial) (steps :
     IsIn P.setting (step_multiples (labels_of P.setting.prime state.entries) steps) (IsWithin P)
     × SamePolynomial P.setting (evaluation P.setting (step_multiples (labels_of P.setting.prime state.entries) steps) ++ rest) f)
 
--- each signature that waits has an outcome
+-- each candidate has an outcome
 abbrev pub OutcomesExist : Type 0
 OutcomesExist = OfEachRun (λ P n state last. (τ : Monomial) → IsCandidate P state τ → (o : Outcome) × Handles P.setting state τ o)
 
