@@ -9,11 +9,17 @@ use Rattle.nc_algebra.specs.Polynomials.{Polynomial, coefficient, polynomial_tim
 use Rattle.nc_algebra.specs.Primes.{IsZero}
 use Rattle.nc_algebra.specs.Sums.{coefficient_by, is_at, linear_sum, minus, scale}
 use Rattle.nc_algebra.specs.Words.{IsWordLess, Word, same_word}
-use Rattle.std.proofs.Common.{◌≡◌, ℕ, ◌+◌, ◌-◌, ◌*◌, ◌%◌, ◌<◌, ◌⊎◌, ◌≢◌, ◌++◌, length, sym, ap, ap₂, ◌∙◌, subst, inl, inr, arith, append_assoc}
+use Rattle.std.proofs.Common.{[], get_or, suc, zero, ◌≡◌, ℕ, ◌+◌, ◌-◌, ◌*◌, ◌%◌, ◌<◌, ◌⊎◌, ◌≢◌, ◌++◌, length, sym, ap, ap₂, ◌∙◌, subst, inl, inr, arith, append_assoc}
 
 -- the coefficient at y of what a monomial evaluates to
 abbrev pub image : Setting → Word → Monomial → ℕ
 image s y σ = coefficient (polynomial_times σ.left (generator s σ.generator) σ.right) y
+
+-- the generators are listed from number 1 on
+pub generator_at : (s : Setting) (i : ℕ) → IsGenerator s i → generator s i ≡ get_or s.generators (i - 1) []
+unfolding generator
+generator_at s zero g = absurd (omega (arith, g.0))
+generator_at s (suc i) g = ap (λ n. get_or s.generators n []) (omega arith)
 
 module _ (s : Setting) where
   pub coefficient-evaluation : (α : Element) (y : Word) → coefficient (evaluation s α) y ≡ linear_sum (image s y) α

@@ -4,7 +4,7 @@ use Rattle.nc_algebra.specs.Polynomials.{Polynomial, coefficient, leading, polyn
 use Rattle.nc_algebra.specs.Primes.{IsZero}
 use Rattle.nc_algebra.specs.Sums.{Leads, SameSum, Term, coefficient_by, map_keys, substitute}
 use Rattle.nc_algebra.specs.Words.{IsWordLess, Word, same_word, word_weight}
-use Rattle.std.specs.Prelude.{List, [], get_or, length, ℕ, ◌%◌, ◌-◌, ◌≡◌, ◌≤◌}
+use Rattle.std.specs.Prelude.{List, [], get_or, length, suc, zero, ℕ, ◌%◌, ◌≡◌, ◌≤◌}
 
 -- a finite sum of module monomials, in any order; repeats and zeros are allowed
 abbrev pub Element : Type 0
@@ -23,9 +23,10 @@ pub record Setting : Type 0 where
 abbrev pub IsGenerator : Setting → ℕ → Type 0
 IsGenerator s i = (1 ≤ i) × (i ≤ length s.generators)
 
--- f_i
+-- f_i, and the polynomial zero where i is no generator's number
 unfoldable pub generator : Setting → ℕ → Polynomial
-generator s i = get_or s.generators (i - 1) []
+generator s zero = []
+generator s (suc i) = get_or s.generators i []
 
 -- the weight of f_i: that of its leading word
 abbrev pub generator_weight : Setting → ℕ → ℕ

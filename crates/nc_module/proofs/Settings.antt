@@ -1,24 +1,23 @@
 -- What holds of the generators of a setting.
 use Rattle.nc_algebra.proofs.Certificates.{text_word_light}
+use Rattle.nc_algebra.proofs.Elements.{generator_at}
 use Rattle.nc_algebra.proofs.Leading.{leading-normal}
 use Rattle.nc_algebra.specs.Certificates.{IsSetting, IsTextGenerator, IsTextWord, NamedSetting}
 use Rattle.nc_algebra.specs.Elements.{IsGenerator, generator, generator_weight}
 use Rattle.nc_algebra.specs.Polynomials.{IsNormal, Polynomial, leading}
 use Rattle.nc_algebra.specs.Sums.{Term}
 use Rattle.nc_algebra.specs.Words.{Word, word_weight}
-use Rattle.std.proofs.Common.{[], ap, arith, get_or, length, subst, ℕ, ◌-◌, ◌∙◌, ◌∷◌, ◌≡◌, ◌≤◌}
+use Rattle.std.proofs.Common.{[], ap, arith, get_or, length, subst, sym, ℕ, ◌-◌, ◌∙◌, ◌∷◌, ◌≡◌, ◌≤◌}
 use Rattle.std.proofs.lemmas.List.{get_or_read}
 use Rattle.std.proofs.lemmas.List.Elements.{recursion_from_All}
 use Rattle.std.specs.List.{All}
 
 -- the generator that code reads
 pub generator_read : (s : NamedSetting) (i : ℕ) (f : Polynomial) → IsGenerator s.setting i → f ≡ get_or s.setting.generators (i - 1) f → f ≡ generator s.setting i
-unfolding generator
-generator_read s i f h e = get_or_read s.setting.generators (i - 1) f (omega arith) e []
+generator_read s i f h e = get_or_read s.setting.generators (i - 1) f (omega (arith, h.0, h.1)) e [] ∙ sym (generator_at s.setting i h)
 
 pub generator_is_text : (s : NamedSetting) (i : ℕ) → IsSetting s → IsGenerator s.setting i → IsTextGenerator (length s.names) s.setting.prime (generator s.setting i)
-unfolding generator
-generator_is_text s i h g = h.each (i - 1) [] (omega arith)
+generator_is_text s i h g = subst (IsTextGenerator (length s.names) s.setting.prime) (sym (generator_at s.setting i g)) (h.each (i - 1) [] (omega (arith, g.0, g.1)))
 
 -- its weight is that of its first word
 pub weight_first : (s : NamedSetting) (i : ℕ) (t : Term Word) (f : Polynomial) → IsTextGenerator (length s.names) s.setting.prime (generator s.setting i) → generator s.setting i ≡ t ∷ f → generator_weight s.setting i ≡ word_weight t.key

@@ -441,7 +441,7 @@ bound_down s (Bound.to_degree d) σ τ w l m = (m, degrees l)
     degrees : IsLess s σ τ → degree_of (generator_weight s) σ ≤ d
     degrees (inl h) = omega (arith, w.1)
     degrees (inr (e, h)) = omega (arith, e, w.1)
-bound_down s (Bound.before β) σ τ w l m = (m, (monomial_laws (generator_weight s)).trans σ τ β l w.1)
+bound_down s (Bound.under β) σ τ w l m = (m, (monomial_laws (generator_weight s)).trans σ τ β l w.1)
 
 pub under_down : (s : Setting) (β : Sig) (σ τ : Monomial) → IsUnder s β τ → IsLess s σ τ → HasGenerator s σ → IsUnder s β σ
 under_down s β σ τ w l m = (m, sig_down (generator_weight s) β σ τ l w.1)

@@ -385,7 +385,7 @@ module _ (P : Problem) (state : State) (last : Option Monomial) where
       go (inl l) = inl (le_of_lt l)
       go (inr (inl e)) = inl (omega (arith, e))
       go (inr (inr l)) = inr (λ k. omega (arith, l, k))
-  bound_dec (Bound.before β) σ = less_dec P.setting σ β
+  bound_dec (Bound.under β) σ = less_dec P.setting σ β
 
   left_dec : (l : Option Monomial) (σ : Monomial) → Decided (IsAfter P l σ)
   left_dec None σ = inl tt

@@ -68,9 +68,9 @@ outcome_dec (Outcome.a_syzygy t) (Outcome.a_syzygy u) = one (trace_dec t u) (ap 
 
 bound_dec : (b c : Bound) → Decided (b ≡ c)
 bound_dec (Bound.to_degree d) (Bound.to_degree e) = one (nat_dec d e) (ap Bound.to_degree) (λ i. cc)
-bound_dec (Bound.to_degree d) (Bound.before β) = inr (λ e. let none : ⊥ = cc in none)
-bound_dec (Bound.before β) (Bound.to_degree d) = inr (λ e. let none : ⊥ = cc in none)
-bound_dec (Bound.before β) (Bound.before γ) = one (monomial_dec β γ) (ap Bound.before) (λ i. cc)
+bound_dec (Bound.to_degree d) (Bound.under β) = inr (λ e. let none : ⊥ = cc in none)
+bound_dec (Bound.under β) (Bound.to_degree d) = inr (λ e. let none : ⊥ = cc in none)
+bound_dec (Bound.under β) (Bound.under γ) = one (monomial_dec β γ) (ap Bound.under) (λ i. cc)
 
 setting_dec : (s t : Setting) → Decided (s ≡ t)
 setting_dec s t = both (nat_dec s.prime t.prime) (list_dec polynomial_dec s.generators t.generators) (λ a b i. record { prime = a i; generators = b i }) (ap (λ z. z.prime)) (ap (λ z. z.generators))

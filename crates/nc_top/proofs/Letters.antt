@@ -1,11 +1,12 @@
 -- The letters of what is left of a claim are letters of its setting.
+use Rattle.nc_algebra.proofs.Elements.{generator_at}
 use Rattle.nc_algebra.proofs.NormalForms.{normal_form_listed}
 use Rattle.nc_algebra.specs.Certificates.{Certificate, IsCertificate, IsLetterBelow, IsTextGenerator, IsTextTerm, IsTextWord, IsWordBelow, NamedSetting, rest_of}
 use Rattle.nc_algebra.specs.Elements.{Element, IsGenerator, evaluation, generator}
 use Rattle.nc_algebra.specs.Polynomials.{Polynomial, polynomial_times}
 use Rattle.nc_algebra.specs.Sums.{minus, scale}
 use Rattle.nc_algebra.specs.Words.{Word}
-use Rattle.std.proofs.Common.{[], arith, length, ℕ, ◌*◌, ◌++◌, ◌-◌, ◌<◌, ◌∷◌}
+use Rattle.std.proofs.Common.{[], arith, length, subst, sym, ℕ, ◌*◌, ◌++◌, ◌-◌, ◌<◌, ◌∷◌}
 use Rattle.std.proofs.lemmas.List.Elements.{All-append, All-from_recursion, All-weaker, recursion_from_All}
 use Rattle.std.specs.List.{All, AllByRecursion}
 
@@ -31,8 +32,7 @@ below_times : (n : ℕ) (u v w : Word) → IsWordBelow n u → IsWordBelow n v �
 below_times n u v w hu hv hw = All-append (IsLetterBelow n) u (w ++ v) hu (All-append (IsLetterBelow n) w v hw hv)
 
 generator_has : (s : NamedSetting) (i : ℕ) → All (IsTextGenerator (length s.names) s.setting.prime) s.setting.generators → IsGenerator s.setting i → Has (IsWordBelow (length s.names)) (generator s.setting i)
-unfolding generator
-generator_has s i h g = let text : IsTextGenerator (length s.names) s.setting.prime (generator s.setting i) = h (i - 1) [] (omega arith) in words (generator s.setting i) (recursion_from_All (λ t. IsTextWord (length s.names) t.key) (generator s.setting i) text.polynomial.words)
+generator_has s i h g = let text : IsTextGenerator (length s.names) s.setting.prime (generator s.setting i) = subst (IsTextGenerator (length s.names) s.setting.prime) (sym (generator_at s.setting i g)) (h (i - 1) [] (omega (arith, g.0, g.1))) in words (generator s.setting i) (recursion_from_All (λ t. IsTextWord (length s.names) t.key) (generator s.setting i) text.polynomial.words)
   where
     words : (f : Polynomial) → AllByRecursion (λ t. IsTextWord (length s.names) t.key) f → Has (IsWordBelow (length s.names)) f
     words [] a = tt
