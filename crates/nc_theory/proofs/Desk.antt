@@ -1,14 +1,16 @@
 -- Every play of events leaves the desk at a state of the run, and its counts add up.
+use Rattle.nc_algebra.proofs.Orders.{nat_order}
 use Rattle.nc_algebra.specs.Finite.{Among}
 use Rattle.nc_algebra.specs.Elements.{generator_weight}
 use Rattle.nc_algebra.specs.Monomials.{same_monomial, Monomial, compare_monomials}
 use Rattle.nc_algebra.specs.Primes.{IsField}
 use Rattle.nc_algebra.specs.Problems.{Problem}
 use Rattle.nc_theory.proofs.Determinism.{run_unique}
-use Rattle.nc_theory.specs.Desk.{node_of, Abandons, Advances, Claims, Desk, Does, Event, IsGiven, IsLawful, Node, Plays, Submits, Submitted, Ticket, Work, generation_at, insert_node, open_desk, with_work, without_node}
-use Rattle.nc_theory.specs.Runs.{Handles, SequentialRun}
+use Rattle.nc_theory.proofs.Ends.{next_exists}
+use Rattle.nc_theory.specs.Desk.{IsFinished, node_of, Abandons, Advances, Claims, Desk, Does, Event, IsGiven, IsLawful, Node, Plays, Submits, Submitted, Ticket, Work, generation_at, insert_node, open_desk, with_work, without_node}
+use Rattle.nc_theory.specs.Runs.{End, Handles, IsEnd, IsNext, NoneWaits, SequentialRun}
 use Rattle.nc_theory.specs.States.{State}
-use Rattle.std.proofs.Common.{Bool, List, None, Option, Some, [], ap, arith, cond, false, inl, inr, length, nat_eq, refl, subst, sym, true, ℕ, ◌*◌, ◌+◌, ◌∙◌, ◌∷◌, ◌≡◌, ◌⊎◌}
+use Rattle.std.proofs.Common.{Bool, List, None, Option, Some, [], ap, arith, cond, false, inl, inr, length, nat_eq, refl, subst, sym, true, ℕ, ◌*◌, ◌+◌, ◌∙◌, ◌∷◌, ◌<◌, ◌≡◌, ◌≤◌, ◌⊎◌, suc, ◌↔◌}
 use Rattle.std.proofs.lemmas.Bool.{eq-eqb, false≢true}
 use Rattle.std.specs.Ordering.{is_lt}
 
@@ -47,8 +49,50 @@ module _ (P : Problem) where
   play_runs Plays.ends run = run
   play_runs (Plays.goes e does more) run = play_runs more (event_runs does run)
 
-  pub snapshot : (capacity : ℕ) {events : List Event} {d : Desk} → Plays P events (open_desk capacity) d → IsAtRun d
-  snapshot capacity plays = play_runs plays SequentialRun.opened
+  -- no more steps than the problem allows
+  abbrev IsLimited : Desk → Type 0
+  IsLimited d = d.handled ≤ P.steps
+
+  advance_limits : {d d' : Desk} → Advances P d d' → IsLimited d → IsLimited d'
+  advance_limits (Advances.at_end f) l = l
+  advance_limits (Advances.no_work f none) l = l
+  advance_limits (Advances.drops f τ n w ready not) l = l
+  advance_limits (Advances.commits {d = d} f τ n w ready handles more) l = advance_limits more (go (nat_order d.handled P.steps))
+    where
+      go : (d.handled < P.steps) ⊎ ((d.handled ≡ P.steps) ⊎ (P.steps < d.handled)) → suc d.handled ≤ P.steps
+      go (inl k) = omega (arith, k)
+      go (inr (inl e)) = absurd (f (inr e))
+      go (inr (inr k)) = absurd (omega (arith, l, k))
+
+  submit_limits : (d : Desk) (t : Ticket) (w : Work) (answer : Submitted) (d' : Desk) → Submits P d t w answer d' → IsLimited d → IsLimited d'
+  submit_limits d t w answer d' (Submits.is_gone n) l = l
+  submit_limits d t w answer d' (Submits.is_foreign g n) l = l
+  submit_limits d t w answer d' (Submits.is_ahead g p n) l = l
+  submit_limits d t w answer d' (Submits.is_other g p n node i s) l = l
+  submit_limits d t w answer d' (Submits.is_taken g p n node i s) l = l
+
+  abandon_limits : (d : Desk) (t : Ticket) (d' : Desk) → Abandons d t d' → IsLimited d → IsLimited d'
+  abandon_limits d t d' (Abandons.is_gone n) l = l
+  abandon_limits d t d' (Abandons.is_freed g) l = l
+
+  event_limits : {d d' : Desk} {e : Event} → Does P d e d' → IsLimited d → IsLimited d'
+  event_limits (Does.claims (Claims.is_finished f)) l = l
+  event_limits (Does.claims (Claims.is_none f o)) l = l
+  event_limits (Does.claims (Claims.is_task f i others free few τ first)) l = l
+  event_limits {d} {d'} (Does.submits {answer = answer} t given w lawful s) l = submit_limits d t w answer d' s l
+  event_limits {d} {d'} (Does.abandons t given a) l = abandon_limits d t d' a l
+  event_limits (Does.advances a) l = advance_limits a l
+
+  play_limits : {d d' : Desk} {events : List Event} → Plays P events d d' → IsLimited d → IsLimited d'
+  play_limits Plays.ends l = l
+  play_limits (Plays.goes e does more) l = play_limits more (event_limits does l)
+
+  -- a play goes on from a state of the run to one, within the steps
+  pub goes_on : {d d' : Desk} {events : List Event} → Plays P events d d' → (IsAtRun d → IsAtRun d') × (IsLimited d → IsLimited d')
+  goes_on plays = (play_runs plays, play_limits plays)
+
+  pub snapshot : (capacity : ℕ) {events : List Event} {d : Desk} → Plays P events (open_desk capacity) d → IsAtRun d × IsLimited d
+  snapshot capacity plays = (play_runs plays SequentialRun.opened, play_limits plays (omega arith))
 
 -- ---- the counts
 
@@ -141,3 +185,23 @@ own_stands P field {n} {state} {last} run w l p e = go (run_unique P field here 
 
     go : (l.state ≡ state) × (l.last ≡ last) → Handles P.setting state w.signature w.outcome
     go t = subst (λ s. Handles P.setting s w.signature w.outcome) t.0 (subst (λ Q. Handles Q.setting l.state w.signature w.outcome) p l.handles)
+
+-- at an end no candidate is left after the last signature, or all steps are made
+ended : (P : Problem) → IsField P.setting.prime → (n : ℕ) (state : State) (last : Option Monomial) → SequentialRun P n state last → {end : End} → IsEnd P n state end → NoneWaits P state last ⊎ (n ≡ P.steps)
+ended P field n state last run (IsEnd.is_complete {last = last'} l run' none) = inl (subst (NoneWaits P state) (run_unique P field run' run).1 none)
+ended P field n state last run (IsEnd.is_budget e run' τ next) = inr e
+
+-- a desk is finished exactly where its run has an end
+pub finished : (P : Problem) → IsField P.setting.prime → (d : Desk) → SequentialRun P d.handled d.state d.last → d.handled ≤ P.steps → IsFinished P d ↔ ((end : End) × IsEnd P d.handled d.state end)
+finished P field d run l = (forth, λ t. back t.1)
+  where
+    at_limit : d.handled ≡ P.steps → ((τ : Monomial) × IsNext P d.state d.last τ) ⊎ NoneWaits P d.state d.last → (end : End) × IsEnd P d.handled d.state end
+    at_limit e (inl (τ, next)) = (End.budget τ, IsEnd.is_budget e run τ next)
+    at_limit e (inr none) = (End.complete, IsEnd.is_complete l run none)
+
+    forth : IsFinished P d → (end : End) × IsEnd P d.handled d.state end
+    forth (inl none) = (End.complete, IsEnd.is_complete l run none)
+    forth (inr e) = at_limit e (next_exists P d.state d.last)
+
+    back : {end : End} → IsEnd P d.handled d.state end → IsFinished P d
+    back t = ended P field d.handled d.state d.last run t

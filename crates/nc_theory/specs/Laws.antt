@@ -8,7 +8,7 @@ use Rattle.nc_algebra.specs.Finite.{IsOver, monomials_within}
 use Rattle.nc_algebra.specs.Primes.{IsPrime}
 use Rattle.nc_algebra.specs.Words.{Letter, Word}
 use Rattle.nc_theory.specs.Bases.{HasRepresentation, IsBasisBelow, IsCanonical, IsClosed, IsSound, IsSyzygyBasisBelow}
-use Rattle.nc_theory.specs.Desk.{Desk, Event, IsLawful, Plays, Work, open_desk}
+use Rattle.nc_theory.specs.Desk.{Desk, Event, IsFinished, IsLawful, Plays, Work, open_desk}
 use Rattle.nc_theory.specs.Divisors.{Divisor, IsChosenDivisor, RegularDivisor, multiple_at, number_of, signature_at}
 use Rattle.nc_theory.specs.Labels.{label_at, labels_of, step_multiples, trace_label}
 use Rattle.nc_theory.specs.Letters.{AreOver}
@@ -140,9 +140,15 @@ StepLimit = (P : Problem) → IsPrime P.setting.prime → (letters : List Letter
     ((n : ℕ) (state : State) (last : Option Monomial) → SequentialRun P n state last → n ≤ length (monomials_within P.setting P.bound letters))
     × (length (monomials_within P.setting P.bound letters) ≤ P.steps → (n : ℕ) (state : State) (end : End) → IsEnd P n state end → end ≡ End.complete)
 
--- for every list of events the desk stands at the run's state of its own number
+-- a play leads from a desk at a state of the run, within the steps, to one that is so too; an open desk is one
 abbrev pub SnapshotLaw : Type 0
-SnapshotLaw = (P : Problem) (capacity : ℕ) (events : List Event) (d : Desk) → Plays P events (open_desk capacity) d → SequentialRun P d.handled d.state d.last
+SnapshotLaw = (P : Problem) →
+    ((events : List Event) (d d' : Desk) → Plays P events d d' → (SequentialRun P d.handled d.state d.last → SequentialRun P d'.handled d'.state d'.last) × (d.handled ≤ P.steps → d'.handled ≤ P.steps))
+    × ((capacity : ℕ) (events : List Event) (d : Desk) → Plays P events (open_desk capacity) d → SequentialRun P d.handled d.state d.last × (d.handled ≤ P.steps))
+
+-- a desk within the steps is finished exactly where its state is an end of the run
+abbrev pub FinishedLaw : Type 0
+FinishedLaw = (P : Problem) → IsPrime P.setting.prime → (d : Desk) → SequentialRun P d.handled d.state d.last → d.handled ≤ P.steps → IsFinished P d ↔ ((end : End) × IsEnd P d.handled d.state end)
 
 -- each list of events has a play
 abbrev pub PlaysExist : Type 0
