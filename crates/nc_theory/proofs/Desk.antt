@@ -7,7 +7,7 @@ use Rattle.nc_algebra.specs.Primes.{IsField}
 use Rattle.nc_algebra.specs.Problems.{Problem}
 use Rattle.nc_theory.proofs.Determinism.{run_unique}
 use Rattle.nc_theory.proofs.Ends.{next_exists}
-use Rattle.nc_theory.specs.Desk.{IsFinished, node_of, Abandons, Advances, Claims, Desk, Does, Event, IsGiven, IsLawful, Node, Plays, Submits, Submitted, Ticket, Work, generation_at, insert_node, open_desk, with_work, without_node}
+use Rattle.nc_theory.specs.Desk.{IsFinished, node_of, Abandoned, Abandons, Advances, Claims, Desk, Does, Event, IsGiven, IsLawful, Node, Plays, Submits, Submitted, Ticket, Work, generation_at, insert_node, open_desk, with_work, without_node}
 use Rattle.nc_theory.specs.Runs.{End, Handles, IsEnd, IsNext, NoneWaits, SequentialRun}
 use Rattle.nc_theory.specs.States.{State}
 use Rattle.std.proofs.Common.{Bool, List, None, Option, Some, [], ap, arith, cond, false, inl, inr, length, nat_eq, refl, subst, sym, true, ℕ, ◌*◌, ◌+◌, ◌∙◌, ◌∷◌, ◌<◌, ◌≡◌, ◌≤◌, ◌⊎◌, suc, ◌↔◌}
@@ -33,16 +33,16 @@ module _ (P : Problem) where
   submit_runs d t w answer d' (Submits.is_other g p n node i s) run = run
   submit_runs d t w answer d' (Submits.is_taken g p n node i s) run = run
 
-  abandon_runs : (d : Desk) (t : Ticket) (d' : Desk) → Abandons d t d' → IsAtRun d → IsAtRun d'
-  abandon_runs d t d' (Abandons.is_gone n) run = run
-  abandon_runs d t d' (Abandons.is_freed g) run = run
+  abandon_runs : (d : Desk) (t : Ticket) (answer : Abandoned) (d' : Desk) → Abandons d t answer d' → IsAtRun d → IsAtRun d'
+  abandon_runs d t answer d' (Abandons.is_gone n) run = run
+  abandon_runs d t answer d' (Abandons.is_freed g) run = run
 
   pub event_runs : {d d' : Desk} {e : Event} → Does P d e d' → IsAtRun d → IsAtRun d'
   event_runs (Does.claims (Claims.is_finished f)) run = run
   event_runs (Does.claims (Claims.is_none f o)) run = run
   event_runs (Does.claims (Claims.is_task f i others free few τ first)) run = run
   event_runs {d} {d'} (Does.submits {answer = answer} t given w l s) run = submit_runs d t w answer d' s run
-  event_runs {d} {d'} (Does.abandons t given a) run = abandon_runs d t d' a run
+  event_runs {d} {d'} (Does.abandons {answer = answer} t given a) run = abandon_runs d t answer d' a run
   event_runs (Does.advances a) run = advance_runs a run
 
   play_runs : {d d' : Desk} {events : List Event} → Plays P events d d' → IsAtRun d → IsAtRun d'
@@ -71,16 +71,16 @@ module _ (P : Problem) where
   submit_limits d t w answer d' (Submits.is_other g p n node i s) l = l
   submit_limits d t w answer d' (Submits.is_taken g p n node i s) l = l
 
-  abandon_limits : (d : Desk) (t : Ticket) (d' : Desk) → Abandons d t d' → IsLimited d → IsLimited d'
-  abandon_limits d t d' (Abandons.is_gone n) l = l
-  abandon_limits d t d' (Abandons.is_freed g) l = l
+  abandon_limits : (d : Desk) (t : Ticket) (answer : Abandoned) (d' : Desk) → Abandons d t answer d' → IsLimited d → IsLimited d'
+  abandon_limits d t answer d' (Abandons.is_gone n) l = l
+  abandon_limits d t answer d' (Abandons.is_freed g) l = l
 
   event_limits : {d d' : Desk} {e : Event} → Does P d e d' → IsLimited d → IsLimited d'
   event_limits (Does.claims (Claims.is_finished f)) l = l
   event_limits (Does.claims (Claims.is_none f o)) l = l
   event_limits (Does.claims (Claims.is_task f i others free few τ first)) l = l
   event_limits {d} {d'} (Does.submits {answer = answer} t given w lawful s) l = submit_limits d t w answer d' s l
-  event_limits {d} {d'} (Does.abandons t given a) l = abandon_limits d t d' a l
+  event_limits {d} {d'} (Does.abandons {answer = answer} t given a) l = abandon_limits d t answer d' a l
   event_limits (Does.advances a) l = advance_limits a l
 
   play_limits : {d d' : Desk} {events : List Event} → Plays P events d d' → IsLimited d → IsLimited d'
@@ -157,16 +157,16 @@ module _ (P : Problem) where
   submit_counts d t w answer d' (Submits.is_other g p n node i s) h = h
   submit_counts d t w answer d' (Submits.is_taken g p n node i s) h = (omega (arith, h.0, work_counts t.index w d.window), h.1)
 
-  abandon_counts : (d : Desk) (t : Ticket) → IsGiven t → (d' : Desk) → Abandons d t d' → IsCounted d → IsCounted d'
-  abandon_counts d t given d' (Abandons.is_gone n) h = h
-  abandon_counts d t given d' (Abandons.is_freed g) h = (omega (arith, h.0, generation_counts t.index d.window given.0 (sym given.1 ∙ g)), h.1)
+  abandon_counts : (d : Desk) (t : Ticket) → IsGiven t → (answer : Abandoned) (d' : Desk) → Abandons d t answer d' → IsCounted d → IsCounted d'
+  abandon_counts d t given answer d' (Abandons.is_gone n) h = h
+  abandon_counts d t given answer d' (Abandons.is_freed g) h = (omega (arith, h.0, generation_counts t.index d.window given.0 (sym given.1 ∙ g)), h.1)
 
   event_counts : {d d' : Desk} {e : Event} → Does P d e d' → IsCounted d → IsCounted d'
   event_counts (Does.claims (Claims.is_finished f)) h = h
   event_counts (Does.claims (Claims.is_none f o)) h = h
   event_counts {d} (Does.claims (Claims.is_task f i others free few τ first)) h = (omega (arith, h.0, insert_counts (generator_weight P.setting) (record { signature = τ; index = i; generation = 2 * d.claimed + 1; work = None }) d.window), h.1)
   event_counts {d} {d'} (Does.submits {answer = answer} t given w l s) h = submit_counts d t w answer d' s h
-  event_counts {d} {d'} (Does.abandons t given a) h = abandon_counts d t given d' a h
+  event_counts {d} {d'} (Does.abandons {answer = answer} t given a) h = abandon_counts d t given answer d' a h
   event_counts (Does.advances a) h = advance_counts a h
 
   play_counts : {d d' : Desk} {events : List Event} → Plays P events d d' → IsCounted d → IsCounted d'

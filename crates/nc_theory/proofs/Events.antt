@@ -11,7 +11,7 @@ use Rattle.nc_theory.proofs.Determinism.{handles_unique, next_unique}
 use Rattle.nc_theory.proofs.Ends.{first_with, handles_exists, next_exists, source}
 use Rattle.nc_theory.proofs.Equality.{monomial_dec, outcome_dec, problem_dec}
 use Rattle.nc_theory.proofs.Plays.{some_same}
-use Rattle.nc_theory.specs.Desk.{Abandons, Advances, Claimed, Claims, Desk, Does, Event, IsFinished, IsFirstUnheld, IsGiven, IsHeld, IsReady, Node, Plays, Submits, Submitted, Ticket, Work, after_committed, after_dropped, generation_at, insert_node, node_at, node_of, open_desk}
+use Rattle.nc_theory.specs.Desk.{Abandoned, Abandons, Advances, Claimed, Claims, Desk, Does, Event, IsFinished, IsFirstUnheld, IsGiven, IsHeld, IsReady, Node, Plays, Submits, Submitted, Ticket, Work, after_committed, after_dropped, generation_at, insert_node, node_at, node_of, open_desk}
 use Rattle.nc_theory.specs.States.{State}
 use Rattle.nc_theory.specs.Runs.{Handles, IsAfter, IsCandidate, IsNext, IsWaiting, Outcome, SequentialRun}
 use Rattle.std.proofs.Common.{Bool, List, None, Option, Some, [], ap, arith, cond, false, inl, inr, le_refl, length, nat_eq, refl, subst, suc, sym, true, zero, ℕ, ◌*◌, ◌+◌, ◌<◌, ◌∙◌, ◌∷◌, ◌≡◌, ◌≤◌, ◌⊎◌}
@@ -87,12 +87,12 @@ module _ (P : Problem) where
       go (inl g) (inl p) (inr (inl e)) = lay g p (omega (arith, e))
       go (inl g) (inl p) (inr (inr l)) = lay g p (omega (arith, l))
 
-  abandons_exist : (d : Desk) (t : Ticket) → (d' : Desk) × Abandons d t d'
+  abandons_exist : (d : Desk) (t : Ticket) → (answer : Abandoned) × (d' : Desk) × Abandons d t answer d'
   abandons_exist d t = go (nat_dec t.generation (generation_at d.window t.index))
     where
-      go : Decided (t.generation ≡ generation_at d.window t.index) → (d' : Desk) × Abandons d t d'
-      go (inr n) = (_, Abandons.is_gone n)
-      go (inl g) = (_, Abandons.is_freed g)
+      go : Decided (t.generation ≡ generation_at d.window t.index) → (answer : Abandoned) × (d' : Desk) × Abandons d t answer d'
+      go (inr n) = (_, _, Abandons.is_gone n)
+      go (inl g) = (_, _, Abandons.is_freed g)
 
 module _ (P : Problem) (field : IsField P.setting.prime) where
   -- whether an outcome is what handling gives in a state of a run
@@ -155,8 +155,8 @@ module _ (P : Problem) (field : IsField P.setting.prime) where
       go (answer, d', s) = (d', Does.submits t given w l s)
   event_exists d run (Event.abandon t given) = go (abandons_exist P d t)
     where
-      go : (d' : Desk) × Abandons d t d' → (d' : Desk) × Does P d (Event.abandon t given) d'
-      go (d', a) = (d', Does.abandons t given a)
+      go : (answer : Abandoned) × (d' : Desk) × Abandons d t answer d' → (d' : Desk) × Does P d (Event.abandon t given) d'
+      go (answer, d', a) = (d', Does.abandons t given a)
   event_exists d run Event.advance = go (advances_within (length d.window) d (le_refl (length d.window)) run)
     where
       go : (d' : Desk) × Advances P d d' → (d' : Desk) × Does P d Event.advance d'

@@ -12,7 +12,7 @@ use Rattle.nc_theory.proofs.Ascent.{waiting}
 use Rattle.nc_theory.proofs.Desk.{event_runs}
 use Rattle.nc_theory.proofs.Events.{held_dec}
 use Rattle.nc_theory.proofs.Plays.{some_same}
-use Rattle.nc_theory.specs.Desk.{Abandons, Advances, Claims, Desk, Does, Event, IsFirstUnheld, IsGiven, IsHeld, Node, Plays, Submits, Submitted, Ticket, Work, count_from, generation_at, insert_node, node_of, open_desk, with_work, without_node}
+use Rattle.nc_theory.specs.Desk.{Abandoned, Abandons, Advances, Claims, Desk, Does, Event, IsFirstUnheld, IsGiven, IsHeld, Node, Plays, Submits, Submitted, Ticket, Work, count_from, generation_at, insert_node, node_of, open_desk, with_work, without_node}
 use Rattle.nc_theory.specs.Runs.{Handles, IsNext, IsWaiting, Outcome, SequentialRun, state_after}
 use Rattle.nc_theory.specs.States.{State}
 use Rattle.nc_theory.specs.Windows.{AreFromOneClaim, IsFromClaim, WindowLaw, generation_of}
@@ -185,9 +185,9 @@ module _ (P : Problem) (capacity : ℕ) where
   own_apart : (d : Desk) → Kept d → Pairs (λ i j. i ≢ j) (indices d.window)
   own_apart d k = pairs_back (λ i j. i ≢ j) d.free (indices d.window) k.distinct
 
-  abandon_keeps : (d : Desk) (t : Ticket) → IsGiven t → (d' : Desk) → Abandons d t d' → Kept d → Kept d'
-  abandon_keeps d t given d' (Abandons.is_gone n) k = k
-  abandon_keeps d t given d' (Abandons.is_freed g) k = let a : At t.index given.0 d.window = node_at_generation t.index given.0 d.window (sym given.1 ∙ g) in freed d k a.0 (without_node t.index d.window) a.3 d.handled d.state d.last d.committed d.dropped (d.abandoned + 1) (left_waits d k a.0 (without_node t.index d.window) a.3) t.index a.1
+  abandon_keeps : (d : Desk) (t : Ticket) → IsGiven t → (answer : Abandoned) (d' : Desk) → Abandons d t answer d' → Kept d → Kept d'
+  abandon_keeps d t given answer d' (Abandons.is_gone n) k = k
+  abandon_keeps d t given answer d' (Abandons.is_freed g) k = let a : At t.index given.0 d.window = node_at_generation t.index given.0 d.window (sym given.1 ∙ g) in freed d k a.0 (without_node t.index d.window) a.3 d.handled d.state d.last d.committed d.dropped (d.abandoned + 1) (left_waits d k a.0 (without_node t.index d.window) a.3) t.index a.1
 
   submit_keeps : (d : Desk) (t : Ticket) → IsGiven t → (w : Work) (answer : Submitted) (d' : Desk) → Submits P d t w answer d' → Kept d → Kept d'
   submit_keeps d t given w answer d' (Submits.is_gone n) k = k
@@ -264,7 +264,7 @@ module _ (P : Problem) (capacity : ℕ) where
     event_keeps (Does.claims (Claims.is_none f o)) run k = k
     event_keeps {d} (Does.claims (Claims.is_task f i others free few τ first)) run k = claim_keeps d k i others free τ first
     event_keeps {d} {d'} (Does.submits {answer = answer} t given w l s) run k = submit_keeps d t given w answer d' s k
-    event_keeps {d} {d'} (Does.abandons t given a) run k = abandon_keeps d t given d' a k
+    event_keeps {d} {d'} (Does.abandons {answer = answer} t given a) run k = abandon_keeps d t given answer d' a k
     event_keeps (Does.advances a) run k = advance_keeps a run k
 
     play_keeps : {d d' : Desk} {events : List Event} → Plays P events d d' → SequentialRun P d.handled d.state d.last → Kept d → Kept d'

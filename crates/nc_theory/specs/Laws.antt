@@ -8,7 +8,7 @@ use Rattle.nc_algebra.specs.Finite.{IsOver, monomials_within}
 use Rattle.nc_algebra.specs.Primes.{IsPrime}
 use Rattle.nc_algebra.specs.Words.{Letter, Word}
 use Rattle.nc_theory.specs.Bases.{HasRepresentation, IsBasisBelow, IsCanonical, IsClosed, IsSound, IsSyzygyBasisBelow}
-use Rattle.nc_theory.specs.Desk.{Desk, Event, IsFinished, IsLawful, Plays, Work, open_desk}
+use Rattle.nc_theory.specs.Desk.{Abandoned, Abandons, Claimed, Claims, Desk, Event, IsFinished, IsLawful, Plays, Submits, Submitted, Ticket, Work, open_desk}
 use Rattle.nc_theory.specs.Divisors.{Divisor, IsChosenDivisor, RegularDivisor, multiple_at, number_of, signature_at}
 use Rattle.nc_theory.specs.Labels.{label_at, labels_of, step_multiples, trace_label}
 use Rattle.nc_theory.specs.Letters.{AreOver}
@@ -157,6 +157,13 @@ PlaysExist = (P : Problem) → IsPrime P.setting.prime → (capacity : ℕ) (eve
 -- a list of events leaves one desk
 abbrev pub PlaysAreDetermined : Type 0
 PlaysAreDetermined = (P : Problem) (events : List Event) (d a b : Desk) → Plays P events d a → Plays P events d b → a ≡ b
+
+-- a claim, a work that comes in and a ticket that is given back have one answer each, and leave one desk
+abbrev pub AnswersAreDetermined : Type 0
+AnswersAreDetermined = (P : Problem) (d : Desk) →
+    ((a b : Claimed) (x y : Desk) → Claims P d a x → Claims P d b y → (a ≡ b) × (x ≡ y))
+    × ((t : Ticket) (w : Work) (a b : Submitted) (x y : Desk) → Submits P d t w a x → Submits P d t w b y → (a ≡ b) × (x ≡ y))
+    × ((t : Ticket) (a b : Abandoned) (x y : Desk) → Abandons d t a x → Abandons d t b y → (a ≡ b) × (x ≡ y))
 
 -- for every list of events the window is as it should be
 abbrev pub WindowsAreKept : Type 0
