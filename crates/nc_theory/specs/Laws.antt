@@ -8,7 +8,7 @@ use Rattle.nc_algebra.specs.Finite.{IsOver, monomials_within}
 use Rattle.nc_algebra.specs.Primes.{IsPrime}
 use Rattle.nc_algebra.specs.Words.{Letter, Word}
 use Rattle.nc_theory.specs.Bases.{HasRepresentation, IsBasisBelow, IsCanonical, IsClosed, IsSound, IsSyzygyBasisBelow}
-use Rattle.nc_theory.specs.Desk.{Abandoned, Abandons, Claimed, Claims, Desk, Event, IsFinished, IsLawful, Plays, Submits, Submitted, Ticket, Work, open_desk}
+use Rattle.nc_theory.specs.Desk.{Abandoned, Abandons, Advances, Claimed, Claims, Desk, Event, IsFinished, IsReady, Node, Plays, Submits, Submitted, Ticket, Work, after_committed, open_desk}
 use Rattle.nc_theory.specs.Divisors.{Divisor, IsChosenDivisor, RegularDivisor, multiple_at, number_of, signature_at}
 use Rattle.nc_theory.specs.Labels.{label_at, labels_of, step_multiples, trace_label}
 use Rattle.nc_theory.specs.Letters.{AreOver}
@@ -173,9 +173,11 @@ WindowsAreKept = (P : Problem) → IsPrime P.setting.prime → (capacity : ℕ) 
 abbrev pub DeskCounts : Type 0
 DeskCounts = (P : Problem) (capacity : ℕ) (events : List Event) (d : Desk) → Plays P events (open_desk capacity) d → (d.claimed ≡ d.committed + d.dropped + d.abandoned + length d.window) × (d.handled ≡ d.committed)
 
--- a lawful work over the state of the desk's own number is never dropped
+-- a work over the desk's own state that is ready is what handling gives there: each advance that is not at the end commits it, and none drops it
 abbrev pub OwnWorkStands : Type 0
-OwnWorkStands = OfEachRun (λ P n state last. (w : Work) → IsLawful w → w.problem ≡ P → w.number ≡ n → Handles P.setting state w.signature w.outcome)
+OwnWorkStands = (P : Problem) → IsPrime P.setting.prime → (capacity : ℕ) (events : List Event) (d : Desk) → Plays P events (open_desk capacity) d → (τ : Monomial) (n : Node) (w : Work) → IsReady P d τ n w → w.number ≡ d.handled →
+    Handles P.setting d.state τ w.outcome
+    × (¬ IsFinished P d → (d' : Desk) → Advances P d d' → Advances P (after_committed d τ n w.outcome) d')
 
 -- what is left of a claim is the claim less a module element within the bound, which the labels of the subtracted multiples sum up to
 abbrev pub RepresentationLaw : Type 0

@@ -2,7 +2,7 @@
 use Rattle.nc_algebra.specs.Elements.{IsLess}
 use Rattle.nc_algebra.specs.Monomials.{Monomial}
 use Rattle.nc_algebra.specs.Problems.{Problem}
-use Rattle.nc_theory.specs.Desk.{Desk, IsHeld, Node, Work, count_from}
+use Rattle.nc_theory.specs.Desk.{Desk, IsHeld, IsLawful, Node, Work, count_from}
 use Rattle.nc_theory.specs.Runs.{IsNext, IsWaiting}
 use Rattle.std.specs.List.{AllPairs}
 use Rattle.std.specs.Prelude.{Contains, IsPermutation, None, Option, Some, [], map, ℕ, ◌*◌, ◌++◌, ◌+◌, ◌<◌, ◌≡◌, ◌≤◌}
@@ -32,5 +32,9 @@ pub record WindowLaw (P : Problem) (capacity : ℕ) (d : Desk) : Type 0 where
   pub claimed : (n : Node) → Contains d.window n → (c : ℕ) × (c < d.claimed) × IsFromClaim c n
   -- and no two by one claim
   pub apart : AllPairs (λ n m. ¬ AreFromOneClaim n m) d.window
+  -- the work that a node holds is lawful
+  pub lawful : (n : Node) (w : Work) → Contains d.window n → n.work ≡ Some w → IsLawful w
+  -- and it is of this problem, over a state that the desk reached, and for the node's signature
+  pub own : (n : Node) (w : Work) → Contains d.window n → n.work ≡ Some w → (w.problem ≡ P) × (w.number ≤ d.handled) × (w.signature ≡ n.signature)
   -- where no index is free, the next signature is held
   pub full : 1 ≤ capacity → d.free ≡ [] → (τ : Monomial) → IsNext P d.state d.last τ → IsHeld d τ
