@@ -7,7 +7,7 @@ use Rattle.nc_algebra.specs.Primes.{IsField}
 use Rattle.nc_algebra.specs.Problems.{Problem}
 use Rattle.nc_theory.proofs.Determinism.{run_unique}
 use Rattle.nc_theory.proofs.Ends.{next_exists}
-use Rattle.nc_theory.specs.Desk.{IsFinished, node_of, Abandoned, Abandons, Advances, Claims, Desk, Does, Event, IsGiven, IsLawful, Node, Plays, Submits, Submitted, Ticket, Work, generation_at, insert_node, open_desk, with_work, without_node}
+use Rattle.nc_theory.specs.Desk.{IsFinished, node_of, Abandoned, Abandons, Advances, Claims, Desk, Does, Event, IsCounted, IsGiven, IsLawful, Node, Plays, Submits, Submitted, Ticket, Work, generation_at, insert_node, open_desk, with_work, without_node}
 use Rattle.nc_theory.specs.Runs.{End, Handles, IsEnd, IsNext, NoneWaits, SequentialRun}
 use Rattle.nc_theory.specs.States.{State}
 use Rattle.std.proofs.Common.{Bool, List, None, Option, Some, [], ap, arith, cond, false, inl, inr, length, nat_eq, refl, subst, sym, true, ℕ, ◌*◌, ◌+◌, ◌∙◌, ◌∷◌, ◌<◌, ◌≡◌, ◌≤◌, ◌⊎◌, suc, ◌↔◌}
@@ -140,9 +140,6 @@ found (m ∷ ns) τ n e = go (same_monomial m.signature τ) e (found ns τ n)
     go true d f = inl (cc)
     go false d f = inr (f d)
 
-abbrev pub IsCounted : Desk → Type 0
-IsCounted d = (d.claimed ≡ d.committed + d.dropped + d.abandoned + length d.window) × (d.handled ≡ d.committed)
-
 module _ (P : Problem) where
   advance_counts : {d d' : Desk} → Advances P d d' → IsCounted d → IsCounted d'
   advance_counts (Advances.at_end f) h = h
@@ -169,12 +166,45 @@ module _ (P : Problem) where
   event_counts {d} {d'} (Does.abandons {answer = answer} t given a) h = abandon_counts d t given answer d' a h
   event_counts (Does.advances a) h = advance_counts a h
 
+  advance_alone : {d d' : Desk} → Advances P d d' → d'.alone ≡ d.alone
+  advance_alone (Advances.at_end f) = refl
+  advance_alone (Advances.no_work f none) = refl
+  advance_alone (Advances.drops f τ n w ready not) = refl
+  advance_alone (Advances.commits f τ n w ready handles more) = advance_alone more
+
+  submit_alone : (d : Desk) (t : Ticket) (w : Work) (answer : Submitted) (d' : Desk) → Submits P d t w answer d' → d'.alone ≡ d.alone
+  submit_alone d t w answer d' (Submits.is_gone n) = refl
+  submit_alone d t w answer d' (Submits.is_foreign g n) = refl
+  submit_alone d t w answer d' (Submits.is_ahead g p n) = refl
+  submit_alone d t w answer d' (Submits.is_other g p n node i s) = refl
+  submit_alone d t w answer d' (Submits.is_taken g p n node i s) = refl
+
+  abandon_alone : (d : Desk) (t : Ticket) (answer : Abandoned) (d' : Desk) → Abandons d t answer d' → d'.alone ≡ d.alone
+  abandon_alone d t answer d' (Abandons.is_gone n) = refl
+  abandon_alone d t answer d' (Abandons.is_freed g) = refl
+
+  event_alone : {d d' : Desk} {e : Event} → Does P d e d' → d'.alone ≡ d.alone
+  event_alone (Does.claims (Claims.is_finished f)) = refl
+  event_alone (Does.claims (Claims.is_none f o)) = refl
+  event_alone (Does.claims (Claims.is_task f i others free few τ first)) = refl
+  event_alone {d} {d'} (Does.submits {answer = answer} t given w l s) = submit_alone d t w answer d' s
+  event_alone {d} {d'} (Does.abandons {answer = answer} t given a) = abandon_alone d t answer d' a
+  event_alone (Does.advances a) = advance_alone a
+
+  play_alone : {d d' : Desk} {events : List Event} → Plays P events d d' → d'.alone ≡ d.alone
+  play_alone Plays.ends = refl
+  play_alone (Plays.goes e does more) = play_alone more ∙ event_alone does
+
   play_counts : {d d' : Desk} {events : List Event} → Plays P events d d' → IsCounted d → IsCounted d'
   play_counts Plays.ends h = h
   play_counts (Plays.goes e does more) h = play_counts more (event_counts does h)
 
-  pub counted : (capacity : ℕ) {events : List Event} {d : Desk} → Plays P events (open_desk capacity) d → IsCounted d
-  counted capacity plays = play_counts plays (refl, refl)
+  -- a play keeps the counts right, and no signature is handled alone in it
+  pub counts_on : {d d' : Desk} {events : List Event} → Plays P events d d' → (IsCounted d → IsCounted d') × (d'.alone ≡ d.alone)
+  counts_on plays = (play_counts plays, play_alone plays)
+
+  pub counted : (capacity : ℕ) {events : List Event} {d : Desk} → Plays P events (open_desk capacity) d → IsCounted d × (d.alone ≡ 0)
+  counted capacity plays = (play_counts plays (refl, refl), play_alone plays)
 
 -- a lawful work over the desk's own state is what handling gives there
 pub own_stands : (P : Problem) → IsField P.setting.prime → {n : ℕ} {state : State} {last : Option Monomial} → SequentialRun P n state last → (w : Work) → IsLawful w → w.problem ≡ P → w.number ≡ n → Handles P.setting state w.signature w.outcome

@@ -65,7 +65,7 @@ module _ (P : Problem) where
       go (inr n) (i ∷ others) e (inr (inl m)) first = none n (inr (inr (omega (arith, m))))
       go (inr n) (i ∷ others) e (inr (inr m)) first = none n (inr (inr (omega (arith, m))))
       go (inr n) (i ∷ others) e (inl m) (inr all) = none n (inr (inl all))
-      go (inr n) (i ∷ others) e (inl m) (inl (τ, first)) = (Claimed.a_task τ (record { index = i; generation = 2 * d.claimed + 1 }), record { handled = d.handled; state = d.state; last = d.last; window = insert_node (generator_weight P.setting) (record { signature = τ; index = i; generation = 2 * d.claimed + 1; work = None }) d.window; free = others; claimed = d.claimed + 1; committed = d.committed; dropped = d.dropped; abandoned = d.abandoned }, Claims.is_task n i others e m τ first)
+      go (inr n) (i ∷ others) e (inl m) (inl (τ, first)) = (Claimed.a_task τ (record { index = i; generation = 2 * d.claimed + 1 }), record { handled = d.handled; state = d.state; last = d.last; window = insert_node (generator_weight P.setting) (record { signature = τ; index = i; generation = 2 * d.claimed + 1; work = None }) d.window; free = others; claimed = d.claimed + 1; committed = d.committed; dropped = d.dropped; abandoned = d.abandoned; alone = d.alone }, Claims.is_task n i others e m τ first)
 
   submits_exist : (d : Desk) (t : Ticket) → IsGiven t → (w : Work) → (answer : Submitted) × (d' : Desk) × Submits P d t w answer d'
   submits_exist d t given w = go (nat_dec t.generation (generation_at d.window t.index)) (problem_dec w.problem P) (nat_order d.handled w.number)

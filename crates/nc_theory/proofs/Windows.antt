@@ -180,7 +180,7 @@ module _ (P : Problem) (capacity : ℕ) where
   among_held d τ a = let t : (n : Node) × Among n d.window × (n.signature ≡ τ) = among_mapped (λ m. m.signature) τ d.window a in (t.0, among_contains t.0 d.window t.1, t.2)
 
   -- a node is freed: what is left of the window, in a state where what is left waits
-  freed : (d : Desk) → Kept d → (n : Node) (rest : List Node) → Adds n rest d.window → (handled : ℕ) → d.handled ≤ handled → (state : State) (last : Option Monomial) (committed dropped abandoned : ℕ) → AllByRecursion (IsWaiting P state last) (signatures rest) → (i : ℕ) → n.index ≡ i → Kept (record { handled = handled; state = state; last = last; window = rest; free = i ∷ d.free; claimed = d.claimed; committed = committed; dropped = dropped; abandoned = abandoned })
+  freed : (d : Desk) → Kept d → (n : Node) (rest : List Node) → Adds n rest d.window → (handled : ℕ) → d.handled ≤ handled → (state : State) (last : Option Monomial) (committed dropped abandoned : ℕ) → AllByRecursion (IsWaiting P state last) (signatures rest) → (i : ℕ) → n.index ≡ i → Kept (record { handled = handled; state = state; last = last; window = rest; free = i ∷ d.free; claimed = d.claimed; committed = committed; dropped = dropped; abandoned = abandoned; alone = d.alone })
   freed d k n rest a handled later state last committed dropped abandoned waits i e = record { ascends = pairs_less (IsLess P.setting) (adds_map (λ m. m.signature) a) k.ascends; waits = waits; distinct = (pairs_around (λ i j. i ≢ j) differ added k.distinct, pairs_less (λ i j. i ≢ j) added k.distinct); indices_are = IsPermutation-trans (count_from 0 capacity) (d.free ++ indices d.window) (i ∷ (d.free ++ indices rest)) k.indices_are (IsPermutation-sym (i ∷ (d.free ++ indices rest)) (d.free ++ indices d.window) (adds_permutes added)); claimed = (each_less (IsMade d.claimed) a k.claimed).1; apart = pairs_less (λ n m. ¬ AreFromOneClaim n m) a k.apart; works = each_map (HoldsLawful d.handled) (HoldsLawful handled) (holds_later d.handled handled later) rest (each_less (HoldsLawful d.handled) a k.works).1; full = λ l none τ next. let empty : ⊥ = cc in absurd empty }
     where
       added : Adds i (d.free ++ indices rest) (d.free ++ indices d.window)
@@ -210,7 +210,7 @@ module _ (P : Problem) (capacity : ℕ) where
       numbers : indices (with_work t.index w d.window) ≡ indices d.window
       numbers = work_indices t.index w d.window
 
-      go : At t.index given.0 d.window → Kept (record { handled = d.handled; state = d.state; last = d.last; window = with_work t.index w d.window; free = d.free; claimed = d.claimed; committed = d.committed; dropped = d.dropped; abandoned = d.abandoned })
+      go : At t.index given.0 d.window → Kept (record { handled = d.handled; state = d.state; last = d.last; window = with_work t.index w d.window; free = d.free; claimed = d.claimed; committed = d.committed; dropped = d.dropped; abandoned = d.abandoned; alone = d.alone })
       go (n, at, odd, out, worked, found) = record { ascends = subst (Pairs (IsLess P.setting)) (sym same) k.ascends; waits = subst (AllByRecursion (IsWaiting P d.state d.last)) (sym same) k.waits; distinct = subst (λ xs. Pairs (λ i j. i ≢ j) (d.free ++ xs)) (sym numbers) k.distinct; indices_are = subst (λ xs. IsPermutation (count_from 0 capacity) (d.free ++ xs)) (sym numbers) k.indices_are; claimed = each_more (IsMade d.claimed) (worked w) (made.0.0, made.0.1, claim_laid n w given.0 odd made.0.0 made.0.2) made.1; apart = pairs_more (λ n m. ¬ AreFromOneClaim n m) one_claim_back (worked w) (each_map (λ m. ¬ AreFromOneClaim n m) (λ m. ¬ AreFromOneClaim (laid n w) m) other (without_node t.index d.window) (pairs_around (λ n m. ¬ AreFromOneClaim n m) one_claim_back out k.apart)) (pairs_less (λ n m. ¬ AreFromOneClaim n m) out k.apart); works = each_more (HoldsLawful d.handled) (worked w) held held_others; full = λ l e τ next. subst (Among τ) (sym same) (k.full l e τ next) }
         where
           made : IsMade d.claimed n × AllByRecursion (IsMade d.claimed) (without_node t.index d.window)
@@ -226,7 +226,7 @@ module _ (P : Problem) (capacity : ℕ) where
           other m h (c, i, j) = h (c, claim_kept n w given.0 odd made.0.0 made.0.2 c i, j)
 
   -- a claim's node goes into the window
-  claim_keeps : (d : Desk) → Kept d → (i : ℕ) (others : List ℕ) → d.free ≡ i ∷ others → (τ : Monomial) → IsFirstUnheld P d τ → Kept (record { handled = d.handled; state = d.state; last = d.last; window = insert_node (generator_weight P.setting) (record { signature = τ; index = i; generation = 2 * d.claimed + 1; work = None }) d.window; free = others; claimed = d.claimed + 1; committed = d.committed; dropped = d.dropped; abandoned = d.abandoned })
+  claim_keeps : (d : Desk) → Kept d → (i : ℕ) (others : List ℕ) → d.free ≡ i ∷ others → (τ : Monomial) → IsFirstUnheld P d τ → Kept (record { handled = d.handled; state = d.state; last = d.last; window = insert_node (generator_weight P.setting) (record { signature = τ; index = i; generation = 2 * d.claimed + 1; work = None }) d.window; free = others; claimed = d.claimed + 1; committed = d.committed; dropped = d.dropped; abandoned = d.abandoned; alone = d.alone })
   claim_keeps d k i others free τ first = record { ascends = insert_ascends P.setting n d.window unheld k.ascends; waits = each_more (IsWaiting P d.state d.last) (adds_map (λ m. m.signature) added) first.waits k.waits; distinct = pairs_more (λ i j. i ≢ j) differ moved apart.0 apart.1; indices_are = IsPermutation-trans (count_from 0 capacity) (i ∷ (others ++ indices d.window)) (others ++ indices whole) (subst (λ xs. IsPermutation (count_from 0 capacity) (xs ++ indices d.window)) free k.indices_are) (adds_permutes moved); claimed = each_more (IsMade (d.claimed + 1)) added (d.claimed, omega arith, refl) (each_map (IsMade d.claimed) (IsMade (d.claimed + 1)) (λ m t. (t.0, omega (arith, t.1), t.2)) d.window k.claimed); apart = pairs_more (λ n m. ¬ AreFromOneClaim n m) one_claim_back added (each_map (IsMade d.claimed) (λ m. ¬ AreFromOneClaim n m) newest d.window k.claimed) k.apart; works = each_more (HoldsLawful d.handled) added (λ w e. let none : ⊥ = cc in absurd none) k.works; full = λ l e σ next. held σ next (held_dec P d σ) }
     where
       n : Node

@@ -8,7 +8,7 @@ use Rattle.nc_algebra.specs.Finite.{IsOver, monomials_within}
 use Rattle.nc_algebra.specs.Primes.{IsPrime}
 use Rattle.nc_algebra.specs.Words.{Letter, Word}
 use Rattle.nc_theory.specs.Bases.{HasRepresentation, IsBasisBelow, IsCanonical, IsClosed, IsSound, IsSyzygyBasisBelow}
-use Rattle.nc_theory.specs.Desk.{Abandoned, Abandons, Advances, Claimed, Claims, Desk, Event, IsFinished, IsReady, Node, Plays, Submits, Submitted, Ticket, Work, after_committed, open_desk}
+use Rattle.nc_theory.specs.Desk.{Abandoned, Abandons, Advances, Claimed, Claims, Desk, Event, IsCounted, IsFinished, IsReady, Node, Plays, Submits, Submitted, Ticket, Work, after_committed, open_desk}
 use Rattle.nc_theory.specs.Divisors.{Divisor, IsChosenDivisor, RegularDivisor, multiple_at, number_of, signature_at}
 use Rattle.nc_theory.specs.Labels.{label_at, labels_of, step_multiples, trace_label}
 use Rattle.nc_theory.specs.Letters.{AreOver}
@@ -169,9 +169,11 @@ AnswersAreDetermined = (P : Problem) (d : Desk) →
 abbrev pub WindowsAreKept : Type 0
 WindowsAreKept = (P : Problem) → IsPrime P.setting.prime → (capacity : ℕ) (events : List Event) (d : Desk) → Plays P events (open_desk capacity) d → WindowLaw P capacity d
 
--- each claim was committed, dropped, given up or is still held
+-- a play keeps the counts of a desk right and handles no signature alone; those of an open desk are right
 abbrev pub DeskCounts : Type 0
-DeskCounts = (P : Problem) (capacity : ℕ) (events : List Event) (d : Desk) → Plays P events (open_desk capacity) d → (d.claimed ≡ d.committed + d.dropped + d.abandoned + length d.window) × (d.handled ≡ d.committed)
+DeskCounts = (P : Problem) →
+    ((events : List Event) (d d' : Desk) → Plays P events d d' → (IsCounted d → IsCounted d') × (d'.alone ≡ d.alone))
+    × ((capacity : ℕ) (events : List Event) (d : Desk) → Plays P events (open_desk capacity) d → IsCounted d × (d.alone ≡ 0))
 
 -- a work over the desk's own state that is ready is what handling gives there: each advance that is not at the end commits it, and none drops it
 abbrev pub OwnWorkStands : Type 0
