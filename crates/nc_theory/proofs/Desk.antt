@@ -4,7 +4,7 @@ use Rattle.nc_algebra.specs.Finite.{Among}
 use Rattle.nc_algebra.specs.Elements.{generator_weight}
 use Rattle.nc_algebra.specs.Monomials.{same_monomial, Monomial, compare_monomials}
 use Rattle.nc_algebra.specs.Primes.{IsField}
-use Rattle.nc_algebra.specs.Problems.{Problem}
+use Rattle.nc_algebra.specs.Problems.{NamedProblem, Problem}
 use Rattle.nc_theory.proofs.Determinism.{run_unique}
 use Rattle.nc_theory.proofs.Ends.{next_exists}
 use Rattle.nc_theory.specs.Desk.{IsFinished, node_of, Abandoned, Abandons, Advances, Claims, Desk, Does, Event, IsCounted, IsGiven, IsLawful, Node, Plays, Submits, Submitted, Ticket, Work, generation_at, insert_node, open_desk, with_work, without_node}
@@ -16,11 +16,11 @@ use Rattle.std.specs.Ordering.{is_lt}
 
 -- ---- the snapshot
 
-module _ (P : Problem) where
+module _ (P : NamedProblem) where
   abbrev pub IsAtRun : Desk → Type 0
-  IsAtRun d = SequentialRun P d.handled d.state d.last
+  IsAtRun d = SequentialRun P.problem d.handled d.state d.last
 
-  pub advance_runs : {d d' : Desk} → Advances P d d' → IsAtRun d → IsAtRun d'
+  pub advance_runs : {d d' : Desk} → Advances P.problem d d' → IsAtRun d → IsAtRun d'
   advance_runs (Advances.at_end f) run = run
   advance_runs (Advances.no_work f none) run = run
   advance_runs (Advances.drops f τ n w ready not) run = run
@@ -51,15 +51,15 @@ module _ (P : Problem) where
 
   -- no more steps than the problem allows
   abbrev IsLimited : Desk → Type 0
-  IsLimited d = d.handled ≤ P.steps
+  IsLimited d = d.handled ≤ P.problem.steps
 
-  advance_limits : {d d' : Desk} → Advances P d d' → IsLimited d → IsLimited d'
+  advance_limits : {d d' : Desk} → Advances P.problem d d' → IsLimited d → IsLimited d'
   advance_limits (Advances.at_end f) l = l
   advance_limits (Advances.no_work f none) l = l
   advance_limits (Advances.drops f τ n w ready not) l = l
-  advance_limits (Advances.commits {d = d} f τ n w ready handles more) l = advance_limits more (go (nat_order d.handled P.steps))
+  advance_limits (Advances.commits {d = d} f τ n w ready handles more) l = advance_limits more (go (nat_order d.handled P.problem.steps))
     where
-      go : (d.handled < P.steps) ⊎ ((d.handled ≡ P.steps) ⊎ (P.steps < d.handled)) → suc d.handled ≤ P.steps
+      go : (d.handled < P.problem.steps) ⊎ ((d.handled ≡ P.problem.steps) ⊎ (P.problem.steps < d.handled)) → suc d.handled ≤ P.problem.steps
       go (inl k) = omega (arith, k)
       go (inr (inl e)) = absurd (f (inr e))
       go (inr (inr k)) = absurd (omega (arith, l, k))
@@ -140,8 +140,8 @@ found (m ∷ ns) τ n e = go (same_monomial m.signature τ) e (found ns τ n)
     go true d f = inl (cc)
     go false d f = inr (f d)
 
-module _ (P : Problem) where
-  advance_counts : {d d' : Desk} → Advances P d d' → IsCounted d → IsCounted d'
+module _ (P : NamedProblem) where
+  advance_counts : {d d' : Desk} → Advances P.problem d d' → IsCounted d → IsCounted d'
   advance_counts (Advances.at_end f) h = h
   advance_counts (Advances.no_work f none) h = h
   advance_counts (Advances.drops {d = d} f τ n w ready not) h = (omega (arith, h.0, remove_counts n.index d.window n (found d.window τ n ready.held) refl), h.1)
@@ -161,12 +161,12 @@ module _ (P : Problem) where
   event_counts : {d d' : Desk} {e : Event} → Does P d e d' → IsCounted d → IsCounted d'
   event_counts (Does.claims (Claims.is_finished f)) h = h
   event_counts (Does.claims (Claims.is_none f o)) h = h
-  event_counts {d} (Does.claims (Claims.is_task f i others free few τ first)) h = (omega (arith, h.0, insert_counts (generator_weight P.setting) (record { signature = τ; index = i; generation = 2 * d.claimed + 1; work = None }) d.window), h.1)
+  event_counts {d} (Does.claims (Claims.is_task f i others free few τ first)) h = (omega (arith, h.0, insert_counts (generator_weight P.problem.setting) (record { signature = τ; index = i; generation = 2 * d.claimed + 1; work = None }) d.window), h.1)
   event_counts {d} {d'} (Does.submits {answer = answer} t given w l s) h = submit_counts d t w answer d' s h
   event_counts {d} {d'} (Does.abandons {answer = answer} t given a) h = abandon_counts d t given answer d' a h
   event_counts (Does.advances a) h = advance_counts a h
 
-  advance_alone : {d d' : Desk} → Advances P d d' → d'.alone ≡ d.alone
+  advance_alone : {d d' : Desk} → Advances P.problem d d' → d'.alone ≡ d.alone
   advance_alone (Advances.at_end f) = refl
   advance_alone (Advances.no_work f none) = refl
   advance_alone (Advances.drops f τ n w ready not) = refl
@@ -207,14 +207,14 @@ module _ (P : Problem) where
   counted capacity plays = (play_counts plays (refl, refl), play_alone plays)
 
 -- a lawful work over the desk's own state is what handling gives there
-pub own_stands : (P : Problem) → IsField P.setting.prime → {n : ℕ} {state : State} {last : Option Monomial} → SequentialRun P n state last → (w : Work) → IsLawful w → w.problem ≡ P → w.number ≡ n → Handles P.setting state w.signature w.outcome
-own_stands P field {n} {state} {last} run w l p e = go (run_unique P field here run)
+pub own_stands : (P : NamedProblem) → IsField P.problem.setting.prime → {n : ℕ} {state : State} {last : Option Monomial} → SequentialRun P.problem n state last → (w : Work) → IsLawful w → w.problem ≡ P → w.number ≡ n → Handles P.problem.setting state w.signature w.outcome
+own_stands P field {n} {state} {last} run w l p e = go (run_unique P.problem field here run)
   where
-    here : SequentialRun P n l.state l.last
-    here = subst (λ m. SequentialRun P m l.state l.last) e (subst (λ Q. SequentialRun Q w.number l.state l.last) p l.run)
+    here : SequentialRun P.problem n l.state l.last
+    here = subst (λ m. SequentialRun P.problem m l.state l.last) e (subst (λ Q. SequentialRun Q.problem w.number l.state l.last) p l.run)
 
-    go : (l.state ≡ state) × (l.last ≡ last) → Handles P.setting state w.signature w.outcome
-    go t = subst (λ s. Handles P.setting s w.signature w.outcome) t.0 (subst (λ Q. Handles Q.setting l.state w.signature w.outcome) p l.handles)
+    go : (l.state ≡ state) × (l.last ≡ last) → Handles P.problem.setting state w.signature w.outcome
+    go t = subst (λ s. Handles P.problem.setting s w.signature w.outcome) t.0 (subst (λ Q. Handles Q.problem.setting l.state w.signature w.outcome) p l.handles)
 
 -- at an end no candidate is left after the last signature, or all steps are made
 ended : (P : Problem) → IsField P.setting.prime → (n : ℕ) (state : State) (last : Option Monomial) → SequentialRun P n state last → {end : End} → IsEnd P n state end → NoneWaits P state last ⊎ (n ≡ P.steps)
