@@ -11,7 +11,7 @@ use Rattle.nc_theory.proofs.Determinism.{handles_unique, next_unique}
 use Rattle.nc_theory.proofs.Ends.{first_with, handles_exists, next_exists, source}
 use Rattle.nc_theory.proofs.Equality.{monomial_dec, named_dec, outcome_dec}
 use Rattle.nc_theory.proofs.Plays.{some_same}
-use Rattle.nc_theory.specs.Desk.{Abandoned, Abandons, Advances, Claimed, Claims, Desk, Does, Event, IsFinished, IsFirstUnheld, IsGiven, IsHeld, IsReady, Node, Plays, Submits, Submitted, Ticket, Work, after_committed, after_dropped, generation_at, insert_node, node_at, node_of, open_desk}
+use Rattle.nc_theory.specs.Desk.{Abandoned, Abandons, Advances, Claimed, Claims, Desk, Does, Event, IsFinished, IsFirstUnheld, IsGiven, IsHeld, IsReady, Node, Plays, Submits, Submitted, Ticket, Work, after_committed, after_dropped, generation_at, claim_limit, insert_node, node_at, node_of, open_desk}
 use Rattle.nc_theory.specs.States.{State}
 use Rattle.nc_theory.specs.Runs.{Handles, IsAfter, IsCandidate, IsNext, IsWaiting, Outcome, SequentialRun}
 use Rattle.std.proofs.Common.{Bool, List, None, Option, Some, [], ap, arith, cond, false, inl, inr, le_refl, length, nat_eq, refl, subst, suc, sym, true, zero, ℕ, ◌*◌, ◌+◌, ◌<◌, ◌∙◌, ◌∷◌, ◌≡◌, ◌≤◌, ◌⊎◌}
@@ -54,12 +54,12 @@ module _ (P : Problem) where
       go (inr all) = inr (λ τ w. is_held τ (all τ w) (held_dec d τ))
 
   claims_exist : (d : Desk) → (answer : Claimed) × (d' : Desk) × Claims P d answer d'
-  claims_exist d = go (finished_dec d) d.free refl (nat_order d.claimed 9223372036854775807) (first_unheld d)
+  claims_exist d = go (finished_dec d) d.free refl (nat_order d.claimed claim_limit) (first_unheld d)
     where
-      none : ¬ IsFinished P d → (d.free ≡ []) ⊎ (((τ : Monomial) → IsWaiting P d.state d.last τ → IsHeld d τ) ⊎ (9223372036854775807 ≤ d.claimed)) → (answer : Claimed) × (d' : Desk) × Claims P d answer d'
+      none : ¬ IsFinished P d → (d.free ≡ []) ⊎ (((τ : Monomial) → IsWaiting P d.state d.last τ → IsHeld d τ) ⊎ (claim_limit ≤ d.claimed)) → (answer : Claimed) × (d' : Desk) × Claims P d answer d'
       none n o = (Claimed.none_now, d, Claims.is_none n o)
 
-      go : Decided (IsFinished P d) → (free : List ℕ) → d.free ≡ free → (d.claimed < 9223372036854775807) ⊎ ((d.claimed ≡ 9223372036854775807) ⊎ (9223372036854775807 < d.claimed)) → ((τ : Monomial) × IsFirstUnheld P d τ) ⊎ ((τ : Monomial) → IsWaiting P d.state d.last τ → IsHeld d τ) → (answer : Claimed) × (d' : Desk) × Claims P d answer d'
+      go : Decided (IsFinished P d) → (free : List ℕ) → d.free ≡ free → (d.claimed < claim_limit) ⊎ ((d.claimed ≡ claim_limit) ⊎ (claim_limit < d.claimed)) → ((τ : Monomial) × IsFirstUnheld P d τ) ⊎ ((τ : Monomial) → IsWaiting P d.state d.last τ → IsHeld d τ) → (answer : Claimed) × (d' : Desk) × Claims P d answer d'
       go (inl f) free e l first = (Claimed.finished, d, Claims.is_finished f)
       go (inr n) [] e l first = none n (inl e)
       go (inr n) (i ∷ others) e (inr (inl m)) first = none n (inr (inr (omega (arith, m))))

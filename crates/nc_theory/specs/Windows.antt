@@ -7,7 +7,7 @@ use Rattle.nc_theory.specs.Runs.{IsNext, IsWaiting}
 use Rattle.std.specs.List.{AllPairs}
 use Rattle.std.specs.Prelude.{Contains, IsPermutation, None, Option, Some, [], map, ℕ, ◌*◌, ◌++◌, ◌+◌, ◌<◌, ◌≡◌, ◌≤◌}
 
--- the generation that a node has from claim number c, counted from 0: odd until a work comes in, and even with it
+-- the generation that a node has from claim number c: odd until a work comes in, and even with it
 abbrev pub generation_of : ℕ → Option Work → ℕ
 generation_of c None = 2 * c + 1
 generation_of c (Some w) = 2 * c + 2
