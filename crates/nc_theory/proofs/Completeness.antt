@@ -1,14 +1,14 @@
 -- The procedure keeps labels, and is closed below the least candidate left.
 use Rattle.nc_algebra.proofs.Elements.{HasGenerator, element_times_coefficient, element_times_leads, evaluation_times, in_times}
 use Rattle.nc_algebra.proofs.Leading.{lead_leads}
-use Rattle.nc_algebra.proofs.Monomials.{degree-times, monomial_laws}
+use Rattle.nc_algebra.proofs.Monomials.{degree-times, monomial_laws, sig_down}
 use Rattle.nc_algebra.proofs.Sums.{at_other, at_self, key_dec, lead_unique, linear_sum-append, linear_sum-ext, linear_sum-map_keys, linear_sum-scale, zero_number}
 use Rattle.nc_algebra.proofs.Words.{word_laws, word_total, word_trans}
 use Rattle.nc_algebra.specs.Elements.{Element, IsGenerator, IsLabelled, IsLeadingWord, IsLess, IsSignatureOf, IsZeroPolynomial, Setting, element_times, evaluation, generator, generator_weight}
-use Rattle.nc_algebra.specs.Monomials.{Monomial, degree_of, same_monomial, times, unit_monomial}
+use Rattle.nc_algebra.specs.Monomials.{Monomial, Sig, degree_of, same_monomial, times, unit_monomial}
 use Rattle.nc_algebra.specs.Polynomials.{Polynomial, coefficient, leading, polynomial_times}
 use Rattle.nc_algebra.specs.Primes.{IsField, IsZero}
-use Rattle.nc_algebra.specs.Problems.{IsWithinBound, Bound, IsWithin, IsWithinBelow, Problem}
+use Rattle.nc_algebra.specs.Problems.{IsUnder, IsWithinBound, Bound, IsWithin, IsWithinBelow, Problem}
 use Rattle.nc_algebra.specs.Sums.{Term, coefficient_by, is_at, scale}
 use Rattle.nc_algebra.specs.Words.{IsWordLess, Word, same_word}
 use Rattle.nc_theory.proofs.Carrying.{Carries, carry}
@@ -222,7 +222,7 @@ module _ (P : Problem) (field : IsField P.setting.prime) (state : State) (last :
     ambiguities = ambiguities_step Outcome.covered (λ w amb. inl (covered_after P.setting state τ Outcome.covered τ k));
   }
 
-  -- Settled: the best multiple has a lesser word than each ambiguity
+  -- where it is settled, the best multiple has a lesser word than each ambiguity
   step_settled : (j : ℕ) → ((i : ℕ) → τ ≢ unit_monomial i) → (b : Word) (d : Divisor P.setting state.entries b) → IsBestMultiple P.setting state.entries τ b d → ¬ RegularDivisor P.setting state.entries τ b → Invariant P (state_after state τ (Outcome.settled j)) (Some τ)
   step_settled j not_unit b d best not_regular = record {
     below_last = λ e c. reached_after e.signature (inv.below_last e c);
@@ -442,6 +442,9 @@ bound_down s (Bound.to_degree d) σ τ w l m = (m, degrees l)
     degrees (inl h) = omega (arith, w.1)
     degrees (inr (e, h)) = omega (arith, e, w.1)
 bound_down s (Bound.before β) σ τ w l m = (m, (monomial_laws (generator_weight s)).trans σ τ β l w.1)
+
+pub under_down : (s : Setting) (β : Sig) (σ τ : Monomial) → IsUnder s β τ → IsLess s σ τ → HasGenerator s σ → IsUnder s β σ
+under_down s β σ τ w l m = (m, sig_down (generator_weight s) β σ τ l w.1)
 
 pub within_down : (P : Problem) (σ τ : Monomial) → IsWithin P τ → IsLess P.setting σ τ → HasGenerator P.setting σ → IsWithin P σ
 within_down P = bound_down P.setting P.bound

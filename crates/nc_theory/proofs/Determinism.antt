@@ -123,7 +123,7 @@ module _ (s : Setting) (field : IsField s.prime) (entries : List Entry) where
       go (inr (i, n)) (inl m) = absurd (word_irrefl w (subst (λ x. IsWordLess x w) (sym i) m))
       go (inr (i, n)) (inr (j, m)) = all i (omega (arith, n, m))
 
-  starts_unique : (τ : Monomial) → {f : Polynomial} {a : Start} → Starts s entries τ f a → {f' : Polynomial} {a' : Start} → Starts s entries τ f' a' → (f ≡ f') × (a ≡ a')
+  pub starts_unique : (τ : Monomial) → {f : Polynomial} {a : Start} → Starts s entries τ f a → {f' : Polynomial} {a' : Start} → Starts s entries τ f' a' → (f ≡ f') × (a ≡ a')
   starts_unique τ (Starts.at_generator i e) (Starts.at_generator j e') = let k : i ≡ j = ap (λ σ. σ.generator) (sym e ∙ e') in (ap (generator s) k, ap Start.a_generator k)
   starts_unique τ (Starts.at_generator i e) (Starts.at_multiple n w d b r) = absurd (n i e)
   starts_unique τ (Starts.at_multiple n w d b r) (Starts.at_generator i e) = absurd (n i e)

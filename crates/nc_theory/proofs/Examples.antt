@@ -6,7 +6,9 @@ use Rattle.nc_algebra.specs.Polynomials.{Polynomial, coefficient, leading}
 use Rattle.nc_algebra.specs.Sums.{Term}
 use Rattle.nc_algebra.specs.Words.{Letter, Word, compare_words}
 use Rattle.nc_theory.specs.Ambiguities.{Ambiguity}
+use Rattle.nc_theory.specs.Divisors.{IsChosenDivisor}
 use Rattle.nc_theory.specs.States.{Entry, Start}
+use Rattle.nc_theory.specs.Syzygies.{TrivialSyzygy}
 use Rattle.std.proofs.Common.{Greater, Less, [], arith, lit<, inl, inr, refl, ℕ, ◌%◌, ◌∷◌, ◌≡◌}
 
 abbrev term : ℕ → Word → Term Word
@@ -70,5 +72,39 @@ overlap = record {
   high_begins = lit< tt;
   low_begins = lit< tt;
   below = inr (refl, inr (refl, inl (lighter_less [] (x ∷ []) (lit< tt))));
+  signed = refl;
+}
+
+-- of the two places of xx in xxx the left one is chosen
+leftmost : IsChosenDivisor small (square ∷ []) (λ σ. Unit {0}) (x ∷ x ∷ x ∷ []) overlap.low
+unfolding small square leading generator overlap
+leftmost = record { allowed = tt; least = λ e a. inr (omega (arith, e.listed.1), omega arith) }
+
+-- xx times xx in two ways: the sides are 1 [1] xx and xx [1] 1, and the second is greater
+trivial : TrivialSyzygy small (square ∷ []) (record { left = x ∷ x ∷ []; generator = 1; right = [] })
+unfolding small square leading generator
+trivial = record {
+  first = square; first_listed = (0, omega arith, refl); second = square; second_listed = (0, omega arith, refl); m = [];
+  greater = inr (inr (refl, inr (refl, inl (lighter_less [] (x ∷ x ∷ []) (lit< tt)))), refl);
+}
+
+-- over the generators xx and 1
+with_constant : Setting
+with_constant = record { prime = 2; generators = (term 1 (x ∷ x ∷ []) ∷ []) ∷ (term 1 [] ∷ []) ∷ [] }
+
+one : Entry
+one = record { signature = unit_monomial 2; polynomial = term 1 [] ∷ []; trace = record { start = Start.a_generator 2; steps = [] } }
+
+-- the empty leading word of 1 stands strictly inside xx, with signature x [2] x
+inside : Ambiguity with_constant (square ∷ one ∷ []) (record { left = x ∷ []; generator = 2; right = x ∷ [] }) (x ∷ x ∷ [])
+unfolding with_constant square one leading generator
+inside = record {
+  high = record { entry = one; listed = (1, omega arith, refl); left = x ∷ []; right = x ∷ []; spells = refl };
+  low = record { entry = square; listed = (0, omega arith, refl); left = []; right = []; spells = refl };
+  spans_front = inr refl;
+  spans_back = inr refl;
+  high_begins = lit< tt;
+  low_begins = lit< tt;
+  below = inr (refl, inl (lit< tt));
   signed = refl;
 }

@@ -38,7 +38,7 @@ extends P field {k} {state = state} {later = later} run run' l = go (earlier P r
     go : (state' : State) × (before' : Option Monomial) × SequentialRun P k state' before' × Extension state' later → Extension state later
     go (a, b, r, x) = subst (λ y. Extension y later) (run_unique P field r run).0 x
 
--- an outcome found over an earlier state is that over a later one exactly where it is Covered or nothing newer bears on it
+-- an outcome found over an earlier state is that over a later one exactly where it is covered or nothing newer bears on it
 pub stale : (P : Problem) → IsField P.setting.prime → {k n : ℕ} {state later : State} {before last : Option Monomial} → SequentialRun P k state before → SequentialRun P n later last → k ≤ n → (x : Extension state later) × ((τ : Monomial) (o : Outcome) → Handles P.setting state τ o → Handles P.setting later τ o ↔ ((o ≡ Outcome.covered) ⊎ Unaffected P.setting state x.es x.hs τ o))
 stale P field {state = state} {later = later} run run' l = (x, λ τ o h. (λ g. stood P.setting field state alive x.es x.hs later.covered later.settled τ nonzero (subst (λ y. Handles P.setting y τ o) x.is g), λ u. subst (λ y. Handles P.setting y τ o) (sym x.is) (stands P.setting field state alive x.es x.hs later.covered later.settled τ h u)))
   where

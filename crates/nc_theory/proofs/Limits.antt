@@ -4,10 +4,11 @@ use Rattle.nc_algebra.proofs.Elements.{element_times_coefficient, element_times_
 use Rattle.nc_algebra.proofs.Leading.{lead_leads}
 use Rattle.nc_algebra.proofs.Sums.{below_lead, zero_number}
 use Rattle.nc_algebra.proofs.Words.{less_weighs, word_laws}
-use Rattle.nc_algebra.specs.Elements.{Element, IsLabelled, IsLess, Setting, WeighsAtMost, element_times, generator, generator_weight}
+use Rattle.nc_algebra.specs.Elements.{Element, IsLabelled, IsLeadingWord, IsLess, Setting, WeighsAtMost, element_times, generator, generator_weight}
 use Rattle.nc_algebra.specs.Monomials.{Monomial, degree_of, unit_monomial}
 use Rattle.nc_algebra.specs.Polynomials.{Polynomial, leading}
 use Rattle.nc_algebra.specs.Primes.{IsField}
+use Rattle.nc_algebra.specs.Sums.{minus}
 use Rattle.nc_algebra.specs.Words.{IsWordLess, Word, same_word, word_weight}
 use Rattle.nc_theory.specs.Divisors.{Divisor, multiple_at, signature_at}
 use Rattle.nc_theory.specs.Laws.{LimitedAt}
@@ -47,15 +48,19 @@ module _ (s : Setting) (field : IsField s.prime) where
           omega (arith, d, generator_limited i x n)
       starts_limited (Starts.at_multiple not_unit w d best regular) x n = multiples_limited w d (inl best.signed) x n
 
+      removes_limited : (f : Polynomial) (w : Word) (c : ℕ) → IsLeadingWord s f w → WeighsAtMost s (degree_of (generator_weight s) τ) f → WeighsAtMost s (degree_of (generator_weight s) τ) (minus s.prime f 1 (record { coefficient = c; key = w } ∷ []))
+      removes_limited f w c l h = minus_are s (λ v. word_weight v ≤ degree_of (generator_weight s) τ) f 1 (record { coefficient = c; key = w } ∷ []) h (more_are s (λ v. word_weight v ≤ degree_of (generator_weight s) τ) c w [] (h w l.nonzero) (λ y m. absurd (m (zero_number s.prime))))
+
       keeps_limited : {f kept : Polynomial} {steps : List Step} → WeighsAtMost s (degree_of (generator_weight s) τ) f → ReductionAt s entries τ f kept steps → WeighsAtMost s (degree_of (generator_weight s) τ) kept
       keeps_limited h (Reduction.finished z) x n = absurd (n (zero_number s.prime))
       keeps_limited h (Reduction.subtract {f = f} w l d chosen c small q rest) x n = keeps_limited (minus_are s (λ v. word_weight v ≤ degree_of (generator_weight s) τ) f c (multiple_at s entries w d) h (multiples_limited w d (inr chosen.allowed))) rest x n
-      keeps_limited h (Reduction.keep {f = f} {kept = kept} w l none c e rest) x n = more_are s (λ v. word_weight v ≤ degree_of (generator_weight s) τ) c w kept (h w l.nonzero) (keeps_limited (minus_are s (λ v. word_weight v ≤ degree_of (generator_weight s) τ) f 1 (record { coefficient = c; key = w } ∷ []) h (more_are s (λ v. word_weight v ≤ degree_of (generator_weight s) τ) c w [] (h w l.nonzero) (λ y m. absurd (m (zero_number s.prime))))) rest) x n
+      keeps_limited h (Reduction.keep {f = f} {kept = kept} w l none c e rest) x n = more_are s (λ v. word_weight v ≤ degree_of (generator_weight s) τ) c w kept (h w l.nonzero) (keeps_limited (removes_limited f w c l h) rest) x n
 
       pub limited : LimitedAt s entries τ
       limited = record {
         starts = λ f start h. starts_limited h;
         multiples = multiples_limited;
         subtracts = λ f w d c h l. minus_are s (λ v. word_weight v ≤ degree_of (generator_weight s) τ) f c (multiple_at s entries w d) h (multiples_limited w d (inr l));
+        removes = λ f w c l h. removes_limited f w c l h;
         keeps = λ f kept steps h r. keeps_limited h r;
       }

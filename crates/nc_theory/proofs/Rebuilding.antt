@@ -2,23 +2,23 @@
 use Rattle.nc_algebra.proofs.Monomials.{monomial_laws}
 use Rattle.nc_algebra.specs.Elements.{IsLess, IsZeroPolynomial, Setting, generator_weight}
 use Rattle.nc_algebra.specs.Monomials.{Monomial, times}
-use Rattle.nc_algebra.specs.Polynomials.{Polynomial}
+use Rattle.nc_algebra.specs.Polynomials.{Polynomial, coefficient}
 use Rattle.nc_algebra.specs.Primes.{IsField}
 use Rattle.nc_algebra.specs.Problems.{Problem}
 use Rattle.nc_algebra.specs.Words.{Word}
 use Rattle.nc_theory.proofs.Completeness.{Invariant, IsReached, invariant, reached_less}
 use Rattle.nc_theory.proofs.Decisions.{less_dec}
-use Rattle.nc_theory.proofs.Determinism.{reduction_unique}
+use Rattle.nc_theory.proofs.Determinism.{reduction_unique, starts_unique}
 use Rattle.nc_theory.proofs.Existence.{reduce_exists}
 use Rattle.nc_theory.proofs.Places.{at_most_multiple}
 use Rattle.nc_theory.proofs.Stale.{front_or_later, in_front, reduction_on}
 use Rattle.nc_theory.proofs.Traces.{only_one}
-use Rattle.nc_theory.specs.Divisors.{RegularDivisor}
+use Rattle.nc_theory.specs.Divisors.{Divisor, IsChosenDivisor, RegularDivisor, signature_at}
 use Rattle.nc_theory.specs.Rebuilding.{IsFrom, Rebuilds}
-use Rattle.nc_theory.specs.Reductions.{ReductionAt}
+use Rattle.nc_theory.specs.Reductions.{Reduction, ReductionAt}
 use Rattle.nc_theory.specs.Runs.{Handles, IsNext, Outcome, SequentialRun, Starts, state_after}
 use Rattle.nc_theory.specs.States.{Entry, Start, State, Step, Syzygy, Trace}
-use Rattle.std.proofs.Common.{Contains, List, Option, Some, [], ap, append-nil, append_assoc, arith, inl, inr, length, length-append, refl, subst, subst₂, sym, ℕ, ◌++◌, ◌<◌, ◌↔◌, ◌∙◌, ◌∷◌, ◌≡◌, ◌≤◌, ◌⊎◌}
+use Rattle.std.proofs.Common.{Contains, List, Option, Some, [], ap, ap₂, append-nil, append_assoc, arith, get_or, inl, inr, length, length-append, refl, subst, subst₂, suc, sym, ℕ, ◌%◌, ◌++◌, ◌<◌, ◌↔◌, ◌∙◌, ◌∷◌, ◌≡◌, ◌≤◌, ◌⊎◌}
 use Rattle.std.proofs.lemmas.List.Elements.{Contains-append_cases, Contains-push_cases}
 
 -- a multiple of an entry with a signature of at least τ has one too
@@ -33,31 +33,78 @@ from_not_below s τ e u v f l = go (at_most_multiple s u v e.signature) f
     go o (inl i) = (monomial_laws (generator_weight s)).irrefl τ (subst (λ κ. IsLess s κ τ) i (under o))
     go o (inr m) = (monomial_laws (generator_weight s)).irrefl τ ((monomial_laws (generator_weight s)).trans τ e.signature τ m (under o))
 
-module _ (s : Setting) (field : IsField s.prime) (first rest : List Entry) (τ : Monomial) (alive : (e : Entry) → Contains first e → ¬ IsZeroPolynomial s e.polynomial) (lively : (e : Entry) → Contains rest e → ¬ IsZeroPolynomial s e.polynomial) (others : (e : Entry) → Contains rest e → IsFrom s τ e) where
-  pub regular_front : (w : Word) → RegularDivisor s (first ++ rest) τ w ↔ RegularDivisor s first τ w
-  regular_front w = (λ r. go r (front_or_later first rest r.divisor.entry r.divisor.listed), λ r. record { divisor = record { entry = r.divisor.entry; listed = in_front first rest r.divisor.entry r.divisor.listed; left = r.divisor.left; right = r.divisor.right; spells = r.divisor.spells }; below = r.below })
+module _ (s : Setting) (first rest : List Entry) (τ : Monomial) (others : (e : Entry) → Contains rest e → IsFrom s τ e) where
+  -- a place of one of the first entries is one among all
+  abbrev in_all : (w : Word) → Divisor s first w → Divisor s (first ++ rest) w
+  in_all w d = record { entry = d.entry; listed = in_front first rest d.entry d.listed; left = d.left; right = d.right; spells = d.spells }
+
+  first_at : (w : Word) (d : Divisor s (first ++ rest) w) → IsLess s (signature_at s (first ++ rest) w d) τ → (d.listed.0 < length first) × (get_or first d.listed.0 d.entry ≡ d.entry)
+  first_at w d below = go (front_or_later first rest d.entry d.listed)
     where
-      go : (r : RegularDivisor s (first ++ rest) τ w) → ((l : Contains first r.divisor.entry) × (l.0 ≡ r.divisor.listed.0)) ⊎ (Contains rest r.divisor.entry × (length first ≤ r.divisor.listed.0)) → RegularDivisor s first τ w
-      go r (inl (l, e)) = record { divisor = record { entry = r.divisor.entry; listed = l; left = r.divisor.left; right = r.divisor.right; spells = r.divisor.spells }; below = r.below }
-      go r (inr (c, b)) = absurd (from_not_below s τ r.divisor.entry r.divisor.left r.divisor.right (others r.divisor.entry c) r.below)
+      go : ((l : Contains first d.entry) × (l.0 ≡ d.listed.0)) ⊎ (Contains rest d.entry × (length first ≤ d.listed.0)) → (d.listed.0 < length first) × (get_or first d.listed.0 d.entry ≡ d.entry)
+      go (inl (l, e)) = (subst (λ n. n < length first) e l.1, subst (λ n. get_or first n d.entry ≡ d.entry) e l.2)
+      go (inr (c, b)) = absurd (from_not_below s τ d.entry d.left d.right (others d.entry c) below)
 
-  all_alive : (e : Entry) → Contains (first ++ rest) e → ¬ IsZeroPolynomial s e.polynomial
-  all_alive e c = elim (Contains-append_cases first rest e c) [ inl k ↦ alive e k | inr k ↦ lively e k ]
+  -- and one among all with a signature below τ is one of a first entry, under the same number
+  abbrev in_first : (w : Word) (d : Divisor s (first ++ rest) w) → IsLess s (signature_at s (first ++ rest) w d) τ → Divisor s first w
+  in_first w d below = record { entry = d.entry; listed = (d.listed.0, (first_at w d below).0, (first_at w d below).1); left = d.left; right = d.right; spells = d.spells }
 
-  state : State
-  state = record { entries = first; syzygies = []; covered = 0; settled = 0 }
+  pub regular_front : (w : Word) → RegularDivisor s (first ++ rest) τ w ↔ RegularDivisor s first τ w
+  regular_front w = (λ r. record { divisor = in_first w r.divisor r.below; below = r.below }, λ r. record { divisor = in_all w r.divisor; below = r.below })
+
+  chosen_in_all : (w : Word) (d : Divisor s first w) → IsChosenDivisor s first (λ σ. IsLess s σ τ) w d → IsChosenDivisor s (first ++ rest) (λ σ. IsLess s σ τ) w (in_all w d)
+  chosen_in_all w d chosen = record { allowed = chosen.allowed; least = λ e a. chosen.least (in_first w e a) a }
+
+  chosen_in_first : (w : Word) (d : Divisor s (first ++ rest) w) (chosen : IsChosenDivisor s (first ++ rest) (λ σ. IsLess s σ τ) w d) → IsChosenDivisor s first (λ σ. IsLess s σ τ) w (in_first w d chosen.allowed)
+  chosen_in_first w d chosen = record { allowed = chosen.allowed; least = λ e a. chosen.least (in_all w e) a }
 
   reduction_forth : {f kept : Polynomial} {steps : List Step} → ReductionAt s first τ f kept steps → ReductionAt s (first ++ rest) τ f kept steps
-  reduction_forth r = reduction_on s field (record { entries = first; syzygies = []; covered = 0; settled = 0 }) alive rest [] 0 0 τ r (λ x nz n. from_not_below s τ n.0.divisor.entry n.0.divisor.left n.0.divisor.right (others n.0.divisor.entry n.1) n.0.below)
+  reduction_forth (Reduction.finished n) = Reduction.finished n
+  reduction_forth (Reduction.subtract w l d chosen c small q r) = Reduction.subtract w l (in_all w d) (chosen_in_all w d chosen) c small q (reduction_forth r)
+  reduction_forth (Reduction.keep w l none c e r) = Reduction.keep w l (λ d a. none (in_first w d a) a) c e (reduction_forth r)
 
   reduction_back : {f kept : Polynomial} {steps : List Step} → ReductionAt s (first ++ rest) τ f kept steps → ReductionAt s first τ f kept steps
-  reduction_back {f} {kept} {steps} r = go (reduce_exists s field first alive (λ σ. IsLess s σ τ) (λ σ. less_dec s σ τ) f)
-    where
-      go : (kept' : Polynomial) × (steps' : List Step) × ReductionAt s first τ f kept' steps' → ReductionAt s first τ f kept steps
-      go (kept', steps', r') = let t : (kept' ≡ kept) × (steps' ≡ steps) = reduction_unique s field (first ++ rest) all_alive (λ σ. IsLess s σ τ) (reduction_forth r') r (record { at = λ w. refl }) in subst₂ (ReductionAt s first τ f) t.0 t.1 r'
+  reduction_back (Reduction.finished n) = Reduction.finished n
+  reduction_back (Reduction.subtract w l d chosen c small q r) = Reduction.subtract w l (in_first w d chosen.allowed) (chosen_in_first w d chosen) c small q (reduction_back r)
+  reduction_back (Reduction.keep w l none c e r) = Reduction.keep w l (λ d a. none (in_all w d) a) c e (reduction_back r)
 
   pub reduction_front : (f kept : Polynomial) (steps : List Step) → ReductionAt s (first ++ rest) τ f kept steps ↔ ReductionAt s first τ f kept steps
   reduction_front f kept steps = (reduction_back, reduction_forth)
+
+-- ---- what is rebuilt is one
+
+module _ (s : Setting) (σ : Monomial) where
+  lesser_or_not : (e : Entry) → IsLess s e.signature σ → IsFrom s σ e → ⊥
+  lesser_or_not e l (inl i) = (monomial_laws (generator_weight s)).irrefl σ (subst (λ κ. IsLess s κ σ) i l)
+  lesser_or_not e l (inr m) = (monomial_laws (generator_weight s)).irrefl σ ((monomial_laws (generator_weight s)).trans σ e.signature σ m l)
+
+  behind : {X : Type 0} → List X → List X
+  behind [] = []
+  behind (x ∷ xs) = xs
+
+  -- a list is split into lesser entries and others in one way
+  split_once : (first rest first' rest' : List Entry) → first ++ rest ≡ first' ++ rest' → ((e : Entry) → Contains first e → IsLess s e.signature σ) → ((e : Entry) → Contains rest e → IsFrom s σ e) → ((e : Entry) → Contains first' e → IsLess s e.signature σ) → ((e : Entry) → Contains rest' e → IsFrom s σ e) → first ≡ first'
+  unfolding behind
+  split_once [] rest [] rest' e low high low' high' = refl
+  split_once [] rest (x ∷ first') rest' e low high low' high' = absurd (lesser_or_not x (low' x (0, omega arith, refl)) (high x (subst (λ l. Contains l x) (sym e) (0, omega arith, refl))))
+  split_once (x ∷ first) rest [] rest' e low high low' high' = absurd (lesser_or_not x (low x (0, omega arith, refl)) (high' x (subst (λ l. Contains l x) e (0, omega arith, refl))))
+  split_once (x ∷ first) rest (y ∷ first') rest' e low high low' high' = ap₂ (λ z l. z ∷ l) (ap (λ l. get_or l 0 x) e) (split_once first rest first' rest' (ap behind e) (λ z c. low z (suc c.0, omega (arith, c.1), c.2)) high (λ z c. low' z (suc c.0, omega (arith, c.1), c.2)) high')
+
+module _ (s : Setting) (field : IsField s.prime) (entries : List Entry) (alive : (e : Entry) → Contains entries e → ¬ IsZeroPolynomial s e.polynomial) (σ : Monomial) where
+  pub rebuilds_once : (t t' : Trace) (f f' : Polynomial) → Rebuilds s entries σ t f → Rebuilds s entries σ t' f' → (t ≡ t') × (f ≡ f')
+  rebuilds_once t t' f f' r r' = reduced (starts_unique s field r.first σ r.starts (subst (λ l. Starts s l σ r'.start t'.start) (sym same) r'.starts))
+    where
+      same : r.first ≡ r'.first
+      same = split_once s σ r.first r.rest r'.first r'.rest (sym r.splits ∙ r'.splits) r.lesser r.others r'.lesser r'.others
+
+      first_alive : (e : Entry) → Contains r.first e → ¬ IsZeroPolynomial s e.polynomial
+      first_alive e c = alive e (subst (λ l. Contains l e) (sym r.splits) (in_front r.first r.rest e c))
+
+      reduced : (r.start ≡ r'.start) × (t.start ≡ t'.start) → (t ≡ t') × (f ≡ f')
+      reduced (a, b) = join (reduction_unique s field r.first first_alive (λ κ. IsLess s κ σ) r.reduces (subst (λ l. ReductionAt s l σ r'.start f' t'.steps) (sym same) r'.reduces) (record { at = λ w. ap (λ h. coefficient h w % s.prime) a }))
+        where
+          join : (f ≡ f') × (t.steps ≡ t'.steps) → (t ≡ t') × (f ≡ f')
+          join (k, l) = (λ i. record { start = b i; steps = l i }, k)
 
 -- ---- runs
 

@@ -19,7 +19,7 @@ use Rattle.nc_theory.specs.Divisors.{Divisor, leading_at, multiple_at}
 use Rattle.nc_theory.specs.Letters.{AreOver}
 use Rattle.nc_theory.specs.Reductions.{Reduction}
 use Rattle.nc_theory.specs.Runs.{End, Handles, IsAfter, IsCandidate, IsEnd, IsNext, Outcome, SequentialRun, Starts, state_after}
-use Rattle.nc_theory.specs.States.{Entry, Start, State, Step}
+use Rattle.nc_theory.specs.States.{Entry, Start, State, Step, Syzygy}
 use Rattle.std.proofs.Common.{append-nil, Bool, Contains, Equal, Greater, Less, List, None, Option, Ordering, Some, [], ap, append_assoc, arith, false, inl, inr, length, length-append, refl, subst, sym, true, ℕ, ◌++◌, ◌<◌, ◌∙◌, ◌∷◌, ◌≡◌, ◌≤◌, ◌⊎◌}
 use Rattle.std.proofs.lemmas.Bool.{false≢true}
 use Rattle.std.proofs.lemmas.List.Elements.{Contains-push_cases}
@@ -66,6 +66,22 @@ module _ (s : Setting) (letters : List Letter) (inputs : (i : ℕ) → WordsAre 
   reduction_over set (Reduction.finished z) o x n = absurd (n (zero_number s.prime))
   reduction_over set (Reduction.subtract {f = f} w l d chosen c small q rest) o x n = reduction_over set rest (minus_are s (IsOver letters) f c (multiple_at s entries w d) o (divisor_over w d (o w l.nonzero))) x n
   reduction_over set (Reduction.keep {f = f} {kept = kept} w l none c e rest) o x n = more_are s (IsOver letters) c w kept (o w l.nonzero) (reduction_over set rest (minus_are s (IsOver letters) f 1 (record { coefficient = c; key = w } ∷ []) o (more_are s (IsOver letters) c w [] (o w l.nonzero) (λ y m. absurd (m (zero_number s.prime)))))) x n
+
+-- what holds of each candidate of a run holds of the signature of each listed syzygy
+module _ (P : Problem) (A : Monomial → Type 0) (each : (n : ℕ) (state : State) (last : Option Monomial) → SequentialRun P n state last → (σ : Monomial) → IsCandidate P state σ → A σ) where
+  pub syzygies_are : {n : ℕ} {state : State} {last : Option Monomial} → SequentialRun P n state last → (h : Syzygy) → Contains state.syzygies h → A h.signature
+  syzygies_are SequentialRun.opened h c = absurd (omega (arith, c.1))
+  syzygies_are (SequentialRun.handled {n = n} {state = state} {last = last} run τ next o k) h c = go (syzygies_are run) o c
+    where
+      push : ((g : Syzygy) → Contains state.syzygies g → A g.signature) → (new : Syzygy) → A new.signature → Contains state.syzygies h ⊎ (new ≡ h) → A h.signature
+      push old new a (inl d) = old h d
+      push old new a (inr i) = subst (λ g. A g.signature) i a
+
+      go : ((g : Syzygy) → Contains state.syzygies g → A g.signature) → (o : Outcome) → Contains (state_after state τ o).syzygies h → A h.signature
+      go old Outcome.covered d = old h d
+      go old (Outcome.settled j) d = old h d
+      go old (Outcome.an_entry f t) d = old h d
+      go old (Outcome.a_syzygy t) d = push old (record { signature = τ; trace = t }) (each n state last run τ next.candidate) (Contains-push_cases state.syzygies (record { signature = τ; trace = t }) h d)
 
 module _ (P : Problem) (field : IsField P.setting.prime) (letters : List Letter) (inputs : (i : ℕ) → WordsAre P.setting (IsOver letters) (generator P.setting i)) where
   pub candidate_over : (state : State) → ((e : Entry) → Contains state.entries e → ¬ IsZeroPolynomial P.setting e.polynomial) → AreOver P.setting letters state.entries → (σ : Monomial) → IsCandidate P state σ → IsOver letters σ.left × IsOver letters σ.right

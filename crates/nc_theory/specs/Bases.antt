@@ -29,7 +29,7 @@ IsBasisBelow s state bound = (α : Element) (σ : Monomial) → IsIn s α bound 
 abbrev pub IsSyzygyBasisBelow : Setting → State → (Monomial → Type 0) → Type 0
 IsSyzygyBasisBelow s state bound = (α : Element) (σ : Monomial) → IsIn s α bound → IsSignatureOf s α σ → IsZeroPolynomial s (evaluation s α) → Covered s state σ
 
--- each generator and each ambiguity within the bound is settled
+-- each generator in the bound has an entry or is covered, and each ambiguity is covered or has a multiple with a lesser word
 pub record IsClosed (s : Setting) (state : State) (bound : Monomial → Type 0) : Type 0 where
   pub generators : (i : ℕ) → bound (unit_monomial i) → ((e : Entry) × Contains state.entries e × (e.signature ≡ unit_monomial i)) ⊎ Covered s state (unit_monomial i)
   pub ambiguities : (ρ : Monomial) (w : Word) → Ambiguity s state.entries ρ w → bound ρ → Covered s state ρ ⊎ ((v : Word) × IsWordLess v w × Multiple s state.entries ρ v)

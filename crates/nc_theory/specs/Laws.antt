@@ -1,8 +1,8 @@
 -- The theorems that the functions of this crate carry.
-use Rattle.nc_algebra.specs.Elements.{degree, IsIn, IsLabelled, IsLess, IsZeroPolynomial, SamePolynomial, Setting, evaluation, WeighsAtMost, WordsAre, generator}
-use Rattle.nc_algebra.specs.Monomials.{Divides, Monomial}
+use Rattle.nc_algebra.specs.Elements.{degree, IsIn, IsLabelled, IsLeadingWord, IsLess, IsZeroPolynomial, SamePolynomial, Setting, evaluation, WeighsAtMost, WordsAre, generator}
+use Rattle.nc_algebra.specs.Monomials.{Divides, Monomial, Sig}
 use Rattle.nc_algebra.specs.Polynomials.{IsNormal, Polynomial, leading}
-use Rattle.nc_algebra.specs.Problems.{Bound, IsWithin, IsWithinBelow, IsWithinBound, NamedProblem, Problem}
+use Rattle.nc_algebra.specs.Problems.{Bound, IsUnder, IsWithin, IsWithinBelow, IsWithinBound, NamedProblem, Problem}
 use Rattle.nc_algebra.specs.Sums.{minus}
 use Rattle.nc_algebra.specs.Finite.{IsOver, monomials_within}
 use Rattle.nc_algebra.specs.Primes.{IsPrime}
@@ -14,20 +14,22 @@ use Rattle.nc_theory.specs.Labels.{label_at, labels_of, step_multiples, trace_la
 use Rattle.nc_theory.specs.Letters.{AreOver}
 use Rattle.nc_theory.specs.Rebuilding.{IsFrom, Rebuilds}
 use Rattle.nc_theory.specs.Reductions.{Reduction, ReductionAt}
-use Rattle.nc_theory.specs.Runs.{End, NewWith, Handles, IsCandidate, IsEnd, IsNext, IsWaiting, NoneWaits, Outcome, SequentialRun, Starts, state_after}
+use Rattle.nc_theory.specs.Runs.{End, NewWith, Handles, IsAfter, IsCandidate, IsEnd, IsNext, IsWaiting, NoneWaits, Outcome, SequentialRun, Starts, state_after}
 use Rattle.nc_theory.specs.Stale.{Extension, Unaffected}
-use Rattle.nc_theory.specs.States.{Entry, Start, State, Step, Syzygy}
+use Rattle.nc_theory.specs.States.{Entry, Start, State, Step, Syzygy, Trace}
 use Rattle.nc_theory.specs.Syzygies.{ApartAt, TrivialSyzygy}
 use Rattle.nc_theory.specs.Windows.{WindowLaw}
-use Rattle.std.specs.Prelude.{Contains, List, Option, Some, [], length, ℕ, ◌++◌, ◌+◌, ◌<◌, ◌↔◌, ◌≡◌, ◌≢◌, ◌≤◌, ◌⊎◌}
+use Rattle.std.specs.Prelude.{Contains, List, Option, Some, [], length, ℕ, ◌++◌, ◌+◌, ◌<◌, ◌∷◌, ◌↔◌, ◌≡◌, ◌≢◌, ◌≤◌, ◌⊎◌}
 
 -- something that holds of each state that a run reaches, over a prime
 abbrev pub OfEachRun : ((P : Problem) → ℕ → State → Option Monomial → Type 0) → Type 0
 OfEachRun law = (P : Problem) → IsPrime P.setting.prime → (n : ℕ) (state : State) (last : Option Monomial) → SequentialRun P n state last → law P n state last
 
--- for each bound, by degree or below a monomial, a closed state has enough entries and enough syzygies
+-- for each bound, by degree or below a monomial, and for the monomials under each Sig, a closed state has enough entries and enough syzygies
 abbrev pub ClosureTheorem : Type 0
-ClosureTheorem = (s : Setting) → IsPrime s.prime → (state : State) → IsSound s state → (b : Bound) → IsClosed s state (IsWithinBound s b) → IsBasisBelow s state (IsWithinBound s b) × IsSyzygyBasisBelow s state (IsWithinBound s b)
+ClosureTheorem = (s : Setting) → IsPrime s.prime → (state : State) → IsSound s state →
+    ((b : Bound) → IsClosed s state (IsWithinBound s b) → IsBasisBelow s state (IsWithinBound s b) × IsSyzygyBasisBelow s state (IsWithinBound s b))
+    × ((β : Sig) → IsClosed s state (IsUnder s β) → IsBasisBelow s state (IsUnder s β) × IsSyzygyBasisBelow s state (IsUnder s β))
 
 -- each entry and syzygy of a run has the label that its trace gives
 abbrev pub LabelLaw : Type 0
@@ -58,15 +60,15 @@ abbrev pub UniquenessTheorem : Type 0
 UniquenessTheorem = OfEachRun (λ P n state last. (e : Entry) → Contains state.entries e →
     IsCanonical P.setting state.entries e.signature e.polynomial × ((f : Polynomial) → IsCanonical P.setting state.entries e.signature f → SamePolynomial P.setting f e.polynomial))
 
--- what was found over an earlier state stands over a later one exactly where it is Covered or nothing newer bears on it
+-- what was found over an earlier state stands over a later one exactly where it is covered or nothing newer bears on it
 abbrev pub StaleLaw : Type 0
 StaleLaw = (P : Problem) → IsPrime P.setting.prime → (k n : ℕ) (state later : State) (before last : Option Monomial) → SequentialRun P k state before → SequentialRun P n later last → k ≤ n →
     (x : Extension state later) × ((τ : Monomial) (o : Outcome) → Handles P.setting state τ o → Handles P.setting later τ o ↔ ((o ≡ Outcome.covered) ⊎ Unaffected P.setting state x.es x.hs τ o))
 
--- a run has one state at each number, and a signature one outcome over it
+-- a run has one state and one last signature at each number, and a signature one outcome over the state
 abbrev pub RunsAreDetermined : Type 0
 RunsAreDetermined = (P : Problem) → IsPrime P.setting.prime → (n : ℕ) (state state' : State) (last last' : Option Monomial) → SequentialRun P n state last → SequentialRun P n state' last' →
-    (state ≡ state') × ((τ : Monomial) (o o' : Outcome) → Handles P.setting state τ o → Handles P.setting state τ o' → o ≡ o')
+    (state ≡ state') × (last ≡ last') × ((τ : Monomial) (o o' : Outcome) → Handles P.setting state τ o → Handles P.setting state τ o' → o ≡ o')
 
 -- what is left of a claim is zero exactly where some module element within the bound evaluates to it, at a complete end
 abbrev pub MembershipTheorem : Type 0
@@ -94,6 +96,7 @@ pub record LimitedAt (s : Setting) (entries : List Entry) (τ : Monomial) : Type
   pub starts : (f : Polynomial) (start : Start) → Starts s entries τ f start → WeighsAtMost s (degree s τ) f
   pub multiples : (w : Word) (d : Divisor s entries w) → (signature_at s entries w d ≡ τ) ⊎ IsLess s (signature_at s entries w d) τ → WeighsAtMost s (degree s τ) (multiple_at s entries w d)
   pub subtracts : (f : Polynomial) (w : Word) (d : Divisor s entries w) (c : ℕ) → WeighsAtMost s (degree s τ) f → IsLess s (signature_at s entries w d) τ → WeighsAtMost s (degree s τ) (minus s.prime f c (multiple_at s entries w d))
+  pub removes : (f : Polynomial) (w : Word) (c : ℕ) → IsLeadingWord s f w → WeighsAtMost s (degree s τ) f → WeighsAtMost s (degree s τ) (minus s.prime f 1 (record { coefficient = c; key = w } ∷ []))
   pub keeps : (f kept : Polynomial) (steps : List Step) → WeighsAtMost s (degree s τ) f → ReductionAt s entries τ f kept steps → WeighsAtMost s (degree s τ) kept
 
 -- the degree limit: entries' words at their signatures, and all that is reached at τ
@@ -105,16 +108,17 @@ DegreeLimit =
 
 -- an entry with a signature of at least τ gives no regular divisor at τ, so reduction over all entries is reduction over the first ones
 abbrev pub FrontLaw : Type 0
-FrontLaw = (s : Setting) → IsPrime s.prime → (first rest : List Entry) (τ : Monomial) → ((e : Entry) → Contains first e → ¬ IsZeroPolynomial s e.polynomial) → ((e : Entry) → Contains rest e → ¬ IsZeroPolynomial s e.polynomial) → ((e : Entry) → Contains rest e → IsFrom s τ e) →
+FrontLaw = (s : Setting) (first rest : List Entry) (τ : Monomial) → ((e : Entry) → Contains rest e → IsFrom s τ e) →
     ((w : Word) → RegularDivisor s (first ++ rest) τ w ↔ RegularDivisor s first τ w)
     × ((f kept : Polynomial) (steps : List Step) → ReductionAt s (first ++ rest) τ f kept steps ↔ ReductionAt s first τ f kept steps)
 
--- each listed item of a run is rebuilt from its signature and the entries with lesser signatures
+-- each listed item of a run is rebuilt from its signature and the entries with lesser signatures, and what is rebuilt is one trace and one result
 abbrev pub RebuildingLaw : Type 0
 RebuildingLaw =
     OfEachRun (λ P n state last.
     ((e : Entry) → Contains state.entries e → Rebuilds P.setting state.entries e.signature e.trace e.polynomial)
-    × ((h : Syzygy) → Contains state.syzygies h → Rebuilds P.setting state.entries h.signature h.trace []))
+    × ((h : Syzygy) → Contains state.syzygies h → Rebuilds P.setting state.entries h.signature h.trace [])
+    × ((σ : Monomial) (t t' : Trace) (f f' : Polynomial) → Rebuilds P.setting state.entries σ t f → Rebuilds P.setting state.entries σ t' f' → (t ≡ t') × (f ≡ f')))
 
 -- entries ascend strictly, and so do syzygies; and no two entries have one leading word
 abbrev pub RunsAscend : Type 0
@@ -124,14 +128,27 @@ RunsAscend =
     × ((h h' : Syzygy) (k : Contains state.syzygies h) (k' : Contains state.syzygies h') → k.0 < k'.0 → IsLess P.setting h.signature h'.signature)
     × ((e e' : Entry) (k : Contains state.entries e) (k' : Contains state.entries e') → k.0 < k'.0 → leading P.setting.prime e.polynomial ≢ leading P.setting.prime e'.polynomial))
 
+-- each entry and each syzygy has a signature within the bound, and less than each signature that comes after the last one handled
+abbrev pub ItemsAreReached : Type 0
+ItemsAreReached =
+    OfEachRun (λ P n state last.
+    ((e : Entry) → Contains state.entries e → IsWithin P e.signature × ((τ : Monomial) → IsAfter P last τ → IsLess P.setting e.signature τ))
+    × ((h : Syzygy) → Contains state.syzygies h → IsWithin P h.signature × ((τ : Monomial) → IsAfter P last τ → IsLess P.setting h.signature τ)))
+
+-- a run goes on as long as a candidate is left
+abbrev pub RunsGoOn : Type 0
+RunsGoOn = OfEachRun (λ P n state last. ((τ : Monomial) × IsNext P state last τ) ⊎ NoneWaits P state last)
+
 -- each handled signature is counted once
 abbrev pub CountLaw : Type 0
 CountLaw = (P : Problem) (n : ℕ) (state : State) (last : Option Monomial) → SequentialRun P n state last → n ≡ state.covered + state.settled + length state.entries + length state.syzygies
 
--- a run's entries are over the letters of its generators, and reduction by them keeps words over the letters
+-- a run's entries, its syzygies' signatures and its candidates are over the letters of its generators, and reduction by the entries keeps words over the letters
 abbrev pub LettersLaw : Type 0
 LettersLaw = (P : Problem) → IsPrime P.setting.prime → (letters : List Letter) → ((i : ℕ) → WordsAre P.setting (IsOver letters) (generator P.setting i)) → (n : ℕ) (state : State) (last : Option Monomial) → SequentialRun P n state last →
     AreOver P.setting letters state.entries
+    × ((h : Syzygy) → Contains state.syzygies h → IsOver letters h.signature.left × IsOver letters h.signature.right)
+    × ((τ : Monomial) → IsCandidate P state τ → IsOver letters τ.left × IsOver letters τ.right)
     × ((w : Word) (d : Divisor P.setting state.entries w) → IsOver letters w → WordsAre P.setting (IsOver letters) (multiple_at P.setting state.entries w d))
 
 -- over finitely many letters a run has at most as many steps as the bound has monomials; with so many allowed, each end is complete
@@ -187,7 +204,7 @@ RepresentationLaw = OfEachRun (λ P n state last. (f rest : Polynomial) (steps :
     IsIn P.setting (step_multiples (labels_of P.setting.prime state.entries) steps) (IsWithin P)
     × SamePolynomial P.setting (evaluation P.setting (step_multiples (labels_of P.setting.prime state.entries) steps) ++ rest) f)
 
--- each signature that waits has an outcome
+-- each candidate has an outcome
 abbrev pub OutcomesExist : Type 0
 OutcomesExist = OfEachRun (λ P n state last. (τ : Monomial) → IsCandidate P state τ → (o : Outcome) × Handles P.setting state τ o)
 
