@@ -1,11 +1,11 @@
--- Equality of outcomes and of problems can be decided.
+-- Equality of outcomes and of problems with names can be decided.
 use Rattle.nc_algebra.proofs.Monomials.{monomial_laws}
 use Rattle.nc_algebra.proofs.Orders.{Decided}
 use Rattle.nc_algebra.proofs.Sums.{key_dec}
 use Rattle.nc_algebra.specs.Elements.{Setting}
 use Rattle.nc_algebra.specs.Monomials.{IsMonomialLess, Monomial, same_monomial}
 use Rattle.nc_algebra.specs.Polynomials.{Polynomial}
-use Rattle.nc_algebra.specs.Problems.{Bound, Problem}
+use Rattle.nc_algebra.specs.Problems.{Bound, NamedProblem, Problem}
 use Rattle.nc_algebra.specs.Sums.{Term}
 use Rattle.nc_algebra.specs.Words.{Word}
 use Rattle.nc_theory.proofs.Decisions.{nat_dec, pair_dec, word_dec}
@@ -75,5 +75,8 @@ bound_dec (Bound.under β) (Bound.under γ) = one (monomial_dec β γ) (ap Bound
 setting_dec : (s t : Setting) → Decided (s ≡ t)
 setting_dec s t = both (nat_dec s.prime t.prime) (list_dec polynomial_dec s.generators t.generators) (λ a b i. record { prime = a i; generators = b i }) (ap (λ z. z.prime)) (ap (λ z. z.generators))
 
-pub problem_dec : (P Q : Problem) → Decided (P ≡ Q)
+problem_dec : (P Q : Problem) → Decided (P ≡ Q)
 problem_dec P Q = both (setting_dec P.setting Q.setting) (pair_dec (bound_dec P.bound Q.bound) (nat_dec P.steps Q.steps)) (λ a b i. record { setting = a i; bound = b.0 i; steps = b.1 i }) (ap (λ z. z.setting)) (λ e. (ap (λ z. z.bound) e, ap (λ z. z.steps) e))
+
+pub named_dec : (P Q : NamedProblem) → Decided (P ≡ Q)
+named_dec P Q = both (problem_dec P.problem Q.problem) (list_dec (list_dec nat_dec) P.names Q.names) (λ a b i. record { problem = a i; names = b i }) (ap (λ z. z.problem)) (ap (λ z. z.names))

@@ -3,15 +3,15 @@ use Rattle.nc_algebra.proofs.Orders.{Decided, nat_order}
 use Rattle.nc_algebra.specs.Elements.{IsLess, generator_weight}
 use Rattle.nc_algebra.specs.Monomials.{Monomial}
 use Rattle.nc_algebra.specs.Primes.{IsField}
-use Rattle.nc_algebra.specs.Problems.{Problem}
+use Rattle.nc_algebra.specs.Problems.{NamedProblem, Problem}
 use Rattle.nc_theory.proofs.Completeness.{invariant}
 use Rattle.nc_theory.proofs.Decisions.{any, nat_dec}
 use Rattle.nc_theory.proofs.Desk.{event_runs, found, remove_counts}
 use Rattle.nc_theory.proofs.Determinism.{handles_unique, next_unique}
 use Rattle.nc_theory.proofs.Ends.{first_with, handles_exists, next_exists, source}
-use Rattle.nc_theory.proofs.Equality.{monomial_dec, outcome_dec, problem_dec}
+use Rattle.nc_theory.proofs.Equality.{monomial_dec, named_dec, outcome_dec}
 use Rattle.nc_theory.proofs.Plays.{some_same}
-use Rattle.nc_theory.specs.Desk.{Abandons, Advances, Claimed, Claims, Desk, Does, Event, IsFinished, IsFirstUnheld, IsGiven, IsHeld, IsReady, Node, Plays, Submits, Submitted, Ticket, Work, after_committed, after_dropped, generation_at, insert_node, node_at, node_of, open_desk}
+use Rattle.nc_theory.specs.Desk.{Abandoned, Abandons, Advances, Claimed, Claims, Desk, Does, Event, IsFinished, IsFirstUnheld, IsGiven, IsHeld, IsReady, Node, Plays, Submits, Submitted, Ticket, Work, after_committed, after_dropped, generation_at, claim_limit, insert_node, node_at, node_of, open_desk}
 use Rattle.nc_theory.specs.States.{State}
 use Rattle.nc_theory.specs.Runs.{Handles, IsAfter, IsCandidate, IsNext, IsWaiting, Outcome, SequentialRun}
 use Rattle.std.proofs.Common.{Bool, List, None, Option, Some, [], ap, arith, cond, false, inl, inr, le_refl, length, nat_eq, refl, subst, suc, sym, true, zero, ℕ, ◌*◌, ◌+◌, ◌<◌, ◌∙◌, ◌∷◌, ◌≡◌, ◌≤◌, ◌⊎◌}
@@ -54,45 +54,45 @@ module _ (P : Problem) where
       go (inr all) = inr (λ τ w. is_held τ (all τ w) (held_dec d τ))
 
   claims_exist : (d : Desk) → (answer : Claimed) × (d' : Desk) × Claims P d answer d'
-  claims_exist d = go (finished_dec d) d.free refl (nat_order d.claimed 9223372036854775807) (first_unheld d)
+  claims_exist d = go (finished_dec d) d.free refl (nat_order d.claimed claim_limit) (first_unheld d)
     where
-      none : ¬ IsFinished P d → (d.free ≡ []) ⊎ (((τ : Monomial) → IsWaiting P d.state d.last τ → IsHeld d τ) ⊎ (9223372036854775807 ≤ d.claimed)) → (answer : Claimed) × (d' : Desk) × Claims P d answer d'
+      none : ¬ IsFinished P d → (d.free ≡ []) ⊎ (((τ : Monomial) → IsWaiting P d.state d.last τ → IsHeld d τ) ⊎ (claim_limit ≤ d.claimed)) → (answer : Claimed) × (d' : Desk) × Claims P d answer d'
       none n o = (Claimed.none_now, d, Claims.is_none n o)
 
-      go : Decided (IsFinished P d) → (free : List ℕ) → d.free ≡ free → (d.claimed < 9223372036854775807) ⊎ ((d.claimed ≡ 9223372036854775807) ⊎ (9223372036854775807 < d.claimed)) → ((τ : Monomial) × IsFirstUnheld P d τ) ⊎ ((τ : Monomial) → IsWaiting P d.state d.last τ → IsHeld d τ) → (answer : Claimed) × (d' : Desk) × Claims P d answer d'
+      go : Decided (IsFinished P d) → (free : List ℕ) → d.free ≡ free → (d.claimed < claim_limit) ⊎ ((d.claimed ≡ claim_limit) ⊎ (claim_limit < d.claimed)) → ((τ : Monomial) × IsFirstUnheld P d τ) ⊎ ((τ : Monomial) → IsWaiting P d.state d.last τ → IsHeld d τ) → (answer : Claimed) × (d' : Desk) × Claims P d answer d'
       go (inl f) free e l first = (Claimed.finished, d, Claims.is_finished f)
       go (inr n) [] e l first = none n (inl e)
       go (inr n) (i ∷ others) e (inr (inl m)) first = none n (inr (inr (omega (arith, m))))
       go (inr n) (i ∷ others) e (inr (inr m)) first = none n (inr (inr (omega (arith, m))))
       go (inr n) (i ∷ others) e (inl m) (inr all) = none n (inr (inl all))
-      go (inr n) (i ∷ others) e (inl m) (inl (τ, first)) = (Claimed.a_task τ (record { index = i; generation = 2 * d.claimed + 1 }), record { handled = d.handled; state = d.state; last = d.last; window = insert_node (generator_weight P.setting) (record { signature = τ; index = i; generation = 2 * d.claimed + 1; work = None }) d.window; free = others; claimed = d.claimed + 1; committed = d.committed; dropped = d.dropped; abandoned = d.abandoned }, Claims.is_task n i others e m τ first)
+      go (inr n) (i ∷ others) e (inl m) (inl (τ, first)) = (Claimed.a_task τ (record { index = i; generation = 2 * d.claimed + 1 }), record { handled = d.handled; state = d.state; last = d.last; window = insert_node (generator_weight P.setting) (record { signature = τ; index = i; generation = 2 * d.claimed + 1; work = None }) d.window; free = others; claimed = d.claimed + 1; committed = d.committed; dropped = d.dropped; abandoned = d.abandoned; alone = d.alone }, Claims.is_task n i others e m τ first)
 
-  submits_exist : (d : Desk) (t : Ticket) → IsGiven t → (w : Work) → (answer : Submitted) × (d' : Desk) × Submits P d t w answer d'
-  submits_exist d t given w = go (nat_dec t.generation (generation_at d.window t.index)) (problem_dec w.problem P) (nat_order d.handled w.number)
-    where
-      lay : t.generation ≡ generation_at d.window t.index → w.problem ≡ P → w.number ≤ d.handled → (answer : Submitted) × (d' : Desk) × Submits P d t w answer d'
-      lay g p l = at (node_there d.window t.index given.0 (sym given.1 ∙ g))
-        where
-          at : (n : Node) × (node_at d.window t.index ≡ Some n) → (answer : Submitted) × (d' : Desk) × Submits P d t w answer d'
-          at (n, i) = same (monomial_dec n.signature w.signature)
-            where
-              same : Decided (n.signature ≡ w.signature) → (answer : Submitted) × (d' : Desk) × Submits P d t w answer d'
-              same (inl e) = (_, _, Submits.is_taken g p l n i e)
-              same (inr m) = (_, _, Submits.is_other g p l n i m)
+submits_exist : (P : NamedProblem) (d : Desk) (t : Ticket) → IsGiven t → (w : Work) → (answer : Submitted) × (d' : Desk) × Submits P d t w answer d'
+submits_exist P d t given w = go (nat_dec t.generation (generation_at d.window t.index)) (named_dec w.problem P) (nat_order d.handled w.number)
+  where
+    lay : t.generation ≡ generation_at d.window t.index → w.problem ≡ P → w.number ≤ d.handled → (answer : Submitted) × (d' : Desk) × Submits P d t w answer d'
+    lay g p l = at (node_there d.window t.index given.0 (sym given.1 ∙ g))
+      where
+        at : (n : Node) × (node_at d.window t.index ≡ Some n) → (answer : Submitted) × (d' : Desk) × Submits P d t w answer d'
+        at (n, i) = same (monomial_dec n.signature w.signature)
+          where
+            same : Decided (n.signature ≡ w.signature) → (answer : Submitted) × (d' : Desk) × Submits P d t w answer d'
+            same (inl e) = (_, _, Submits.is_taken g p l n i e)
+            same (inr m) = (_, _, Submits.is_other g p l n i m)
 
-      go : Decided (t.generation ≡ generation_at d.window t.index) → Decided (w.problem ≡ P) → (d.handled < w.number) ⊎ ((d.handled ≡ w.number) ⊎ (w.number < d.handled)) → (answer : Submitted) × (d' : Desk) × Submits P d t w answer d'
-      go (inr n) p l = (_, _, Submits.is_gone n)
-      go (inl g) (inr n) l = (_, _, Submits.is_foreign g n)
-      go (inl g) (inl p) (inl l) = (_, _, Submits.is_ahead g p l)
-      go (inl g) (inl p) (inr (inl e)) = lay g p (omega (arith, e))
-      go (inl g) (inl p) (inr (inr l)) = lay g p (omega (arith, l))
+    go : Decided (t.generation ≡ generation_at d.window t.index) → Decided (w.problem ≡ P) → (d.handled < w.number) ⊎ ((d.handled ≡ w.number) ⊎ (w.number < d.handled)) → (answer : Submitted) × (d' : Desk) × Submits P d t w answer d'
+    go (inr n) p l = (_, _, Submits.is_gone n)
+    go (inl g) (inr n) l = (_, _, Submits.is_foreign g n)
+    go (inl g) (inl p) (inl l) = (_, _, Submits.is_ahead g p l)
+    go (inl g) (inl p) (inr (inl e)) = lay g p (omega (arith, e))
+    go (inl g) (inl p) (inr (inr l)) = lay g p (omega (arith, l))
 
-  abandons_exist : (d : Desk) (t : Ticket) → (d' : Desk) × Abandons d t d'
-  abandons_exist d t = go (nat_dec t.generation (generation_at d.window t.index))
-    where
-      go : Decided (t.generation ≡ generation_at d.window t.index) → (d' : Desk) × Abandons d t d'
-      go (inr n) = (_, Abandons.is_gone n)
-      go (inl g) = (_, Abandons.is_freed g)
+abandons_exist : (d : Desk) (t : Ticket) → (answer : Abandoned) × (d' : Desk) × Abandons d t answer d'
+abandons_exist d t = go (nat_dec t.generation (generation_at d.window t.index))
+  where
+    go : Decided (t.generation ≡ generation_at d.window t.index) → (answer : Abandoned) × (d' : Desk) × Abandons d t answer d'
+    go (inr n) = (_, _, Abandons.is_gone n)
+    go (inl g) = (_, _, Abandons.is_freed g)
 
 module _ (P : Problem) (field : IsField P.setting.prime) where
   -- whether an outcome is what handling gives in a state of a run
@@ -144,25 +144,26 @@ module _ (P : Problem) (field : IsField P.setting.prime) where
   advances_within zero d l run = advance_on d run (λ d' h r. absurd (omega (arith, l, h)))
   advances_within (suc k) d l run = advance_on d run (λ d' h r. advances_within k d' (omega (arith, l, h)) r)
 
-  event_exists : (d : Desk) → SequentialRun P d.handled d.state d.last → (e : Event) → (d' : Desk) × Does P d e d'
-  event_exists d run Event.claim = go (claims_exist P d)
+module _ (P : NamedProblem) (field : IsField P.problem.setting.prime) where
+  event_exists : (d : Desk) → SequentialRun P.problem d.handled d.state d.last → (e : Event) → (d' : Desk) × Does P d e d'
+  event_exists d run Event.claim = go (claims_exist P.problem d)
     where
-      go : (answer : Claimed) × (d' : Desk) × Claims P d answer d' → (d' : Desk) × Does P d Event.claim d'
+      go : (answer : Claimed) × (d' : Desk) × Claims P.problem d answer d' → (d' : Desk) × Does P d Event.claim d'
       go (answer, d', c) = (d', Does.claims c)
   event_exists d run (Event.submit t given w l) = go (submits_exist P d t given w)
     where
       go : (answer : Submitted) × (d' : Desk) × Submits P d t w answer d' → (d' : Desk) × Does P d (Event.submit t given w l) d'
       go (answer, d', s) = (d', Does.submits t given w l s)
-  event_exists d run (Event.abandon t given) = go (abandons_exist P d t)
+  event_exists d run (Event.abandon t given) = go (abandons_exist d t)
     where
-      go : (d' : Desk) × Abandons d t d' → (d' : Desk) × Does P d (Event.abandon t given) d'
-      go (d', a) = (d', Does.abandons t given a)
-  event_exists d run Event.advance = go (advances_within (length d.window) d (le_refl (length d.window)) run)
+      go : (answer : Abandoned) × (d' : Desk) × Abandons d t answer d' → (d' : Desk) × Does P d (Event.abandon t given) d'
+      go (answer, d', a) = (d', Does.abandons t given a)
+  event_exists d run Event.advance = go (advances_within P.problem field (length d.window) d (le_refl (length d.window)) run)
     where
-      go : (d' : Desk) × Advances P d d' → (d' : Desk) × Does P d Event.advance d'
+      go : (d' : Desk) × Advances P.problem d d' → (d' : Desk) × Does P d Event.advance d'
       go (d', a) = (d', Does.advances a)
 
-  plays_from : (d : Desk) → SequentialRun P d.handled d.state d.last → (events : List Event) → (d' : Desk) × Plays P events d d'
+  plays_from : (d : Desk) → SequentialRun P.problem d.handled d.state d.last → (events : List Event) → (d' : Desk) × Plays P events d d'
   plays_from d run [] = (d, Plays.ends)
   plays_from d run (e ∷ events) = let first : (d' : Desk) × Does P d e d' = event_exists d run e in let rest : (d' : Desk) × Plays P events first.0 d' = plays_from first.0 (event_runs P first.1 run) events in (rest.0, Plays.goes e first.1 rest.1)
 

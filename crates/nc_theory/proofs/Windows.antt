@@ -6,17 +6,17 @@ use Rattle.nc_algebra.specs.Elements.{IsLess, Setting, generator_weight}
 use Rattle.nc_algebra.specs.Finite.{Among}
 use Rattle.nc_algebra.specs.Monomials.{IsMonomialLess, Monomial, compare_monomials, same_monomial}
 use Rattle.nc_algebra.specs.Primes.{IsField}
-use Rattle.nc_algebra.specs.Problems.{Problem}
+use Rattle.nc_algebra.specs.Problems.{NamedProblem}
 use Rattle.nc_theory.proofs.Added.{Adds, IsSymmetric, Pairs, adds_behind, adds_map, adds_permutes, among_here, among_map, among_mapped, among_more, each_at, each_from, each_less, each_map, each_more, pairs_all, pairs_around, pairs_back, pairs_less, pairs_map, pairs_mapped, pairs_more}
 use Rattle.nc_theory.proofs.Ascent.{waiting}
-use Rattle.nc_theory.proofs.Desk.{event_runs}
+use Rattle.nc_theory.proofs.Desk.{event_runs, found, own_stands, snapshot}
 use Rattle.nc_theory.proofs.Events.{held_dec}
 use Rattle.nc_theory.proofs.Plays.{some_same}
-use Rattle.nc_theory.specs.Desk.{Abandons, Advances, Claims, Desk, Does, Event, IsFirstUnheld, IsGiven, IsHeld, Node, Plays, Submits, Submitted, Ticket, Work, count_from, generation_at, insert_node, node_of, open_desk, with_work, without_node}
+use Rattle.nc_theory.specs.Desk.{Abandoned, Abandons, Advances, Claims, Desk, Does, Event, IsFirstUnheld, IsGiven, IsHeld, IsLawful, IsReady, Node, Plays, Submits, Submitted, Ticket, Work, count_from, generation_at, insert_node, node_at, node_of, open_desk, with_work, without_node}
 use Rattle.nc_theory.specs.Runs.{Handles, IsNext, IsWaiting, Outcome, SequentialRun, state_after}
 use Rattle.nc_theory.specs.States.{State}
 use Rattle.nc_theory.specs.Windows.{AreFromOneClaim, IsFromClaim, WindowLaw, generation_of}
-use Rattle.std.proofs.Common.{Bool, List, None, Option, Some, [], ap, append-nil, arith, cond, false, inl, inr, map, nat_eq, refl, subst, suc, sym, true, zero, ℕ, ◌*◌, ◌+◌, ◌++◌, ◌<◌, ◌∙◌, ◌∷◌, ◌≡◌, ◌≢◌, ◌≤◌, ◌⊎◌}
+use Rattle.std.proofs.Common.{Bool, Contains, List, None, Option, Some, [], ap, append-nil, arith, cond, false, inl, inr, le_refl, map, nat_eq, refl, subst, suc, sym, true, zero, ℕ, ◌*◌, ◌+◌, ◌++◌, ◌<◌, ◌∙◌, ◌∷◌, ◌≡◌, ◌≢◌, ◌≤◌, ◌⊎◌}
 use Rattle.std.proofs.lemmas.Bool.{eq-eqb, eqb-true, false≢true}
 use Rattle.std.proofs.lemmas.List.Sorted.{IsPermutation-refl, IsPermutation-sym, IsPermutation-trans}
 use Rattle.std.specs.List.{AllByRecursion}
@@ -66,15 +66,15 @@ insert_ascends s n (m ∷ ns) other h = go (is_lt (compare_monomials (generator_
 
 -- where the generation at an index is odd, a node has it, and is the one that is taken out or given a work
 abbrev At : ℕ → ℕ → List Node → Type 0
-At i c window = (n : Node) × (n.index ≡ i) × (n.generation ≡ 2 * c + 1) × Adds n (without_node i window) window × ((w : Work) → Adds (laid n w) (without_node i window) (with_work i w window))
+At i c window = (n : Node) × (n.index ≡ i) × (n.generation ≡ 2 * c + 1) × Adds n (without_node i window) window × ((w : Work) → Adds (laid n w) (without_node i window) (with_work i w window)) × (node_at window i ≡ Some n)
 
 node_at_generation : (i c : ℕ) (window : List Node) → 2 * c + 1 ≡ generation_at window i → At i c window
 node_at_generation i c [] e = absurd (omega (arith, e))
 node_at_generation i c (n ∷ ns) e = go (nat_eq n.index i) refl e (node_at_generation i c ns)
   where
-    go : (b : Bool) → nat_eq n.index i ≡ b → 2 * c + 1 ≡ cond b n.generation (generation_at ns i) → (2 * c + 1 ≡ generation_at ns i → At i c ns) → (m : Node) × (m.index ≡ i) × (m.generation ≡ 2 * c + 1) × Adds m (cond b ns (n ∷ without_node i ns)) (n ∷ ns) × ((w : Work) → Adds (laid m w) (cond b ns (n ∷ without_node i ns)) (cond b (laid n w ∷ ns) (n ∷ with_work i w ns)))
-    go true d g f = (n, eqb-true n.index i d, sym g, Adds.here, λ w. Adds.here)
-    go false d g f = let t : At i c ns = f g in (t.0, t.1, t.2, Adds.later t.3, λ w. Adds.later (t.4 w))
+    go : (b : Bool) → nat_eq n.index i ≡ b → 2 * c + 1 ≡ cond b n.generation (generation_at ns i) → (2 * c + 1 ≡ generation_at ns i → At i c ns) → (m : Node) × (m.index ≡ i) × (m.generation ≡ 2 * c + 1) × Adds m (cond b ns (n ∷ without_node i ns)) (n ∷ ns) × ((w : Work) → Adds (laid m w) (cond b ns (n ∷ without_node i ns)) (cond b (laid n w ∷ ns) (n ∷ with_work i w ns))) × (cond b (Some n) (node_at ns i) ≡ Some m)
+    go true d g f = (n, eqb-true n.index i d, sym g, Adds.here, λ w. Adds.here, refl)
+    go false d g f = let t : At i c ns = f g in (t.0, t.1, t.2, Adds.later t.3, λ w. Adds.later (t.4 w), t.5)
 
 work_signatures : (i : ℕ) (w : Work) (window : List Node) → signatures (with_work i w window) ≡ signatures window
 work_signatures i w [] = refl
@@ -145,21 +145,29 @@ claim_laid n w k odd c from = go n.work from
 
 -- ---- what is kept
 
-module _ (P : Problem) (capacity : ℕ) where
+module _ (P : NamedProblem) (capacity : ℕ) where
   abbrev IsMade : ℕ → Node → Type 0
   IsMade claimed n = (c : ℕ) × (c < claimed) × IsFromClaim c n
 
+  -- what holds of a work that was taken in where so many were handled
+  abbrev HoldsLawful : ℕ → Node → Type 0
+  HoldsLawful handled n = (w : Work) → n.work ≡ Some w → IsLawful w × (w.problem ≡ P) × (w.number ≤ handled) × (w.signature ≡ n.signature)
+
+  holds_later : (a b : ℕ) → a ≤ b → (n : Node) → HoldsLawful a n → HoldsLawful b n
+  holds_later a b l n h w e = let t : IsLawful w × (w.problem ≡ P) × (w.number ≤ a) × (w.signature ≡ n.signature) = h w e in (t.0, t.1, omega (arith, t.2, l), t.3)
+
   record Kept (d : Desk) : Type 0 where
-    ascends : Pairs (IsLess P.setting) (signatures d.window)
-    waits : AllByRecursion (IsWaiting P d.state d.last) (signatures d.window)
+    ascends : Pairs (IsLess P.problem.setting) (signatures d.window)
+    waits : AllByRecursion (IsWaiting P.problem d.state d.last) (signatures d.window)
     distinct : Pairs (λ i j. i ≢ j) (d.free ++ indices d.window)
     indices_are : IsPermutation (count_from 0 capacity) (d.free ++ indices d.window)
     claimed : AllByRecursion (IsMade d.claimed) d.window
     apart : Pairs (λ n m. ¬ AreFromOneClaim n m) d.window
-    full : 1 ≤ capacity → d.free ≡ [] → (τ : Monomial) → IsNext P d.state d.last τ → Among τ (signatures d.window)
+    works : AllByRecursion (HoldsLawful d.handled) d.window
+    full : 1 ≤ capacity → d.free ≡ [] → (τ : Monomial) → IsNext P.problem d.state d.last τ → Among τ (signatures d.window)
 
   opened_kept : Kept (open_desk capacity)
-  opened_kept = record { ascends = tt; waits = tt; distinct = subst (Pairs (λ i j. i ≢ j)) (sym (append-nil (count_from 0 capacity))) (counted_apart 0 capacity); indices_are = subst (IsPermutation (count_from 0 capacity)) (sym (append-nil (count_from 0 capacity))) (IsPermutation-refl (count_from 0 capacity)); claimed = tt; apart = tt; full = λ l e τ next. absurd (some_free capacity l e) }
+  opened_kept = record { ascends = tt; waits = tt; distinct = subst (Pairs (λ i j. i ≢ j)) (sym (append-nil (count_from 0 capacity))) (counted_apart 0 capacity); indices_are = subst (IsPermutation (count_from 0 capacity)) (sym (append-nil (count_from 0 capacity))) (IsPermutation-refl (count_from 0 capacity)); claimed = tt; apart = tt; works = tt; full = λ l e τ next. absurd (some_free capacity l e) }
     where
       some_free : (n : ℕ) → 1 ≤ n → count_from 0 n ≡ [] → ⊥
       some_free zero l e = omega (arith, l)
@@ -172,29 +180,29 @@ module _ (P : Problem) (capacity : ℕ) where
   among_held d τ a = let t : (n : Node) × Among n d.window × (n.signature ≡ τ) = among_mapped (λ m. m.signature) τ d.window a in (t.0, among_contains t.0 d.window t.1, t.2)
 
   -- a node is freed: what is left of the window, in a state where what is left waits
-  freed : (d : Desk) → Kept d → (n : Node) (rest : List Node) → Adds n rest d.window → (handled : ℕ) (state : State) (last : Option Monomial) (committed dropped abandoned : ℕ) → AllByRecursion (IsWaiting P state last) (signatures rest) → (i : ℕ) → n.index ≡ i → Kept (record { handled = handled; state = state; last = last; window = rest; free = i ∷ d.free; claimed = d.claimed; committed = committed; dropped = dropped; abandoned = abandoned })
-  freed d k n rest a handled state last committed dropped abandoned waits i e = record { ascends = pairs_less (IsLess P.setting) (adds_map (λ m. m.signature) a) k.ascends; waits = waits; distinct = (pairs_around (λ i j. i ≢ j) differ added k.distinct, pairs_less (λ i j. i ≢ j) added k.distinct); indices_are = IsPermutation-trans (count_from 0 capacity) (d.free ++ indices d.window) (i ∷ (d.free ++ indices rest)) k.indices_are (IsPermutation-sym (i ∷ (d.free ++ indices rest)) (d.free ++ indices d.window) (adds_permutes added)); claimed = (each_less (IsMade d.claimed) a k.claimed).1; apart = pairs_less (λ n m. ¬ AreFromOneClaim n m) a k.apart; full = λ l none τ next. let empty : ⊥ = cc in absurd empty }
+  freed : (d : Desk) → Kept d → (n : Node) (rest : List Node) → Adds n rest d.window → (handled : ℕ) → d.handled ≤ handled → (state : State) (last : Option Monomial) (committed dropped abandoned : ℕ) → AllByRecursion (IsWaiting P.problem state last) (signatures rest) → (i : ℕ) → n.index ≡ i → Kept (record { handled = handled; state = state; last = last; window = rest; free = i ∷ d.free; claimed = d.claimed; committed = committed; dropped = dropped; abandoned = abandoned; alone = d.alone })
+  freed d k n rest a handled later state last committed dropped abandoned waits i e = record { ascends = pairs_less (IsLess P.problem.setting) (adds_map (λ m. m.signature) a) k.ascends; waits = waits; distinct = (pairs_around (λ i j. i ≢ j) differ added k.distinct, pairs_less (λ i j. i ≢ j) added k.distinct); indices_are = IsPermutation-trans (count_from 0 capacity) (d.free ++ indices d.window) (i ∷ (d.free ++ indices rest)) k.indices_are (IsPermutation-sym (i ∷ (d.free ++ indices rest)) (d.free ++ indices d.window) (adds_permutes added)); claimed = (each_less (IsMade d.claimed) a k.claimed).1; apart = pairs_less (λ n m. ¬ AreFromOneClaim n m) a k.apart; works = each_map (HoldsLawful d.handled) (HoldsLawful handled) (holds_later d.handled handled later) rest (each_less (HoldsLawful d.handled) a k.works).1; full = λ l none τ next. let empty : ⊥ = cc in absurd empty }
     where
       added : Adds i (d.free ++ indices rest) (d.free ++ indices d.window)
       added = subst (λ j. Adds j (d.free ++ indices rest) (d.free ++ indices d.window)) e (adds_behind d.free (adds_map (λ m. m.index) a))
 
   -- what was left in the window still waits where the state is the same
-  left_waits : (d : Desk) → Kept d → (n : Node) (rest : List Node) → Adds n rest d.window → AllByRecursion (IsWaiting P d.state d.last) (signatures rest)
-  left_waits d k n rest a = (each_less (IsWaiting P d.state d.last) (adds_map (λ m. m.signature) a) k.waits).1
+  left_waits : (d : Desk) → Kept d → (n : Node) (rest : List Node) → Adds n rest d.window → AllByRecursion (IsWaiting P.problem d.state d.last) (signatures rest)
+  left_waits d k n rest a = (each_less (IsWaiting P.problem d.state d.last) (adds_map (λ m. m.signature) a) k.waits).1
 
   own_apart : (d : Desk) → Kept d → Pairs (λ i j. i ≢ j) (indices d.window)
   own_apart d k = pairs_back (λ i j. i ≢ j) d.free (indices d.window) k.distinct
 
-  abandon_keeps : (d : Desk) (t : Ticket) → IsGiven t → (d' : Desk) → Abandons d t d' → Kept d → Kept d'
-  abandon_keeps d t given d' (Abandons.is_gone n) k = k
-  abandon_keeps d t given d' (Abandons.is_freed g) k = let a : At t.index given.0 d.window = node_at_generation t.index given.0 d.window (sym given.1 ∙ g) in freed d k a.0 (without_node t.index d.window) a.3 d.handled d.state d.last d.committed d.dropped (d.abandoned + 1) (left_waits d k a.0 (without_node t.index d.window) a.3) t.index a.1
+  abandon_keeps : (d : Desk) (t : Ticket) → IsGiven t → (answer : Abandoned) (d' : Desk) → Abandons d t answer d' → Kept d → Kept d'
+  abandon_keeps d t given answer d' (Abandons.is_gone n) k = k
+  abandon_keeps d t given answer d' (Abandons.is_freed g) k = let a : At t.index given.0 d.window = node_at_generation t.index given.0 d.window (sym given.1 ∙ g) in freed d k a.0 (without_node t.index d.window) a.3 d.handled (le_refl d.handled) d.state d.last d.committed d.dropped (d.abandoned + 1) (left_waits d k a.0 (without_node t.index d.window) a.3) t.index a.1
 
-  submit_keeps : (d : Desk) (t : Ticket) → IsGiven t → (w : Work) (answer : Submitted) (d' : Desk) → Submits P d t w answer d' → Kept d → Kept d'
-  submit_keeps d t given w answer d' (Submits.is_gone n) k = k
-  submit_keeps d t given w answer d' (Submits.is_foreign g n) k = k
-  submit_keeps d t given w answer d' (Submits.is_ahead g p n) k = k
-  submit_keeps d t given w answer d' (Submits.is_other g p n node i s) k = k
-  submit_keeps d t given w answer d' (Submits.is_taken g p l node i s) k = go (node_at_generation t.index given.0 d.window (sym given.1 ∙ g))
+  submit_keeps : (d : Desk) (t : Ticket) → IsGiven t → (w : Work) → IsLawful w → (answer : Submitted) (d' : Desk) → Submits P d t w answer d' → Kept d → Kept d'
+  submit_keeps d t given w lawful answer d' (Submits.is_gone n) k = k
+  submit_keeps d t given w lawful answer d' (Submits.is_foreign g n) k = k
+  submit_keeps d t given w lawful answer d' (Submits.is_ahead g p n) k = k
+  submit_keeps d t given w lawful answer d' (Submits.is_other g p n node i s) k = k
+  submit_keeps d t given w lawful answer d' (Submits.is_taken g p l node i s) k = go (node_at_generation t.index given.0 d.window (sym given.1 ∙ g))
     where
       same : signatures (with_work t.index w d.window) ≡ signatures d.window
       same = work_signatures t.index w d.window
@@ -202,27 +210,33 @@ module _ (P : Problem) (capacity : ℕ) where
       numbers : indices (with_work t.index w d.window) ≡ indices d.window
       numbers = work_indices t.index w d.window
 
-      go : At t.index given.0 d.window → Kept (record { handled = d.handled; state = d.state; last = d.last; window = with_work t.index w d.window; free = d.free; claimed = d.claimed; committed = d.committed; dropped = d.dropped; abandoned = d.abandoned })
-      go (n, at, odd, out, worked) = record { ascends = subst (Pairs (IsLess P.setting)) (sym same) k.ascends; waits = subst (AllByRecursion (IsWaiting P d.state d.last)) (sym same) k.waits; distinct = subst (λ xs. Pairs (λ i j. i ≢ j) (d.free ++ xs)) (sym numbers) k.distinct; indices_are = subst (λ xs. IsPermutation (count_from 0 capacity) (d.free ++ xs)) (sym numbers) k.indices_are; claimed = each_more (IsMade d.claimed) (worked w) (made.0.0, made.0.1, claim_laid n w given.0 odd made.0.0 made.0.2) made.1; apart = pairs_more (λ n m. ¬ AreFromOneClaim n m) one_claim_back (worked w) (each_map (λ m. ¬ AreFromOneClaim n m) (λ m. ¬ AreFromOneClaim (laid n w) m) other (without_node t.index d.window) (pairs_around (λ n m. ¬ AreFromOneClaim n m) one_claim_back out k.apart)) (pairs_less (λ n m. ¬ AreFromOneClaim n m) out k.apart); full = λ l e τ next. subst (Among τ) (sym same) (k.full l e τ next) }
+      go : At t.index given.0 d.window → Kept (record { handled = d.handled; state = d.state; last = d.last; window = with_work t.index w d.window; free = d.free; claimed = d.claimed; committed = d.committed; dropped = d.dropped; abandoned = d.abandoned; alone = d.alone })
+      go (n, at, odd, out, worked, found) = record { ascends = subst (Pairs (IsLess P.problem.setting)) (sym same) k.ascends; waits = subst (AllByRecursion (IsWaiting P.problem d.state d.last)) (sym same) k.waits; distinct = subst (λ xs. Pairs (λ i j. i ≢ j) (d.free ++ xs)) (sym numbers) k.distinct; indices_are = subst (λ xs. IsPermutation (count_from 0 capacity) (d.free ++ xs)) (sym numbers) k.indices_are; claimed = each_more (IsMade d.claimed) (worked w) (made.0.0, made.0.1, claim_laid n w given.0 odd made.0.0 made.0.2) made.1; apart = pairs_more (λ n m. ¬ AreFromOneClaim n m) one_claim_back (worked w) (each_map (λ m. ¬ AreFromOneClaim n m) (λ m. ¬ AreFromOneClaim (laid n w) m) other (without_node t.index d.window) (pairs_around (λ n m. ¬ AreFromOneClaim n m) one_claim_back out k.apart)) (pairs_less (λ n m. ¬ AreFromOneClaim n m) out k.apart); works = each_more (HoldsLawful d.handled) (worked w) held held_others; full = λ l e τ next. subst (Among τ) (sym same) (k.full l e τ next) }
         where
           made : IsMade d.claimed n × AllByRecursion (IsMade d.claimed) (without_node t.index d.window)
           made = each_less (IsMade d.claimed) out k.claimed
+
+          held_others : AllByRecursion (HoldsLawful d.handled) (without_node t.index d.window)
+          held_others = (each_less (HoldsLawful d.handled) out k.works).1
+
+          held : HoldsLawful d.handled (laid n w)
+          held v e = subst (λ x. IsLawful x × (x.problem ≡ P) × (x.number ≤ d.handled) × (x.signature ≡ n.signature)) (some_same w v e) (lawful, p, l, sym s ∙ ap (λ x. x.signature) (some_same node n (sym i ∙ found)))
 
           other : (m : Node) → ¬ AreFromOneClaim n m → ¬ AreFromOneClaim (laid n w) m
           other m h (c, i, j) = h (c, claim_kept n w given.0 odd made.0.0 made.0.2 c i, j)
 
   -- a claim's node goes into the window
-  claim_keeps : (d : Desk) → Kept d → (i : ℕ) (others : List ℕ) → d.free ≡ i ∷ others → (τ : Monomial) → IsFirstUnheld P d τ → Kept (record { handled = d.handled; state = d.state; last = d.last; window = insert_node (generator_weight P.setting) (record { signature = τ; index = i; generation = 2 * d.claimed + 1; work = None }) d.window; free = others; claimed = d.claimed + 1; committed = d.committed; dropped = d.dropped; abandoned = d.abandoned })
-  claim_keeps d k i others free τ first = record { ascends = insert_ascends P.setting n d.window unheld k.ascends; waits = each_more (IsWaiting P d.state d.last) (adds_map (λ m. m.signature) added) first.waits k.waits; distinct = pairs_more (λ i j. i ≢ j) differ moved apart.0 apart.1; indices_are = IsPermutation-trans (count_from 0 capacity) (i ∷ (others ++ indices d.window)) (others ++ indices whole) (subst (λ xs. IsPermutation (count_from 0 capacity) (xs ++ indices d.window)) free k.indices_are) (adds_permutes moved); claimed = each_more (IsMade (d.claimed + 1)) added (d.claimed, omega arith, refl) (each_map (IsMade d.claimed) (IsMade (d.claimed + 1)) (λ m t. (t.0, omega (arith, t.1), t.2)) d.window k.claimed); apart = pairs_more (λ n m. ¬ AreFromOneClaim n m) one_claim_back added (each_map (IsMade d.claimed) (λ m. ¬ AreFromOneClaim n m) newest d.window k.claimed) k.apart; full = λ l e σ next. held σ next (held_dec P d σ) }
+  claim_keeps : (d : Desk) → Kept d → (i : ℕ) (others : List ℕ) → d.free ≡ i ∷ others → (τ : Monomial) → IsFirstUnheld P.problem d τ → Kept (record { handled = d.handled; state = d.state; last = d.last; window = insert_node (generator_weight P.problem.setting) (record { signature = τ; index = i; generation = 2 * d.claimed + 1; work = None }) d.window; free = others; claimed = d.claimed + 1; committed = d.committed; dropped = d.dropped; abandoned = d.abandoned; alone = d.alone })
+  claim_keeps d k i others free τ first = record { ascends = insert_ascends P.problem.setting n d.window unheld k.ascends; waits = each_more (IsWaiting P.problem d.state d.last) (adds_map (λ m. m.signature) added) first.waits k.waits; distinct = pairs_more (λ i j. i ≢ j) differ moved apart.0 apart.1; indices_are = IsPermutation-trans (count_from 0 capacity) (i ∷ (others ++ indices d.window)) (others ++ indices whole) (subst (λ xs. IsPermutation (count_from 0 capacity) (xs ++ indices d.window)) free k.indices_are) (adds_permutes moved); claimed = each_more (IsMade (d.claimed + 1)) added (d.claimed, omega arith, refl) (each_map (IsMade d.claimed) (IsMade (d.claimed + 1)) (λ m t. (t.0, omega (arith, t.1), t.2)) d.window k.claimed); apart = pairs_more (λ n m. ¬ AreFromOneClaim n m) one_claim_back added (each_map (IsMade d.claimed) (λ m. ¬ AreFromOneClaim n m) newest d.window k.claimed) k.apart; works = each_more (HoldsLawful d.handled) added (λ w e. let none : ⊥ = cc in absurd none) k.works; full = λ l e σ next. held σ next (held_dec P.problem d σ) }
     where
       n : Node
       n = record { signature = τ; index = i; generation = 2 * d.claimed + 1; work = None }
 
       whole : List Node
-      whole = insert_node (generator_weight P.setting) n d.window
+      whole = insert_node (generator_weight P.problem.setting) n d.window
 
       added : Adds n d.window whole
-      added = insert_adds (generator_weight P.setting) n d.window
+      added = insert_adds (generator_weight P.problem.setting) n d.window
 
       moved : Adds i (others ++ indices d.window) (others ++ indices whole)
       moved = adds_behind others (adds_map (λ m. m.index) added)
@@ -236,43 +250,59 @@ module _ (P : Problem) (capacity : ℕ) where
       newest : (m : Node) → IsMade d.claimed m → ¬ AreFromOneClaim n m
       newest m (c, l, from) (e, a, b) = omega (arith, l, a, claim_once c e m.work (sym from ∙ b))
 
-      held : (σ : Monomial) → IsNext P d.state d.last σ → Decided (IsHeld d σ) → Among σ (signatures whole)
+      held : (σ : Monomial) → IsNext P.problem d.state d.last σ → Decided (IsHeld d σ) → Among σ (signatures whole)
       held σ next (inl h) = among_more (adds_map (λ m. m.signature) added) σ (held_among d σ h)
       held σ next (inr h) = subst (λ ρ. Among ρ (signatures whole)) (sym (least (first.least σ (next.candidate, next.left) h) (next.least τ first.waits.0 first.waits.1))) (among_here (adds_map (λ m. m.signature) added))
         where
-          least : (σ ≡ τ) ⊎ IsLess P.setting τ σ → (τ ≡ σ) ⊎ IsLess P.setting σ τ → σ ≡ τ
+          least : (σ ≡ τ) ⊎ IsLess P.problem.setting τ σ → (τ ≡ σ) ⊎ IsLess P.problem.setting σ τ → σ ≡ τ
           least (inl e) o = e
           least (inr l) (inl e) = sym e
-          least (inr l) (inr m) = absurd ((monomial_laws (generator_weight P.setting)).irrefl τ ((monomial_laws (generator_weight P.setting)).trans τ σ τ l m))
+          least (inr l) (inr m) = absurd ((monomial_laws (generator_weight P.problem.setting)).irrefl τ ((monomial_laws (generator_weight P.problem.setting)).trans τ σ τ l m))
 
-  module _ (field : IsField P.setting.prime) where
+  module _ (field : IsField P.problem.setting.prime) where
     -- after a step what is left in the window still waits
-    still_waits : (d : Desk) → Kept d → SequentialRun P d.handled d.state d.last → (τ : Monomial) → IsNext P d.state d.last τ → (n : Node) (rest : List Node) → n.signature ≡ τ → Adds n rest d.window → (o : Outcome) → Handles P.setting d.state τ o → AllByRecursion (IsWaiting P (state_after d.state τ o) (Some τ)) (signatures rest)
-    still_waits d k run τ next n rest e a o h = each_from (IsWaiting P (state_after d.state τ o) (Some τ)) (signatures rest) (λ σ m. (waiting P field run τ next h σ).1 (inl (each_at (IsWaiting P d.state d.last) (signatures rest) (left_waits d k n rest a) σ m, λ i. each_at (λ ρ. n.signature ≢ ρ) (signatures rest) others σ m (e ∙ sym i))))
+    still_waits : (d : Desk) → Kept d → SequentialRun P.problem d.handled d.state d.last → (τ : Monomial) → IsNext P.problem d.state d.last τ → (n : Node) (rest : List Node) → n.signature ≡ τ → Adds n rest d.window → (o : Outcome) → Handles P.problem.setting d.state τ o → AllByRecursion (IsWaiting P.problem (state_after d.state τ o) (Some τ)) (signatures rest)
+    still_waits d k run τ next n rest e a o h = each_from (IsWaiting P.problem (state_after d.state τ o) (Some τ)) (signatures rest) (λ σ m. (waiting P.problem field run τ next h σ).1 (inl (each_at (IsWaiting P.problem d.state d.last) (signatures rest) (left_waits d k n rest a) σ m, λ i. each_at (λ ρ. n.signature ≢ ρ) (signatures rest) others σ m (e ∙ sym i))))
       where
         others : AllByRecursion (λ ρ. n.signature ≢ ρ) (signatures rest)
-        others = pairs_around (λ σ ρ. σ ≢ ρ) differ (adds_map (λ m. m.signature) a) (pairs_map (IsLess P.setting) (λ σ ρ. σ ≢ ρ) (λ σ ρ l i. (monomial_laws (generator_weight P.setting)).irrefl ρ (subst (λ x. IsLess P.setting x ρ) i l)) (signatures d.window) k.ascends)
+        others = pairs_around (λ σ ρ. σ ≢ ρ) differ (adds_map (λ m. m.signature) a) (pairs_map (IsLess P.problem.setting) (λ σ ρ. σ ≢ ρ) (λ σ ρ l i. (monomial_laws (generator_weight P.problem.setting)).irrefl ρ (subst (λ x. IsLess P.problem.setting x ρ) i l)) (signatures d.window) k.ascends)
 
-    advance_keeps : {d d' : Desk} → Advances P d d' → SequentialRun P d.handled d.state d.last → Kept d → Kept d'
+    advance_keeps : {d d' : Desk} → Advances P.problem d d' → SequentialRun P.problem d.handled d.state d.last → Kept d → Kept d'
     advance_keeps (Advances.at_end f) run k = k
     advance_keeps (Advances.no_work f none) run k = k
-    advance_keeps (Advances.drops {d = d} f τ n w ready not) run k = let t : (n.signature ≡ τ) × Adds n (without_node n.index d.window) d.window = found_out d.window τ n ready.held (own_apart d k) in freed d k n (without_node n.index d.window) t.1 d.handled d.state d.last d.committed (d.dropped + 1) d.abandoned (left_waits d k n (without_node n.index d.window) t.1) n.index refl
-    advance_keeps (Advances.commits {d = d} f τ n w ready handles more) run k = let t : (n.signature ≡ τ) × Adds n (without_node n.index d.window) d.window = found_out d.window τ n ready.held (own_apart d k) in advance_keeps more (SequentialRun.handled run τ ready.next w.outcome handles) (freed d k n (without_node n.index d.window) t.1 (suc d.handled) (state_after d.state τ w.outcome) (Some τ) (d.committed + 1) d.dropped d.abandoned (still_waits d k run τ ready.next n (without_node n.index d.window) t.0 t.1 w.outcome handles) n.index refl)
+    advance_keeps (Advances.drops {d = d} f τ n w ready not) run k = let t : (n.signature ≡ τ) × Adds n (without_node n.index d.window) d.window = found_out d.window τ n ready.held (own_apart d k) in freed d k n (without_node n.index d.window) t.1 d.handled (le_refl d.handled) d.state d.last d.committed (d.dropped + 1) d.abandoned (left_waits d k n (without_node n.index d.window) t.1) n.index refl
+    advance_keeps (Advances.commits {d = d} f τ n w ready handles more) run k = let t : (n.signature ≡ τ) × Adds n (without_node n.index d.window) d.window = found_out d.window τ n ready.held (own_apart d k) in advance_keeps more (SequentialRun.handled run τ ready.next w.outcome handles) (freed d k n (without_node n.index d.window) t.1 (suc d.handled) (omega arith) (state_after d.state τ w.outcome) (Some τ) (d.committed + 1) d.dropped d.abandoned (still_waits d k run τ ready.next n (without_node n.index d.window) t.0 t.1 w.outcome handles) n.index refl)
 
-    event_keeps : {d d' : Desk} {e : Event} → Does P d e d' → SequentialRun P d.handled d.state d.last → Kept d → Kept d'
+    event_keeps : {d d' : Desk} {e : Event} → Does P d e d' → SequentialRun P.problem d.handled d.state d.last → Kept d → Kept d'
     event_keeps (Does.claims (Claims.is_finished f)) run k = k
     event_keeps (Does.claims (Claims.is_none f o)) run k = k
     event_keeps {d} (Does.claims (Claims.is_task f i others free few τ first)) run k = claim_keeps d k i others free τ first
-    event_keeps {d} {d'} (Does.submits {answer = answer} t given w l s) run k = submit_keeps d t given w answer d' s k
-    event_keeps {d} {d'} (Does.abandons t given a) run k = abandon_keeps d t given d' a k
+    event_keeps {d} {d'} (Does.submits {answer = answer} t given w l s) run k = submit_keeps d t given w l answer d' s k
+    event_keeps {d} {d'} (Does.abandons {answer = answer} t given a) run k = abandon_keeps d t given answer d' a k
     event_keeps (Does.advances a) run k = advance_keeps a run k
 
-    play_keeps : {d d' : Desk} {events : List Event} → Plays P events d d' → SequentialRun P d.handled d.state d.last → Kept d → Kept d'
+    play_keeps : {d d' : Desk} {events : List Event} → Plays P events d d' → SequentialRun P.problem d.handled d.state d.last → Kept d → Kept d'
     play_keeps Plays.ends run k = k
     play_keeps (Plays.goes e does more) run k = play_keeps more (event_runs P does run) (event_keeps does run k)
 
     pub window_law : {events : List Event} {d : Desk} → Plays P events (open_desk capacity) d → WindowLaw P capacity d
     window_law {d = d} plays = go (play_keeps plays SequentialRun.opened opened_kept)
       where
+        works : Kept d → (n : Node) → Contains d.window n → HoldsLawful d.handled n
+        works k n c = each_at (HoldsLawful d.handled) d.window k.works n (contains_among n d.window c)
+
         go : Kept d → WindowLaw P capacity d
-        go k = record { ascends = pairs_all (λ n m. IsLess P.setting n.signature m.signature) d.window (pairs_mapped (λ n. n.signature) (IsLess P.setting) d.window k.ascends); waits = λ n c. each_at (IsWaiting P d.state d.last) (signatures d.window) k.waits n.signature (among_map (λ m. m.signature) n d.window (contains_among n d.window c)); indices = k.indices_are; claimed = λ n c. each_at (IsMade d.claimed) d.window k.claimed n (contains_among n d.window c); apart = pairs_all (λ n m. ¬ AreFromOneClaim n m) d.window k.apart; full = λ l e τ next. among_held d τ (k.full l e τ next) }
+        go k = record { ascends = pairs_all (λ n m. IsLess P.problem.setting n.signature m.signature) d.window (pairs_mapped (λ n. n.signature) (IsLess P.problem.setting) d.window k.ascends); waits = λ n c. each_at (IsWaiting P.problem d.state d.last) (signatures d.window) k.waits n.signature (among_map (λ m. m.signature) n d.window (contains_among n d.window c)); indices = k.indices_are; claimed = λ n c. each_at (IsMade d.claimed) d.window k.claimed n (contains_among n d.window c); apart = pairs_all (λ n m. ¬ AreFromOneClaim n m) d.window k.apart; lawful = λ n w c e. (works k n c w e).0; own = λ n w c e. let t : IsLawful w × (w.problem ≡ P) × (w.number ≤ d.handled) × (w.signature ≡ n.signature) = works k n c w e in (t.1, t.2, t.3); full = λ l e τ next. among_held d τ (k.full l e τ next) }
+
+    -- a work over the desk's own state is what handling gives there
+    pub own_work : {events : List Event} {d : Desk} → Plays P events (open_desk capacity) d → (τ : Monomial) (n : Node) (w : Work) → IsReady P.problem d τ n w → w.number ≡ d.handled → Handles P.problem.setting d.state τ w.outcome
+    own_work {d = d} plays τ n w ready e = go (play_keeps plays SequentialRun.opened opened_kept)
+      where
+        run : SequentialRun P.problem d.handled d.state d.last
+        run = (snapshot P capacity plays).0
+
+        go : Kept d → Handles P.problem.setting d.state τ w.outcome
+        go k = at (found_out d.window τ n ready.held (own_apart d k)) (each_at (HoldsLawful d.handled) d.window k.works n (found d.window τ n ready.held) w ready.work)
+          where
+            at : (n.signature ≡ τ) × Adds n (without_node n.index d.window) d.window → IsLawful w × (w.problem ≡ P) × (w.number ≤ d.handled) × (w.signature ≡ n.signature) → Handles P.problem.setting d.state τ w.outcome
+            at (signed, out) (lawful, here, l, same) = subst (λ σ. Handles P.problem.setting d.state σ w.outcome) (same ∙ signed) (own_stands P field run w lawful here e)

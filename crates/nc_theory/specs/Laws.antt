@@ -2,13 +2,13 @@
 use Rattle.nc_algebra.specs.Elements.{degree, IsIn, IsLabelled, IsLeadingWord, IsLess, IsZeroPolynomial, SamePolynomial, Setting, evaluation, WeighsAtMost, WordsAre, generator}
 use Rattle.nc_algebra.specs.Monomials.{Divides, Monomial, Sig}
 use Rattle.nc_algebra.specs.Polynomials.{IsNormal, Polynomial, leading}
-use Rattle.nc_algebra.specs.Problems.{Bound, IsUnder, IsWithin, IsWithinBelow, IsWithinBound, Problem}
+use Rattle.nc_algebra.specs.Problems.{Bound, IsUnder, IsWithin, IsWithinBelow, IsWithinBound, NamedProblem, Problem}
 use Rattle.nc_algebra.specs.Sums.{minus}
 use Rattle.nc_algebra.specs.Finite.{IsOver, monomials_within}
 use Rattle.nc_algebra.specs.Primes.{IsPrime}
 use Rattle.nc_algebra.specs.Words.{Letter, Word}
 use Rattle.nc_theory.specs.Bases.{HasRepresentation, IsBasisBelow, IsCanonical, IsClosed, IsSound, IsSyzygyBasisBelow}
-use Rattle.nc_theory.specs.Desk.{Desk, Event, IsLawful, Plays, Work, open_desk}
+use Rattle.nc_theory.specs.Desk.{Abandoned, Abandons, Advances, Claimed, Claims, Desk, Event, IsCounted, IsFinished, IsReady, Node, Plays, Submits, Submitted, Ticket, Work, after_committed, open_desk}
 use Rattle.nc_theory.specs.Divisors.{Divisor, IsChosenDivisor, RegularDivisor, multiple_at, number_of, signature_at}
 use Rattle.nc_theory.specs.Labels.{label_at, labels_of, step_multiples, trace_label}
 use Rattle.nc_theory.specs.Letters.{AreOver}
@@ -157,29 +157,46 @@ StepLimit = (P : Problem) → IsPrime P.setting.prime → (letters : List Letter
     ((n : ℕ) (state : State) (last : Option Monomial) → SequentialRun P n state last → n ≤ length (monomials_within P.setting P.bound letters))
     × (length (monomials_within P.setting P.bound letters) ≤ P.steps → (n : ℕ) (state : State) (end : End) → IsEnd P n state end → end ≡ End.complete)
 
--- for every list of events the desk stands at the run's state of its own number
+-- a play leads from a desk at a state of the run, within the steps, to one that is so too; an open desk is one
 abbrev pub SnapshotLaw : Type 0
-SnapshotLaw = (P : Problem) (capacity : ℕ) (events : List Event) (d : Desk) → Plays P events (open_desk capacity) d → SequentialRun P d.handled d.state d.last
+SnapshotLaw = (P : NamedProblem) →
+    ((events : List Event) (d d' : Desk) → Plays P events d d' → (SequentialRun P.problem d.handled d.state d.last → SequentialRun P.problem d'.handled d'.state d'.last) × (d.handled ≤ P.problem.steps → d'.handled ≤ P.problem.steps))
+    × ((capacity : ℕ) (events : List Event) (d : Desk) → Plays P events (open_desk capacity) d → SequentialRun P.problem d.handled d.state d.last × (d.handled ≤ P.problem.steps))
+
+-- a desk within the steps is finished exactly where its state is an end of the run
+abbrev pub FinishedLaw : Type 0
+FinishedLaw = (P : Problem) → IsPrime P.setting.prime → (d : Desk) → SequentialRun P d.handled d.state d.last → d.handled ≤ P.steps → IsFinished P d ↔ ((end : End) × IsEnd P d.handled d.state end)
 
 -- each list of events has a play
 abbrev pub PlaysExist : Type 0
-PlaysExist = (P : Problem) → IsPrime P.setting.prime → (capacity : ℕ) (events : List Event) → (d : Desk) × Plays P events (open_desk capacity) d
+PlaysExist = (P : NamedProblem) → IsPrime P.problem.setting.prime → (capacity : ℕ) (events : List Event) → (d : Desk) × Plays P events (open_desk capacity) d
 
 -- a list of events leaves one desk
 abbrev pub PlaysAreDetermined : Type 0
-PlaysAreDetermined = (P : Problem) (events : List Event) (d a b : Desk) → Plays P events d a → Plays P events d b → a ≡ b
+PlaysAreDetermined = (P : NamedProblem) (events : List Event) (d a b : Desk) → Plays P events d a → Plays P events d b → a ≡ b
+
+-- a claim, a work that comes in and a ticket that is given back have one answer each, and leave one desk
+abbrev pub AnswersAreDetermined : Type 0
+AnswersAreDetermined = (P : NamedProblem) (d : Desk) →
+    ((a b : Claimed) (x y : Desk) → Claims P.problem d a x → Claims P.problem d b y → (a ≡ b) × (x ≡ y))
+    × ((t : Ticket) (w : Work) (a b : Submitted) (x y : Desk) → Submits P d t w a x → Submits P d t w b y → (a ≡ b) × (x ≡ y))
+    × ((t : Ticket) (a b : Abandoned) (x y : Desk) → Abandons d t a x → Abandons d t b y → (a ≡ b) × (x ≡ y))
 
 -- for every list of events the window is as it should be
 abbrev pub WindowsAreKept : Type 0
-WindowsAreKept = (P : Problem) → IsPrime P.setting.prime → (capacity : ℕ) (events : List Event) (d : Desk) → Plays P events (open_desk capacity) d → WindowLaw P capacity d
+WindowsAreKept = (P : NamedProblem) → IsPrime P.problem.setting.prime → (capacity : ℕ) (events : List Event) (d : Desk) → Plays P events (open_desk capacity) d → WindowLaw P capacity d
 
--- each claim was committed, dropped, given up or is still held
+-- a play keeps the counts of a desk right and handles no signature alone; those of an open desk are right
 abbrev pub DeskCounts : Type 0
-DeskCounts = (P : Problem) (capacity : ℕ) (events : List Event) (d : Desk) → Plays P events (open_desk capacity) d → (d.claimed ≡ d.committed + d.dropped + d.abandoned + length d.window) × (d.handled ≡ d.committed)
+DeskCounts = (P : NamedProblem) →
+    ((events : List Event) (d d' : Desk) → Plays P events d d' → (IsCounted d → IsCounted d') × (d'.alone ≡ d.alone))
+    × ((capacity : ℕ) (events : List Event) (d : Desk) → Plays P events (open_desk capacity) d → IsCounted d × (d.alone ≡ 0))
 
--- a lawful work over the state of the desk's own number is never dropped
+-- a work over the desk's own state that is ready is what handling gives there: each advance that is not at the end commits it, and none drops it
 abbrev pub OwnWorkStands : Type 0
-OwnWorkStands = OfEachRun (λ P n state last. (w : Work) → IsLawful w → w.problem ≡ P → w.number ≡ n → Handles P.setting state w.signature w.outcome)
+OwnWorkStands = (P : NamedProblem) → IsPrime P.problem.setting.prime → (capacity : ℕ) (events : List Event) (d : Desk) → Plays P events (open_desk capacity) d → (τ : Monomial) (n : Node) (w : Work) → IsReady P.problem d τ n w → w.number ≡ d.handled →
+    Handles P.problem.setting d.state τ w.outcome
+    × (¬ IsFinished P.problem d → (d' : Desk) → Advances P.problem d d' → Advances P.problem (after_committed d τ n w.outcome) d')
 
 -- what is left of a claim is the claim less a module element within the bound, which the labels of the subtracted multiples sum up to
 abbrev pub RepresentationLaw : Type 0
