@@ -84,7 +84,11 @@ leftmost = record { allowed = tt; least = λ e a. inr (omega (arith, e.listed.1)
 trivial : TrivialSyzygy small (square ∷ []) (record { left = x ∷ x ∷ []; generator = 1; right = [] })
 unfolding small square leading generator
 trivial = record {
-  first = square; first_listed = (0, omega arith, refl); second = square; second_listed = (0, omega arith, refl); m = [];
+  first = square;
+  first_listed = (0, omega arith, refl);
+  second = square;
+  second_listed = (0, omega arith, refl);
+  m = [];
   greater = inr (inr (refl, inr (refl, inl (lighter_less [] (x ∷ x ∷ []) (lit< tt)))), refl);
 }
 

@@ -7,19 +7,17 @@ use Rattle.nc_algebra.specs.Primes.{IsField}
 use Rattle.nc_algebra.specs.Problems.{Problem}
 use Rattle.nc_algebra.specs.Words.{Word}
 use Rattle.nc_theory.proofs.Completeness.{Invariant, IsReached, invariant, reached_less}
-use Rattle.nc_theory.proofs.Decisions.{less_dec}
 use Rattle.nc_theory.proofs.Determinism.{reduction_unique, starts_unique}
-use Rattle.nc_theory.proofs.Existence.{reduce_exists}
 use Rattle.nc_theory.proofs.Places.{at_most_multiple}
-use Rattle.nc_theory.proofs.Stale.{front_or_later, in_front, reduction_on}
+use Rattle.nc_theory.proofs.Stale.{front_or_later, in_front}
 use Rattle.nc_theory.proofs.Traces.{only_one}
 use Rattle.nc_theory.specs.Divisors.{Divisor, IsChosenDivisor, RegularDivisor, signature_at}
 use Rattle.nc_theory.specs.Rebuilding.{IsFrom, Rebuilds}
 use Rattle.nc_theory.specs.Reductions.{Reduction, ReductionAt}
 use Rattle.nc_theory.specs.Runs.{Handles, IsNext, Outcome, SequentialRun, Starts, state_after}
 use Rattle.nc_theory.specs.States.{Entry, Start, State, Step, Syzygy, Trace}
-use Rattle.std.proofs.Common.{Contains, List, Option, Some, [], ap, ap₂, append-nil, append_assoc, arith, get_or, inl, inr, length, length-append, refl, subst, subst₂, suc, sym, ℕ, ◌%◌, ◌++◌, ◌<◌, ◌↔◌, ◌∙◌, ◌∷◌, ◌≡◌, ◌≤◌, ◌⊎◌}
-use Rattle.std.proofs.lemmas.List.Elements.{Contains-append_cases, Contains-push_cases}
+use Rattle.std.proofs.Common.{Contains, List, Option, Some, [], ap, ap₂, append-nil, append_assoc, arith, get_or, inl, inr, length, length-append, refl, subst, suc, sym, ℕ, ◌%◌, ◌++◌, ◌<◌, ◌↔◌, ◌∙◌, ◌∷◌, ◌≡◌, ◌≤◌, ◌⊎◌}
+use Rattle.std.proofs.lemmas.List.Elements.{Contains-push_cases}
 
 -- a multiple of an entry with a signature of at least τ has one too
 pub from_not_below : (s : Setting) (τ : Monomial) (e : Entry) (u v : Word) → IsFrom s τ e → IsLess s (times u e.signature v) τ → ⊥

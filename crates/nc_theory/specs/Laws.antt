@@ -1,5 +1,5 @@
 -- The theorems that the functions of this crate carry.
-use Rattle.nc_algebra.specs.Elements.{degree, IsIn, IsLabelled, IsLeadingWord, IsLess, IsZeroPolynomial, SamePolynomial, Setting, evaluation, WeighsAtMost, WordsAre, generator}
+use Rattle.nc_algebra.specs.Elements.{degree, IsIn, IsLabelled, IsLeadingWord, IsLess, SamePolynomial, Setting, evaluation, WeighsAtMost, WordsAre, generator}
 use Rattle.nc_algebra.specs.Monomials.{Divides, Monomial, Sig}
 use Rattle.nc_algebra.specs.Polynomials.{IsNormal, Polynomial, leading}
 use Rattle.nc_algebra.specs.Problems.{Bound, IsUnder, IsWithin, IsWithinBelow, IsWithinBound, NamedProblem, Problem}
