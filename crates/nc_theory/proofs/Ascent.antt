@@ -10,7 +10,7 @@ use Rattle.nc_algebra.specs.Words.{Word}
 use Rattle.nc_theory.proofs.Completeness.{Invariant, IsReached, entries_after, high_old, invariant, low_old, reached_or_left}
 use Rattle.nc_theory.specs.Ambiguities.{NewAmbiguity}
 use Rattle.nc_theory.specs.Reductions.{ReductionAt}
-use Rattle.nc_theory.specs.Runs.{NewWith, Handles, IsAfter, IsCandidate, IsNext, IsWaiting, Outcome, SequentialRun, Starts, state_after}
+use Rattle.nc_theory.specs.Runs.{BringsAmbiguity, Handles, IsAfter, IsCandidate, IsNext, IsWaiting, Outcome, SequentialRun, Starts, state_after}
 use Rattle.nc_theory.specs.States.{Start, State, Step}
 use Rattle.std.proofs.Common.{Contains, List, None, Option, Some, inl, inr, subst, sym, ℕ, ◌↔◌, ◌∷◌, ◌≡◌, ◌≢◌, ◌⊎◌}
 use Rattle.std.proofs.lemmas.List.Elements.{Contains-push_cases}
@@ -30,21 +30,21 @@ module _ (P : Problem) (field : IsField P.setting.prime) {n : ℕ} {state : Stat
       go r (inl k) (inr e) = low_old P field state last inv τ next starts reduction ρ a.word a.ambiguity r (sym e)
       go r (inl k) (inl e) = high_old P field state last inv τ next starts reduction ρ a.word a.ambiguity r k (sym e)
 
-  pub ascent : {o : Outcome} → Handles P.setting state τ o → (ρ : Monomial) → NewWith P.setting state τ o ρ → IsLess P.setting τ ρ
+  pub ascent : {o : Outcome} → Handles P.setting state τ o → (ρ : Monomial) → BringsAmbiguity P.setting state τ o ρ → IsLess P.setting τ ρ
   ascent (Handles.is_covered k) ρ a = absurd a
   ascent (Handles.is_settled n u w d b m) ρ a = absurd a
   ascent (Handles.is_syzygy n starts reduction) ρ a = absurd a
   ascent (Handles.is_entry n starts reduction) ρ a = ascends starts reduction ρ a
 
   -- a candidate after the step is one before it, or new
-  candidate_back : (o : Outcome) (ρ : Monomial) → IsCandidate P (state_after state τ o) ρ → IsCandidate P state ρ ⊎ (IsWithin P ρ × NewWith P.setting state τ o ρ)
+  candidate_back : (o : Outcome) (ρ : Monomial) → IsCandidate P (state_after state τ o) ρ → IsCandidate P state ρ ⊎ (IsWithin P ρ × BringsAmbiguity P.setting state τ o ρ)
   candidate_back Outcome.covered ρ c = inl c
   candidate_back (Outcome.settled j) ρ c = inl c
   candidate_back (Outcome.a_syzygy trace) ρ c = inl c
   candidate_back (Outcome.an_entry f trace) ρ (within, inl u) = inl (within, inl u)
   candidate_back (Outcome.an_entry f trace) ρ (within, inr (w, amb)) = go (Contains-push_cases state.entries (record { signature = τ; polynomial = f; trace = trace }) amb.low.entry amb.low.listed) (Contains-push_cases state.entries (record { signature = τ; polynomial = f; trace = trace }) amb.high.entry amb.high.listed)
     where
-      go : Contains state.entries amb.low.entry ⊎ (record { signature = τ; polynomial = f; trace = trace } ≡ amb.low.entry) → Contains state.entries amb.high.entry ⊎ (record { signature = τ; polynomial = f; trace = trace } ≡ amb.high.entry) → IsCandidate P state ρ ⊎ (IsWithin P ρ × NewWith P.setting state τ (Outcome.an_entry f trace) ρ)
+      go : Contains state.entries amb.low.entry ⊎ (record { signature = τ; polynomial = f; trace = trace } ≡ amb.low.entry) → Contains state.entries amb.high.entry ⊎ (record { signature = τ; polynomial = f; trace = trace } ≡ amb.high.entry) → IsCandidate P state ρ ⊎ (IsWithin P ρ × BringsAmbiguity P.setting state τ (Outcome.an_entry f trace) ρ)
       go (inr e) o = inr (within, record { word = w; ambiguity = amb; newest = inr (sym e) })
       go (inl k) (inr e) = inr (within, record { word = w; ambiguity = amb; newest = inl (sym e) })
       go (inl k) (inl h) = inl (
@@ -84,7 +84,7 @@ module _ (P : Problem) (field : IsField P.setting.prime) {n : ℕ} {state : Stat
     ),
   )
 
-  candidate_new : (o : Outcome) (ρ : Monomial) → IsWithin P ρ → NewWith P.setting state τ o ρ → IsCandidate P (state_after state τ o) ρ
+  candidate_new : (o : Outcome) (ρ : Monomial) → IsWithin P ρ → BringsAmbiguity P.setting state τ o ρ → IsCandidate P (state_after state τ o) ρ
   candidate_new Outcome.covered ρ within a = absurd a
   candidate_new (Outcome.settled j) ρ within a = absurd a
   candidate_new (Outcome.a_syzygy trace) ρ within a = absurd a
@@ -94,10 +94,10 @@ module _ (P : Problem) (field : IsField P.setting.prime) {n : ℕ} {state : Stat
   after_last None ρ a l = tt
   after_last (Some κ) ρ a l = (monomial_laws (generator_weight P.setting)).trans κ τ ρ a l
 
-  pub waiting : {o : Outcome} → Handles P.setting state τ o → (ρ : Monomial) → IsWaiting P (state_after state τ o) (Some τ) ρ ↔ ((IsWaiting P state last ρ × (ρ ≢ τ)) ⊎ (IsWithin P ρ × NewWith P.setting state τ o ρ))
+  pub waiting : {o : Outcome} → Handles P.setting state τ o → (ρ : Monomial) → IsWaiting P (state_after state τ o) (Some τ) ρ ↔ ((IsWaiting P state last ρ × (ρ ≢ τ)) ⊎ (IsWithin P ρ × BringsAmbiguity P.setting state τ o ρ))
   waiting {o} h ρ = (λ c. forth c.1 (candidate_back o ρ c.0), back)
     where
-      forth : IsLess P.setting τ ρ → IsCandidate P state ρ ⊎ (IsWithin P ρ × NewWith P.setting state τ o ρ) → (IsWaiting P state last ρ × (ρ ≢ τ)) ⊎ (IsWithin P ρ × NewWith P.setting state τ o ρ)
+      forth : IsLess P.setting τ ρ → IsCandidate P state ρ ⊎ (IsWithin P ρ × BringsAmbiguity P.setting state τ o ρ) → (IsWaiting P state last ρ × (ρ ≢ τ)) ⊎ (IsWithin P ρ × BringsAmbiguity P.setting state τ o ρ)
       forth l (inl c) = inl ((c, after_last last ρ next.left l), λ e. (monomial_laws (generator_weight P.setting)).irrefl τ (subst (IsLess P.setting τ) e l))
       forth l (inr a) = inr a
 
@@ -105,6 +105,6 @@ module _ (P : Problem) (field : IsField P.setting.prime) {n : ℕ} {state : Stat
       other n (inl e) = absurd (n e)
       other n (inr l) = l
 
-      back : (IsWaiting P state last ρ × (ρ ≢ τ)) ⊎ (IsWithin P ρ × NewWith P.setting state τ o ρ) → IsWaiting P (state_after state τ o) (Some τ) ρ
+      back : (IsWaiting P state last ρ × (ρ ≢ τ)) ⊎ (IsWithin P ρ × BringsAmbiguity P.setting state τ o ρ) → IsWaiting P (state_after state τ o) (Some τ) ρ
       back (inl (w, n)) = (candidate_on o ρ w.0, other n (next.least ρ w.0 w.1))
       back (inr (within, a)) = (candidate_new o ρ within a, ascent h ρ a)

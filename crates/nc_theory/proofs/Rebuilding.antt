@@ -12,7 +12,7 @@ use Rattle.nc_theory.proofs.Places.{at_most_multiple}
 use Rattle.nc_theory.proofs.Stale.{front_or_later, in_front}
 use Rattle.nc_theory.proofs.Traces.{only_one}
 use Rattle.nc_theory.specs.Divisors.{Divisor, IsChosenDivisor, RegularDivisor, signature_at}
-use Rattle.nc_theory.specs.Rebuilding.{IsFrom, Rebuilds}
+use Rattle.nc_theory.specs.Rebuilding.{IsAtLeast, Rebuilds}
 use Rattle.nc_theory.specs.Reductions.{Reduction, ReductionAt}
 use Rattle.nc_theory.specs.Runs.{Handles, IsNext, Outcome, SequentialRun, Starts, state_after}
 use Rattle.nc_theory.specs.States.{Entry, Start, State, Step, Syzygy, Trace}
@@ -20,7 +20,7 @@ use Rattle.std.proofs.Common.{Contains, List, Option, Some, [], ap, ap₂, appen
 use Rattle.std.proofs.lemmas.List.Elements.{Contains-push_cases}
 
 -- a multiple of an entry with a signature of at least τ has one too
-pub from_not_below : (s : Setting) (τ : Monomial) (e : Entry) (u v : Word) → IsFrom s τ e → IsLess s (times u e.signature v) τ → ⊥
+pub from_not_below : (s : Setting) (τ : Monomial) (e : Entry) (u v : Word) → IsAtLeast s τ e → IsLess s (times u e.signature v) τ → ⊥
 from_not_below s τ e u v f l = go (at_most_multiple s u v e.signature) f
   where
     under : (e.signature ≡ times u e.signature v) ⊎ IsLess s e.signature (times u e.signature v) → IsLess s e.signature τ
@@ -31,7 +31,7 @@ from_not_below s τ e u v f l = go (at_most_multiple s u v e.signature) f
     go o (inl i) = (monomial_laws (generator_weight s)).irrefl τ (subst (λ κ. IsLess s κ τ) i (under o))
     go o (inr m) = (monomial_laws (generator_weight s)).irrefl τ ((monomial_laws (generator_weight s)).trans τ e.signature τ m (under o))
 
-module _ (s : Setting) (first rest : List Entry) (τ : Monomial) (others : (e : Entry) → Contains rest e → IsFrom s τ e) where
+module _ (s : Setting) (first rest : List Entry) (τ : Monomial) (others : (e : Entry) → Contains rest e → IsAtLeast s τ e) where
   -- a place of one of the first entries is one among all
   abbrev in_all : (w : Word) → Divisor s first w → Divisor s (first ++ rest) w
   in_all w d = record { entry = d.entry; listed = in_front first rest d.entry d.listed; left = d.left; right = d.right; spells = d.spells }
@@ -72,7 +72,7 @@ module _ (s : Setting) (first rest : List Entry) (τ : Monomial) (others : (e : 
 -- ---- what is rebuilt is one
 
 module _ (s : Setting) (σ : Monomial) where
-  lesser_or_not : (e : Entry) → IsLess s e.signature σ → IsFrom s σ e → ⊥
+  lesser_or_not : (e : Entry) → IsLess s e.signature σ → IsAtLeast s σ e → ⊥
   lesser_or_not e l (inl i) = (monomial_laws (generator_weight s)).irrefl σ (subst (λ κ. IsLess s κ σ) i l)
   lesser_or_not e l (inr m) = (monomial_laws (generator_weight s)).irrefl σ ((monomial_laws (generator_weight s)).trans σ e.signature σ m l)
 
@@ -81,7 +81,7 @@ module _ (s : Setting) (σ : Monomial) where
   behind (x ∷ xs) = xs
 
   -- a list is split into lesser entries and others in one way
-  split_once : (first rest first' rest' : List Entry) → first ++ rest ≡ first' ++ rest' → ((e : Entry) → Contains first e → IsLess s e.signature σ) → ((e : Entry) → Contains rest e → IsFrom s σ e) → ((e : Entry) → Contains first' e → IsLess s e.signature σ) → ((e : Entry) → Contains rest' e → IsFrom s σ e) → first ≡ first'
+  split_once : (first rest first' rest' : List Entry) → first ++ rest ≡ first' ++ rest' → ((e : Entry) → Contains first e → IsLess s e.signature σ) → ((e : Entry) → Contains rest e → IsAtLeast s σ e) → ((e : Entry) → Contains first' e → IsLess s e.signature σ) → ((e : Entry) → Contains rest' e → IsAtLeast s σ e) → first ≡ first'
   unfolding behind
   split_once [] rest [] rest' e low high low' high' = refl
   split_once [] rest (x ∷ first') rest' e low high low' high' = absurd (lesser_or_not x (low' x (0, omega arith, refl)) (high x (subst (λ l. Contains l x) (sym e) (0, omega arith, refl))))
@@ -107,12 +107,12 @@ module _ (s : Setting) (field : IsField s.prime) (entries : List Entry) (alive :
 -- ---- runs
 
 -- one more entry behind does not matter
-more : (s : Setting) (entries : List Entry) (σ : Monomial) (trace : Trace) (result : Polynomial) → Rebuilds s entries σ trace result → (new : Entry) → IsFrom s σ new → Rebuilds s (entries ++ (new ∷ [])) σ trace result
+more : (s : Setting) (entries : List Entry) (σ : Monomial) (trace : Trace) (result : Polynomial) → Rebuilds s entries σ trace result → (new : Entry) → IsAtLeast s σ new → Rebuilds s (entries ++ (new ∷ [])) σ trace result
 more s entries σ trace result r new f = record { first = r.first; rest = r.rest ++ (new ∷ []); splits = ap (λ l. l ++ (new ∷ [])) r.splits ∙ append_assoc r.first r.rest (new ∷ []); lesser = r.lesser; others = λ e c. go e (Contains-push_cases r.rest new e c); start = r.start; starts = r.starts; reduces = r.reduces }
   where
-    go : (e : Entry) → Contains r.rest e ⊎ (new ≡ e) → IsFrom s σ e
+    go : (e : Entry) → Contains r.rest e ⊎ (new ≡ e) → IsAtLeast s σ e
     go e (inl c) = r.others e c
-    go e (inr i) = subst (IsFrom s σ) i f
+    go e (inr i) = subst (IsAtLeast s σ) i f
 
 -- a list that ascends still does with a greater element behind
 ascend_push : {X : Type 0} (s : Setting) (sig : X → Monomial) (xs : List X) (new : X) → ((x y : X) (k : Contains xs x) (l : Contains xs y) → k.0 < l.0 → IsLess s (sig x) (sig y)) → ((x : X) → Contains xs x → IsLess s (sig x) (sig new)) → (x y : X) (k : Contains (xs ++ (new ∷ [])) x) (l : Contains (xs ++ (new ∷ [])) y) → k.0 < l.0 → IsLess s (sig x) (sig y)

@@ -21,18 +21,18 @@ pub data ReducesToZero (s : Setting) (entries : List Entry) (τ : Monomial) : Po
       → ReducesToZero s entries τ (minus s.prime f c (multiple_at s entries w d))
       → ReducesToZero s entries τ f
 
--- each module element in the bound evaluates to a polynomial that reduces to zero within its signature
+-- each module element in the set evaluates to a polynomial that reduces to zero within its signature
 abbrev pub IsBasisBelow : Setting → State → (Monomial → Type 0) → Type 0
-IsBasisBelow s state bound = (α : Element) (σ : Monomial) → IsIn s α bound → IsSignatureOf s α σ → ReducesToZero s state.entries σ (evaluation s α)
+IsBasisBelow s state set = (α : Element) (σ : Monomial) → IsIn s α set → IsSignatureOf s α σ → ReducesToZero s state.entries σ (evaluation s α)
 
--- the signature of each module element in the bound that evaluates to zero is covered
+-- the signature of each module element in the set that evaluates to zero is covered
 abbrev pub IsSyzygyBasisBelow : Setting → State → (Monomial → Type 0) → Type 0
-IsSyzygyBasisBelow s state bound = (α : Element) (σ : Monomial) → IsIn s α bound → IsSignatureOf s α σ → IsZeroPolynomial s (evaluation s α) → Covered s state σ
+IsSyzygyBasisBelow s state set = (α : Element) (σ : Monomial) → IsIn s α set → IsSignatureOf s α σ → IsZeroPolynomial s (evaluation s α) → Covered s state σ
 
--- each generator in the bound has an entry or is covered, and each ambiguity is covered or has a multiple with a lesser word
-pub record IsClosed (s : Setting) (state : State) (bound : Monomial → Type 0) : Type 0 where
-  pub generators : (i : ℕ) → bound (unit_monomial i) → ((e : Entry) × Contains state.entries e × (e.signature ≡ unit_monomial i)) ⊎ Covered s state (unit_monomial i)
-  pub ambiguities : (ρ : Monomial) (w : Word) → Ambiguity s state.entries ρ w → bound ρ → Covered s state ρ ⊎ ((v : Word) × IsWordLess v w × Multiple s state.entries ρ v)
+-- each generator in the set has an entry or is covered, and each ambiguity in the set is covered or has a multiple with a lesser word
+pub record IsClosed (s : Setting) (state : State) (set : Monomial → Type 0) : Type 0 where
+  pub generators : (i : ℕ) → set (unit_monomial i) → ((e : Entry) × Contains state.entries e × (e.signature ≡ unit_monomial i)) ⊎ Covered s state (unit_monomial i)
+  pub ambiguities : (ρ : Monomial) (w : Word) → Ambiguity s state.entries ρ w → set ρ → Covered s state ρ ⊎ ((v : Word) × IsWordLess v w × Multiple s state.entries ρ v)
 
 -- each entry has a polynomial that is not zero and a label, and each syzygy a label that evaluates to zero
 pub record IsSound (s : Setting) (state : State) : Type 0 where

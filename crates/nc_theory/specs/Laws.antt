@@ -12,9 +12,9 @@ use Rattle.nc_theory.specs.Desk.{Abandoned, Abandons, Advances, Claimed, Claims,
 use Rattle.nc_theory.specs.Divisors.{Divisor, IsChosenDivisor, RegularDivisor, multiple_at, number_of, signature_at}
 use Rattle.nc_theory.specs.Labels.{label_at, labels_of, step_multiples, trace_label}
 use Rattle.nc_theory.specs.Letters.{AreOver}
-use Rattle.nc_theory.specs.Rebuilding.{IsFrom, Rebuilds}
+use Rattle.nc_theory.specs.Rebuilding.{IsAtLeast, Rebuilds}
 use Rattle.nc_theory.specs.Reductions.{Reduction, ReductionAt}
-use Rattle.nc_theory.specs.Runs.{End, NewWith, Handles, IsAfter, IsCandidate, IsEnd, IsNext, IsWaiting, NoneWaits, Outcome, SequentialRun, Starts, state_after}
+use Rattle.nc_theory.specs.Runs.{End, BringsAmbiguity, Handles, IsAfter, IsCandidate, IsEnd, IsNext, IsWaiting, NoneWaits, Outcome, SequentialRun, Starts, state_after}
 use Rattle.nc_theory.specs.Stale.{Extension, Unaffected}
 use Rattle.nc_theory.specs.States.{Entry, Start, State, Step, Syzygy, Trace}
 use Rattle.nc_theory.specs.Syzygies.{ApartAt, TrivialSyzygy}
@@ -84,12 +84,12 @@ OneEnd = (P : Problem) → IsPrime P.setting.prime →
 -- each ambiguity with an entry that is listed at τ has a signature greater than τ
 abbrev pub AscentLaw : Type 0
 AscentLaw = OfEachRun (λ P n state last. (τ : Monomial) → IsNext P state last τ → (o : Outcome) → Handles P.setting state τ o →
-    (ρ : Monomial) → NewWith P.setting state τ o ρ → IsLess P.setting τ ρ)
+    (ρ : Monomial) → BringsAmbiguity P.setting state τ o ρ → IsLess P.setting τ ρ)
 
 -- after a step those signatures wait that waited before, without τ, and those of the new ambiguities within the bound
 abbrev pub WaitingLaw : Type 0
 WaitingLaw = OfEachRun (λ P n state last. (τ : Monomial) → IsNext P state last τ → (o : Outcome) → Handles P.setting state τ o →
-    (ρ : Monomial) → IsWaiting P (state_after state τ o) (Some τ) ρ ↔ ((IsWaiting P state last ρ × (ρ ≢ τ)) ⊎ (IsWithin P ρ × NewWith P.setting state τ o ρ)))
+    (ρ : Monomial) → IsWaiting P (state_after state τ o) (Some τ) ρ ↔ ((IsWaiting P state last ρ × (ρ ≢ τ)) ⊎ (IsWithin P ρ × BringsAmbiguity P.setting state τ o ρ)))
 
 -- what is reached at τ weighs at most the degree of τ: the loop's invariant, one clause a step
 pub record LimitedAt (s : Setting) (entries : List Entry) (τ : Monomial) : Type 0 where
@@ -108,7 +108,7 @@ DegreeLimit =
 
 -- an entry with a signature of at least τ gives no regular divisor at τ, so reduction over all entries is reduction over the first ones
 abbrev pub FrontLaw : Type 0
-FrontLaw = (s : Setting) (first rest : List Entry) (τ : Monomial) → ((e : Entry) → Contains rest e → IsFrom s τ e) →
+FrontLaw = (s : Setting) (first rest : List Entry) (τ : Monomial) → ((e : Entry) → Contains rest e → IsAtLeast s τ e) →
     ((w : Word) → RegularDivisor s (first ++ rest) τ w ↔ RegularDivisor s first τ w)
     × ((f kept : Polynomial) (steps : List Step) → ReductionAt s (first ++ rest) τ f kept steps ↔ ReductionAt s first τ f kept steps)
 
