@@ -1,0 +1,4 @@
+pub mod Starts
+pub mod Usable
+pub mod Places
+pub mod Turns
