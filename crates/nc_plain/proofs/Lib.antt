@@ -3,5 +3,9 @@ pub mod Places
 pub mod Products
 pub mod Small
 pub mod Choices
+pub mod Quotients
+pub mod Covers
 pub mod Turns
 pub mod Runs
+pub mod Handling
+pub mod Tested

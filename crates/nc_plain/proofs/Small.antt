@@ -1,10 +1,11 @@
 -- Small words: of parts and of multiples, and the words of a polynomial in normal form.
+use Rattle.nc_algebra.proofs.Leading.{lead_leads}
 use Rattle.nc_algebra.proofs.NormalForms.{normal_leads}
 use Rattle.nc_algebra.proofs.Orders.{Decided, nat_order}
 use Rattle.nc_algebra.proofs.Ranks.{AreLetters, IsLetterOf}
 use Rattle.nc_algebra.proofs.Sums.{below_lead}
 use Rattle.nc_algebra.proofs.Words.{length_at_most, less_weighs, weight-append, word_laws}
-use Rattle.nc_algebra.specs.Elements.{IsLeadingWord, IsZeroPolynomial, Setting}
+use Rattle.nc_algebra.specs.Elements.{IsLeadingWord, IsZeroPolynomial, Setting, WordsAre}
 use Rattle.nc_algebra.specs.Polynomials.{AllLess, IsNormal, Polynomial, coefficient, leading, polynomial_times}
 use Rattle.nc_algebra.specs.Primes.{IsZero}
 use Rattle.nc_algebra.specs.Sums.{SameSum, Term, minus}
@@ -73,7 +74,7 @@ small_dec w = go (below_dec 64 100 200000 (word_weight w)) (letters_dec 64 100 w
     go (inr n) (inr m) = inr (λ a. m a.1)
 
 -- a multiple that stands in a small word has small words
-pub multiple_small : (s : Setting) (u v w : Word) (f : Polynomial) → HasSmallWords s f → IsLeadingWord s f (leading s.prime f) → u ++ (leading s.prime f ++ v) ≡ w → IsSmall w → HasSmallWords s (polynomial_times u f v)
+pub multiple_small : (s : Setting) (u v w : Word) (f : Polynomial) → WordsAre s (AreLetters 64 100) f → IsLeadingWord s f (leading s.prime f) → u ++ (leading s.prime f ++ v) ≡ w → IsSmall w → HasSmallWords s (polynomial_times u f v)
 multiple_small s u v w f small lead spells h = times_are s IsSmall small_dec u f v each
   where
     whole : IsSmall (u ++ (leading s.prime f ++ v))
@@ -86,7 +87,7 @@ multiple_small s u v w f small lead spells h = times_are s IsSmall small_dec u f
     each : (x : Word) → ¬ IsZero s.prime (coefficient f x) → IsSmall (u ++ (x ++ v))
     each x n = (
       omega (arith, whole.0, weight-append u (leading s.prime f ++ v), weight-append (leading s.prime f) v, weight-append u (x ++ v), weight-append x v, lighter x (below_lead same_word IsWordLess word_laws s.prime f (leading s.prime f) x lead n)),
-      letters-append 64 100 u (x ++ v) (letters_front 64 100 u (leading s.prime f ++ v) whole.1) (letters-append 64 100 x v (small x n).1 (letters_back 64 100 (leading s.prime f) v (letters_back 64 100 u (leading s.prime f ++ v) whole.1))),
+      letters-append 64 100 u (x ++ v) (letters_front 64 100 u (leading s.prime f ++ v) whole.1) (letters-append 64 100 x v (small x n) (letters_back 64 100 (leading s.prime f) v (letters_back 64 100 u (leading s.prime f ++ v) whole.1))),
     )
 
 -- so has the difference
@@ -118,3 +119,6 @@ usable_nonzero s entries a e k z = go e.polynomial refl
     go : (f : Polynomial) → e.polynomial ≡ f → ⊥
     go [] i = usable_one.some i
     go (t ∷ f) i = (first_leads s t f (subst (IsNormal s.prime) i usable_one.normal)).nonzero (subst (λ g. IsZero s.prime (coefficient g t.key)) i (z t.key))
+
+pub usable_lead : (s : Setting) (e : Entry) → IsUsable s e → IsLeadingWord s e.polynomial (leading s.prime e.polynomial)
+usable_lead s e u = lead_leads s.prime e.polynomial (usable_nonzero s (e ∷ []) (All-from_recursion (IsUsable s) (e ∷ []) (u, tt)) e (0, omega arith, refl))

@@ -91,7 +91,7 @@ module _ (s : Setting) (field : IsField s.prime) (entries : List Entry) (usable 
       (take_off s field entries nonzero Below old x.key t.leads 1 (x ∷ []) (single_over s field entries nonzero Below x.coefficient x.key) (keep_whole s field entries nonzero Below old x.key x.coefficient t.whole)) t.rest
   turn_leaves old new (Subtracted step) t n k =
       left_by old new t.word step.coefficient (multiple_at s entries t.word t.divisor) t.leads n k
-      (multiple_small s t.divisor.left t.divisor.right t.word t.divisor.entry.polynomial usable_one.small (lead_leads s.prime t.divisor.entry.polynomial (nonzero t.divisor.entry t.divisor.listed)) t.divisor.spells (k t.word t.leads.nonzero))
+      (multiple_small s t.divisor.left t.divisor.right t.word t.divisor.entry.polynomial usable_one.letters (lead_leads s.prime t.divisor.entry.polynomial (nonzero t.divisor.entry t.divisor.listed)) t.divisor.spells (k t.word t.leads.nonzero))
       (take_off s field entries nonzero Below old t.word t.leads step.coefficient (multiple_at s entries t.word t.divisor) (multiple_leads_at s field entries nonzero Below t.word t.divisor).above (subtract_whole s field entries nonzero Below old t.word t.divisor step.coefficient t.cancels)) t.rest
     where
       usable_one : IsUsable s t.divisor.entry

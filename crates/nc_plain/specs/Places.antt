@@ -1,6 +1,6 @@
 -- Places of a word in a word, and what a search for a regular divisor finds.
 use Rattle.nc_algebra.specs.Elements.{IsLess, Setting}
-use Rattle.nc_algebra.specs.Monomials.{Monomial, times}
+use Rattle.nc_algebra.specs.Monomials.{Divides, Monomial, times}
 use Rattle.nc_algebra.specs.Words.{Word}
 use Rattle.nc_plain.specs.declared.place.Around.{Around}
 use Rattle.nc_plain.specs.declared.divisor.Chosen.{Chosen}
@@ -30,3 +30,8 @@ abbrev pub IsChoice : Setting → List Entry → Monomial → Word → Option Ch
 IsChoice s entries τ w None = ¬ RegularDivisor s entries τ w
 IsChoice s entries τ w (Some c) =
     (d : Divisor s entries w) × IsChosenDivisor s entries (λ σ. IsLess s σ τ) w d × (d.left ≡ c.left) × (number_of s entries w d ≡ c.number) × (d.right ≡ c.right)
+
+-- the words around a divisor of a monomial
+abbrev pub IsQuotient : Monomial → Monomial → Option Around → Type 0
+IsQuotient σ τ None = ¬ Divides σ τ
+IsQuotient σ τ (Some a) = times a.left σ a.right ≡ τ

@@ -64,6 +64,27 @@ fn compare_joined(a: &Word, b: &Word, c: &Word) -> Ordering
 }
 
 impl Monomial {
+    /// The left word.
+    pub fn left(&self) -> &Word
+        ensures { result.now ≡ self.now.left }
+    {
+        &self.left
+    }
+
+    /// The number of the generator.
+    pub fn number(&self) -> usize
+        ensures { result ≡ self.now.generator }
+    {
+        self.generator
+    }
+
+    /// The right word.
+    pub fn right(&self) -> &Word
+        ensures { result.now ≡ self.now.right }
+    {
+        &self.right
+    }
+
     /// The words and the generator weigh this together.
     pub fn degree(&self, setting: &Setting) -> u32
         ensures degree { result ≡ degree setting.now.setting self.now }

@@ -1,7 +1,7 @@
 //! Places of a word in a word.
 
 ghost use Rattle.nc_algebra.specs.Elements.{IsLess};
-ghost use Rattle.nc_plain.specs.Places.{IsFirstPlace, IsPlace, IsRegularPlace};
+ghost use Rattle.nc_plain.specs.Places.{IsFirstPlace, IsPlace, IsQuotient, IsRegularPlace};
 ghost use Rattle.std.specs.Prelude.{IfOk, length, ◌≡◌, ◌≤◌};
 
 use crate::monomial::Monomial;
@@ -17,7 +17,7 @@ pub struct Around {
 }
 
 /// What stands around the factor in the word, where it begins after so many letters.
-fn place_at(
+pub fn place_at(
     alloc: Global,
     factor: &[Letter],
     word: &[Letter],
@@ -39,7 +39,7 @@ fn place_at(
 }
 
 /// The same where the signature that stands there is below the other one.
-fn regular_at(
+pub fn regular_at(
     alloc: Global,
     setting: &Setting,
     signature: &Monomial,
@@ -82,4 +82,25 @@ pub fn first_place(
         }
     }
     Ok(None)
+}
+
+/// What stands around the one monomial in the other.
+pub fn divide(alloc: Global, by: &Monomial, whole: &Monomial) -> Result<Option<Around>, AllocError>
+    ensures { IfOk result (IsQuotient by.now whole.now) }
+{
+    let front = by.left().letters();
+    let word = whole.left().letters();
+    if by.number() != whole.number() || word.len() < front.len() {
+        return Ok(None);
+    }
+    let Some(before) = place_at(alloc, front, word, word.len() - front.len())? else {
+        return Ok(None);
+    };
+    let Some(behind) = place_at(alloc, by.right().letters(), whole.right().letters(), 0)? else {
+        return Ok(None);
+    };
+    Ok(Some(Around {
+        left: before.left,
+        right: behind.right,
+    }))
 }
