@@ -170,7 +170,7 @@ pub fn has_source(
 ) -> Result<bool, AllocError>
     requires usable { All (IsUsable setting.now.setting) state.now.entries }
     requires signature { IsUsableSignature setting.now.setting signature.now }
-    ensures { IfOk result (λ b. IsTrue b → ((i : ℕ) × (signature.now ≡ unit_monomial i)) ⊎ ((w : WordValue) × Multiple setting.now.setting state.now.entries signature.now w)) }
+    ensures { IfOk result (λ b. IsTrue b ↔ (((i : ℕ) × (signature.now ≡ unit_monomial i)) ⊎ ((w : WordValue) × Multiple setting.now.setting state.now.entries signature.now w))) }
 {
     if is_unit(signature) {
         return Ok(true);
