@@ -1,0 +1,11 @@
+pub mod Orders
+pub mod Places
+pub mod Products
+pub mod Small
+pub mod Choices
+pub mod Quotients
+pub mod Covers
+pub mod Turns
+pub mod Runs
+pub mod Handling
+pub mod Tested

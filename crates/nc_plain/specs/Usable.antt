@@ -1,0 +1,29 @@
+-- What a run has: words that are not too long, over letters of limited number and weight, and entries that are not zero.
+use Rattle.nc_algebra.proofs.Ranks.{AreLetters}
+use Rattle.nc_algebra.specs.Elements.{Setting, WeighsAtMost, WordsAre, degree}
+use Rattle.nc_algebra.specs.Monomials.{Monomial}
+use Rattle.nc_algebra.specs.Polynomials.{IsNormal, Polynomial}
+use Rattle.nc_algebra.specs.Words.{Word, word_weight}
+use Rattle.nc_theory.specs.States.{Entry}
+use Rattle.std.specs.Prelude.{[], ◌≢◌, ◌≤◌}
+
+-- a word within the length limit, over letters that a program can have
+abbrev pub IsSmall : Word → Type 0
+IsSmall w = (word_weight w ≤ 200000) × AreLetters 64 100 w
+
+-- each word of the polynomial is such
+abbrev pub HasSmallWords : Setting → Polynomial → Type 0
+HasSmallWords s = WordsAre s IsSmall
+
+-- an entry's polynomial: in normal form, not zero, over such letters, with words that weigh at most its signature's degree
+pub record IsUsable (s : Setting) (e : Entry) : Type 0 where
+  pub normal : IsNormal s.prime e.polynomial
+  pub some : e.polynomial ≢ []
+  pub letters : WordsAre s (AreLetters 64 100) e.polynomial
+  pub light : WeighsAtMost s (degree s e.signature) e.polynomial
+
+-- a signature within the limit, over such letters
+pub record IsUsableSignature (s : Setting) (τ : Monomial) : Type 0 where
+  pub limited : degree s τ ≤ 200000
+  pub left : AreLetters 64 100 τ.left
+  pub right : AreLetters 64 100 τ.right

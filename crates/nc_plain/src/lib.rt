@@ -1,0 +1,27 @@
+//! The run of signatures as its definitions say it, with lists alone: slow, and what the tests of faster code compare with.
+#![tactic(auto)]
+
+mod best;
+mod cover;
+mod divisor;
+mod entry;
+mod monomial;
+mod outcome;
+mod place;
+mod reduction;
+mod state;
+#[cfg(test)]
+mod tests;
+mod trace;
+mod usable;
+
+pub use best::{Best, best_multiple};
+pub use cover::is_covered;
+pub use divisor::{Chosen, first_regular};
+pub use entry::Entry;
+pub use monomial::Monomial;
+pub use outcome::{Outcome, handle, has_source};
+pub use reduction::{Reduced, reduce};
+pub use state::{State, Syzygy};
+pub use trace::{Origin, Start, Step, Trace};
+pub use usable::{are_usable, is_usable, is_usable_signature};

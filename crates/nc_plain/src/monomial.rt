@@ -1,0 +1,106 @@
+//! Module monomials, and their order.
+
+ghost use Rattle.nc_algebra.specs.Elements.{degree, generator_weight};
+ghost use Rattle.nc_algebra.specs.Monomials.{compare_monomials, times};
+ghost use Rattle.nc_algebra.specs.Words.{Letter as LetterValue, compare_letters, compare_words};
+ghost use Rattle.std.specs.Cmp.Lexicographic.{slice_cmp};
+ghost use Rattle.std.specs.Prelude.{IfOk, length, ◌+◌, ◌++◌, ◌≡◌, ◌≤◌};
+
+use nc_module::Setting;
+use nc_words::{Letter, Word};
+use std::cmp::Ordering;
+use std::marker::Model;
+
+/// The module monomial `left [generator] right`. Generators are counted from 1.
+#[derive(Drop)]
+pub struct Monomial {
+    pub left: Word,
+    pub generator: usize,
+    pub right: Word,
+}
+
+impl Model for Monomial {
+    ghost use Rattle.nc_algebra.specs.Monomials.{Monomial};
+
+    ghost Value = { Monomial };
+
+    ghost view = { λ m. record { left = m.left; generator = m.generator; right = m.right } };
+
+    ghost inverse = { λ m. record { left = m.left; generator = m.generator; right = m.right } };
+}
+
+/// What the generator with this number weighs: nothing, where there is none.
+fn weight_of(setting: &Setting, i: usize) -> u32
+    ensures weight { result ≡ generator_weight setting.now.setting i }
+    ensures few { result ≤ 255 }
+{
+    let number = i.max(1);
+    if number <= setting.generators().len() {
+        setting.weight(number as u32)
+    } else {
+        0
+    }
+}
+
+/// Compares a b with c, letter by letter.
+fn compare_letters(a: &[Letter], b: &[Letter], c: &[Letter]) -> Ordering
+    ensures { result ≡ slice_cmp compare_letters (a.now ++ b.now) c.now }
+{
+    if a.len() <= c.len() {
+        let (front, back) = c.split_at(a.len());
+        a.cmp(front).then(b.cmp(back))
+    } else {
+        a.cmp(c)
+    }
+}
+
+/// Compares a b with c.
+fn compare_joined(a: &Word, b: &Word, c: &Word) -> Ordering
+    ensures { result ≡ compare_words (a.now ++ b.now) c.now }
+{
+    (a.weight() + b.weight())
+        .cmp(&c.weight())
+        .then(compare_letters(a.letters(), b.letters(), c.letters()))
+}
+
+impl Monomial {
+    /// The left word.
+    pub fn left(&self) -> &Word
+        ensures { result.now ≡ self.now.left }
+    {
+        &self.left
+    }
+
+    /// The number of the generator.
+    pub fn number(&self) -> usize
+        ensures { result ≡ self.now.generator }
+    {
+        self.generator
+    }
+
+    /// The right word.
+    pub fn right(&self) -> &Word
+        ensures { result.now ≡ self.now.right }
+    {
+        &self.right
+    }
+
+    /// The words and the generator weigh this together.
+    pub fn degree(&self, setting: &Setting) -> u32
+        ensures degree { result ≡ degree setting.now.setting self.now }
+        ensures few { result ≤ 40000255 }
+    {
+        self.left.weight() + weight_of(setting, self.generator) + self.right.weight()
+    }
+
+    /// Compares u m v with the other monomial.
+    pub fn compare_times(&self, setting: &Setting, u: &Word, v: &Word, other: &Monomial) -> Ordering
+        ensures { result ≡ compare_monomials (generator_weight setting.now.setting) (times u.now self.now v.now) other.now }
+    {
+        (u.weight() + self.degree(setting) + v.weight())
+            .cmp(&other.degree(setting))
+            .then(self.generator.cmp(&other.generator))
+            .then(compare_joined(u, &self.left, &other.left))
+            .then(compare_joined(&self.right, v, &other.right))
+    }
+}
