@@ -28,7 +28,7 @@ use Rattle.nc_theory.specs.Reductions.{ReductionAt}
 use Rattle.nc_theory.specs.Runs.{Handles, Outcome, Starts}
 use Rattle.nc_theory.specs.States.{Entry, Start, State, Step}
 use Rattle.nc_theory.specs.Syzygies.{Covered}
-use Rattle.std.proofs.Common.{List, None, Some, [], ap, ap₂, arith, get_or, inl, inr, length, refl, subst, sym, ℕ, ◌%◌, ◌*◌, ◌+◌, ◌++◌, ◌-◌, ◌<◌, ◌∙◌, ◌∷◌, ◌≡◌, ◌≢◌, ◌≤◌, ◌⊎◌}
+use Rattle.std.proofs.Common.{Contains, List, None, Some, [], ap, ap₂, arith, get_or, inl, inr, length, refl, subst, sym, ℕ, ◌%◌, ◌*◌, ◌+◌, ◌++◌, ◌-◌, ◌<◌, ◌∙◌, ◌∷◌, ◌≡◌, ◌≢◌, ◌≤◌, ◌⊎◌, suc, zero}
 use Rattle.std.proofs.Math.Nat.{mod-eq_of_lt, mod_self}
 use Rattle.std.proofs.lemmas.List.{get_or_read}
 use Rattle.std.proofs.lemmas.List.Elements.{recursion_from_All}
@@ -61,10 +61,14 @@ pub text_words : (s : Setting) (n : ℕ) (f : Polynomial) → n ≤ 64 → AllBy
 text_words s n [] h a = λ w m. absurd (m (zero_number s.prime))
 text_words s n (t ∷ f) h a = more_are s IsSmall t.coefficient t.key f (text_small n t.key h a.0) (text_words s n f h a.1)
 
+generator_at : (s : Setting) (i : ℕ) → 1 ≤ i → get_or s.generators (i - 1) [] ≡ generator s i
+unfolding generator
+generator_at s zero h = absurd (omega (arith, h))
+generator_at s (suc i) h = let e : suc i - 1 ≡ i = omega arith in ap (λ k. get_or s.generators k []) e
+
 module _ (s : NamedSetting) (setting : IsSetting s) (i : ℕ) (valid : IsGenerator s.setting i) (f : Polynomial) (read : f ≡ get_or s.setting.generators (i - 1) f) where
   pub generator_is : f ≡ generator s.setting i
-  unfolding generator
-  generator_is = get_or_read s.setting.generators (i - 1) f (omega (arith, valid.0, valid.1)) read []
+  generator_is = get_or_read s.setting.generators (i - 1) f (omega (arith, valid.0, valid.1)) read [] ∙ generator_at s.setting i valid.0
 
   text : IsTextGenerator (length s.names) s.setting.prime f
   text = subst (IsTextGenerator (length s.names) s.setting.prime) (sym read) (setting.each (i - 1) f (omega (arith, valid.0, valid.1)))

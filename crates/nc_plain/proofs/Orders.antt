@@ -6,7 +6,7 @@ use Rattle.nc_algebra.specs.Elements.{IsLess, Setting, generator, generator_weig
 use Rattle.nc_algebra.specs.Monomials.{IsMonomialLess, Monomial, compare_monomials, degree_of, times}
 use Rattle.nc_algebra.specs.Polynomials.{Polynomial, leading}
 use Rattle.nc_algebra.specs.Words.{Word, compare_letters, compare_words, word_weight}
-use Rattle.std.proofs.Common.{Bool, Equal, Greater, Less, Ordering, [], ap, ap₂, arith, drop, get_or, length, refl, sym, take, true, ℕ, ◌+◌, ◌++◌, ◌-◌, ◌<◌, ◌∙◌, ◌∷◌, ◌≡◌, ◌≤◌}
+use Rattle.std.proofs.Common.{Bool, Equal, Greater, Less, Ordering, [], ap, ap₂, arith, drop, get_or, inl, inr, length, refl, suc, sym, take, true, zero, ℕ, ◌+◌, ◌++◌, ◌-◌, ◌<◌, ◌∙◌, ◌∷◌, ◌≡◌, ◌≤◌, ◌⊎◌}
 use Rattle.std.proofs.lemmas.List.{get_or_past}
 use Rattle.std.specs.Cmp.Lexicographic.{slice_cmp}
 use Rattle.std.specs.Ordering.{is_lt, nat_cmp, ordering_then}
@@ -54,11 +54,8 @@ less_test s σ τ o b e d l = d ∙ ap is_lt (e ∙ compare_less (compare_monomi
 
 -- ---- weights of generators
 
--- generator 0 is read as generator 1
-pub weight_same : (s : Setting) (i n : ℕ) → i - 1 ≡ n - 1 → generator_weight s n ≡ generator_weight s i
-unfolding generator
-weight_same s i n e = ap (λ k. word_weight (leading s.prime (get_or s.generators k []))) (sym e)
-
-pub weight_none : (s : Setting) (i : ℕ) → length s.generators ≤ i - 1 → 0 ≡ generator_weight s i
+pub weight_none : (s : Setting) (i : ℕ) → (i ≡ 0) ⊎ (length s.generators < i) → 0 ≡ generator_weight s i
 unfolding generator leading
-weight_none s i h = sym (ap (λ (f : Polynomial). word_weight (leading s.prime f)) (get_or_past s.generators (i - 1) [] h))
+weight_none s zero h = refl
+weight_none s (suc i) (inl e) = absurd (omega (arith, e))
+weight_none s (suc i) (inr h) = sym (ap (λ (f : Polynomial). word_weight (leading s.prime f)) (get_or_past s.generators i [] (omega (arith, h))))

@@ -34,12 +34,10 @@ fn weight_of(setting: &Setting, i: usize) -> u32
     ensures weight { result ≡ generator_weight setting.now.setting i }
     ensures few { result ≤ 255 }
 {
-    let number = i.max(1);
-    if number <= setting.generators().len() {
-        setting.weight(number as u32)
-    } else {
-        0
+    if i == 0 || i > setting.generators().len() {
+        return 0;
     }
+    setting.weight(i as u32)
 }
 
 /// Compares a b with c, letter by letter.

@@ -1,9 +1,7 @@
-use Rattle.nc_plain.proofs.Orders.{weight_none, weight_same}
-use Rattle.std.proofs.Common.{ap, arith, length, ◌∙◌}
+use Rattle.nc_plain.proofs.Orders.{weight_none}
+use Rattle.std.proofs.Common.{ap, arith, inl, inr, length, ◌∙◌}
+use Rattle.nc_plain.proofs.monomial.weight_of.Goals.{then-i-eq0-via-then-i-eq0, then-i-eq0-via-else-i-eq0+then-i-generators}
 use Rattle.nc_plain.proofs.monomial.weight_of.Goals as goal
 
-pub returns-then-number-generators-clause-weight : goal.returns-then-number-generators-clause-weight
-returns-then-number-generators-clause-weight c = c.weight.ensures.weight ∙ weight_same c.args.setting.now.setting c.args.i c.max-number.result (let m = c.max-number.ensures in grind arith)
-
-pub returns-else-number-generators-clause-weight : goal.returns-else-number-generators-clause-weight
-returns-else-number-generators-clause-weight c = weight_none c.args.setting.now.setting c.args.i (let m = c.max-number.ensures in let f = c.if-number-generators.false in let g = ap length c.generators.ensures.generators in grind arith)
+pub returns-then-i-eq0-clause-weight : goal.returns-then-i-eq0-clause-weight
+returns-then-i-eq0-clause-weight c = elim c.then-i-eq0.branch [ then-i-eq0-via-then-i-eq0 w ↦ weight_none c.args.setting.now.setting c.args.i (inl w.if-i-eq0.true) | then-i-eq0-via-else-i-eq0+then-i-generators w ↦ weight_none c.args.setting.now.setting c.args.i (inr (let g = ap length w.generators.ensures.generators in let t = w.if-i-generators.true in grind arith)) ]
