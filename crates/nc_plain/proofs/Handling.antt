@@ -28,7 +28,7 @@ use Rattle.nc_theory.specs.Reductions.{ReductionAt}
 use Rattle.nc_theory.specs.Runs.{Handles, Outcome, Starts}
 use Rattle.nc_theory.specs.States.{Entry, Start, State, Step}
 use Rattle.nc_theory.specs.Syzygies.{Covered}
-use Rattle.std.proofs.Common.{Contains, List, None, Some, [], ap, ap₂, arith, get_or, inl, inr, length, refl, subst, sym, ℕ, ◌%◌, ◌*◌, ◌+◌, ◌++◌, ◌-◌, ◌<◌, ◌∙◌, ◌∷◌, ◌≡◌, ◌≢◌, ◌≤◌, ◌⊎◌, suc, zero}
+use Rattle.std.proofs.Common.{List, None, Some, [], ap, ap₂, arith, get_or, inl, inr, length, refl, subst, sym, ℕ, ◌%◌, ◌*◌, ◌+◌, ◌++◌, ◌-◌, ◌<◌, ◌∙◌, ◌∷◌, ◌≡◌, ◌≢◌, ◌≤◌, ◌⊎◌, suc, zero}
 use Rattle.std.proofs.Math.Nat.{mod-eq_of_lt, mod_self}
 use Rattle.std.proofs.lemmas.List.{get_or_read}
 use Rattle.std.proofs.lemmas.List.Elements.{recursion_from_All}

@@ -6,7 +6,7 @@ use Rattle.nc_algebra.specs.Elements.{IsLess, Setting, generator, generator_weig
 use Rattle.nc_algebra.specs.Monomials.{IsMonomialLess, Monomial, compare_monomials, degree_of, times}
 use Rattle.nc_algebra.specs.Polynomials.{Polynomial, leading}
 use Rattle.nc_algebra.specs.Words.{Word, compare_letters, compare_words, word_weight}
-use Rattle.std.proofs.Common.{Bool, Equal, Greater, Less, Ordering, [], ap, ap₂, arith, drop, get_or, inl, inr, length, refl, suc, sym, take, true, zero, ℕ, ◌+◌, ◌++◌, ◌-◌, ◌<◌, ◌∙◌, ◌∷◌, ◌≡◌, ◌≤◌, ◌⊎◌}
+use Rattle.std.proofs.Common.{Bool, Equal, Greater, Less, Ordering, [], ap, ap₂, arith, drop, inl, inr, length, refl, suc, sym, take, true, zero, ℕ, ◌+◌, ◌++◌, ◌<◌, ◌∙◌, ◌∷◌, ◌≡◌, ◌≤◌, ◌⊎◌}
 use Rattle.std.proofs.lemmas.List.{get_or_past}
 use Rattle.std.specs.Cmp.Lexicographic.{slice_cmp}
 use Rattle.std.specs.Ordering.{is_lt, nat_cmp, ordering_then}
