@@ -20,7 +20,7 @@ pub use cover::is_covered;
 pub use divisor::{Chosen, first_regular};
 pub use entry::Entry;
 pub use monomial::Monomial;
-pub use outcome::{Outcome, handle, has_source};
+pub use outcome::{Outcome, add_outcome, handle, has_source};
 pub use reduction::{Reduced, reduce};
 pub use state::{State, Syzygy};
 pub use trace::{Origin, Start, Step, Trace};

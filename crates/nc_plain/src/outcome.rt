@@ -9,10 +9,10 @@ ghost use Rattle.nc_plain.specs.Best.{IsBest};
 ghost use Rattle.nc_plain.specs.Outcomes.{outcome_after, outcome_of};
 ghost use Rattle.nc_plain.specs.Usable.{IsUsable, IsUsableSignature};
 ghost use Rattle.nc_theory.specs.Divisors.{Multiple};
-ghost use Rattle.nc_theory.specs.Runs.{Handles};
+ghost use Rattle.nc_theory.specs.Runs.{Handles, state_after};
 ghost use Rattle.nc_theory.specs.Syzygies.{Covered};
 ghost use Rattle.std.specs.Bool.{MatchBool};
-ghost use Rattle.std.specs.Prelude.{All, IfOk, IsTrue, Some, length, ℕ, ◌+◌, ◌≡◌, ◌≢◌, ◌≤◌, ◌↔◌, ◌⊎◌};
+ghost use Rattle.std.specs.Prelude.{All, IfOk, IsTrue, OnOk, Some, length, ◌<◌, ℕ, ◌+◌, ◌≡◌, ◌≢◌, ◌≤◌, ◌↔◌, ◌⊎◌};
 
 use crate::best::{Best, best_multiple};
 use crate::cover::is_covered;
@@ -20,7 +20,7 @@ use crate::divisor::first_regular;
 use crate::entry::Entry;
 use crate::monomial::Monomial;
 use crate::reduction::{Reduced, reduce};
-use crate::state::State;
+use crate::state::{State, Syzygy};
 use crate::trace::{Origin, Start, Trace};
 use nc_field::Prime;
 use nc_module::Setting;
@@ -179,4 +179,26 @@ pub fn has_source(
         return Ok(false);
     };
     Ok(true)
+}
+
+/// Takes the outcome for this signature into the state.
+pub fn add_outcome(
+    state: &mut State,
+    signature: Monomial,
+    outcome: Outcome,
+) -> Result<(), AllocError>
+    requires { state.old.covered + state.old.settled < 18446744073709551615 }
+    ensures { OnOk result (state.new ≡ state_after state.old signature (outcome_of outcome)) }
+{
+    match outcome {
+        Outcome::Covered => state.covered += 1,
+        Outcome::Settled(_) => state.settled += 1,
+        Outcome::NewSyzygy(trace) => state.syzygies.push(Syzygy { signature, trace })?,
+        Outcome::NewEntry(polynomial, trace) => state.entries.push(Entry {
+            signature,
+            polynomial,
+            trace,
+        })?,
+    }
+    Ok(())
 }

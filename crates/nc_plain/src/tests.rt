@@ -5,7 +5,7 @@ ghost use Rattle.nc_algebra.specs.Polynomials.{AreResidues};
 ghost use Rattle.std.specs.Prelude.{All, IfOk, IsTrue, length, ◌≡◌, ◌≤◌};
 
 use crate::{
-    Entry, Monomial, Origin, Outcome, State, Syzygy, Trace, are_usable, handle, has_source,
+    Monomial, Origin, Outcome, State, Trace, add_outcome, are_usable, handle, has_source,
     is_usable_signature,
 };
 use nc_field::{Prime, Residue};
@@ -178,20 +178,6 @@ fn text(alloc: Global, outcome: &Outcome) -> Result<String, Fail> {
     Ok(out)
 }
 
-/// The state with the outcome.
-fn push_outcome(state: &mut State, signature: Monomial, outcome: Outcome) -> Result<(), Fail> {
-    match outcome {
-        Outcome::Covered | Outcome::Settled(_) => {}
-        Outcome::NewSyzygy(trace) => state.syzygies.push(Syzygy { signature, trace })?,
-        Outcome::NewEntry(polynomial, trace) => state.entries.push(Entry {
-            signature,
-            polynomial,
-            trace,
-        })?,
-    }
-    Ok(())
-}
-
 /// Handles the signature, and gives what becomes of it as a text.
 fn step(
     rt: &impl Abort,
@@ -214,7 +200,9 @@ fn step(
     assert!(rt; has_source(alloc, setting, state, &signature)?);
     let outcome = handle(alloc, setting, state, &signature)?;
     let out = text(alloc, &outcome)?;
-    push_outcome(state, signature, outcome)?;
+    assert!(rt; state.covered <= 1000);
+    assert!(rt; state.settled <= 1000);
+    add_outcome(state, signature, outcome)?;
     Ok(out)
 }
 
@@ -228,18 +216,27 @@ fn opening(alloc: Global) -> State {
     }
 }
 
-/// Handles the signatures in turn, each with what must become of it.
+/// Handles the signatures in turn, each with what must become of it, and then compares the numbers of entries and
+/// syzygies, and of signatures that were covered and settled.
 fn run(
     rt: &impl Abort,
     alloc: Global,
     setting: &Setting,
     steps: &[(&str, usize, &str, &str)],
+    counts: (usize, usize, usize, usize),
 ) -> Result<(), Fail> {
     let mut state = opening(alloc);
     for (left, generator, right, want) in steps {
         let out = step(rt, alloc, setting, &mut state, left, *generator, right)?;
         assert_eq!(rt; out.as_str(), *want);
     }
+    let found = (
+        state.entries().len(),
+        state.syzygies().len(),
+        state.covered,
+        state.settled,
+    );
+    assert_eq!(rt; found, counts);
     Ok(())
 }
 
@@ -268,6 +265,7 @@ fn a_square_and_a_letter(rt: HostRuntime) -> Result<(), Fail> {
                 "syzygy by xy{2}1 - 100*1{4}1 - 100*x{2}y - 100*1{1}yy",
             ),
         ],
+        (4, 1, 3, 0),
     )
 }
 
@@ -285,6 +283,7 @@ fn a_unit_and_a_constant(rt: HostRuntime) -> Result<(), Fail> {
             ("", 1, "", "+1xx+1001 by [1]"),
             ("x", 1, "", "syzygy by x{1}1 - 1*1{1}x"),
         ],
+        (1, 1, 0, 0),
     )?;
     let one = setting(&rt, alloc, p, vec![in alloc; poly(alloc, p, &[(1, "")])?]?)?;
     run(
@@ -296,6 +295,7 @@ fn a_unit_and_a_constant(rt: HostRuntime) -> Result<(), Fail> {
             ("x", 1, "", "covered"),
             ("", 1, "x", "settled 1"),
         ],
+        (1, 0, 1, 1),
     )
 }
 
@@ -314,6 +314,7 @@ fn one_generator_twice(rt: HostRuntime) -> Result<(), Fail> {
             ("", 1, "", "+1xy+1x by [1]"),
             ("", 2, "", "syzygy by [2] - 1*1{1}1"),
         ],
+        (1, 1, 0, 0),
     )
 }
 
@@ -337,5 +338,6 @@ fn three_generators(rt: HostRuntime) -> Result<(), Fail> {
             ("", 2, "b", "syzygy by 1{3}b - 1*y{2}1"),
             ("yx", 3, "", "settled 4"),
         ],
+        (4, 1, 0, 1),
     )
 }
