@@ -13,6 +13,7 @@ mod state;
 #[cfg(test)]
 mod tests;
 mod trace;
+#[cfg(test)]
 mod usable;
 
 pub use best::{Best, best_multiple};
@@ -24,4 +25,3 @@ pub use outcome::{Outcome, add_outcome, handle, has_source};
 pub use reduction::{Reduced, reduce};
 pub use state::{State, Syzygy};
 pub use trace::{Origin, Start, Step, Trace};
-pub use usable::{are_usable, is_usable, is_usable_signature};

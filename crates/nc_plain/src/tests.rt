@@ -4,10 +4,8 @@ ghost use Rattle.nc_algebra.specs.Certificates.{AreTextWords, IsTextGenerator, I
 ghost use Rattle.nc_algebra.specs.Polynomials.{AreResidues};
 ghost use Rattle.std.specs.Prelude.{All, IfOk, IsTrue, length, ◌≡◌, ◌≤◌};
 
-use crate::{
-    Monomial, Origin, Outcome, State, Trace, add_outcome, are_usable, handle, has_source,
-    is_usable_signature,
-};
+use crate::usable::{are_usable, is_usable_signature};
+use crate::{Monomial, Origin, Outcome, State, Trace, add_outcome, handle, has_source};
 use nc_field::{Prime, Residue};
 use nc_module::{Name, Setting};
 use nc_poly::{Poly, Term};
