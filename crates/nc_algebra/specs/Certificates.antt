@@ -1,114 +1,171 @@
--- Certificates of ideal membership, and the settings with names that they are written over.
-use Rattle.nc_algebra.specs.Elements.{Element, IsGenerator, SamePolynomial, Setting, evaluation, generator_weight}
-use Rattle.nc_algebra.specs.Finite.{IsDistinct}
-use Rattle.nc_algebra.specs.Monomials.{Monomial, Sig, sig_of}
-use Rattle.nc_algebra.specs.Polynomials.{IsNormal, Polynomial, normal_form}
-use Rattle.nc_algebra.specs.Primes.{is_listed_prime}
-use Rattle.nc_algebra.specs.Sums.{Term, map_keys, minus}
-use Rattle.nc_algebra.specs.Words.{Letter, Word}
-use Rattle.std.specs.Char.{is_ascii_alphabetic, is_ascii_alphanumeric}
-use Rattle.std.specs.List.{list_all}
-use Rattle.std.specs.Prelude.{All, Bool, IsTrue, List, [], length, nat_le, slice_index, ℕ, ◌&&◌, ◌<◌, ◌==◌, ◌||◌, ◌≡◌, ◌≢◌, ◌≤◌}
+-- Certificates of ideal membership: lines, each a sum of multiples of generators and of earlier lines.
+use Rattle.nc_algebra.specs.Alphabets.{IsPolynomialIn, IsTextPolynomial, IsTextWord, IsWordIn}
+use Rattle.nc_algebra.specs.Elements.{Element, IsGenerator, SamePolynomial, Setting, element_times, generator}
+use Rattle.nc_algebra.specs.Monomials.{Monomial, unit_monomial}
+use Rattle.nc_algebra.specs.Polynomials.{Polynomial, normal_form, polynomial_times}
+use Rattle.nc_algebra.specs.Settings.{IsSetting, NamedSetting}
+use Rattle.nc_algebra.specs.Sums.{Term, minus, scale}
+use Rattle.nc_algebra.specs.Words.{Word}
+use Rattle.std.specs.Prelude.{All, List, [], get_or, length, map, max, suc, zero, ℕ, ◌++◌, ◌+◌, ◌<◌, ◌∷◌, ◌≤◌}
 
--- ---- names
+-- ---- lines
 
--- a letter, a digit or an underscore
-abbrev pub is_name_byte : ℕ → Bool
-is_name_byte b = is_ascii_alphanumeric b || (b == 95)
+-- what is multiplied: a generator, or the value of a line; both are counted from 1
+pub data Factor : Type 0 where
+  a_generator : ℕ → Factor
+  a_line : ℕ → Factor
 
--- an ASCII letter, and then letters, digits and underscores, at most 16 in all
-abbrev pub is_name : List ℕ → Bool
-is_name bytes = nat_le (length bytes) 16 && (is_ascii_alphabetic (slice_index bytes 0) && list_all is_name_byte bytes)
+-- c a f b
+pub record Part : Type 0 where
+  pub coefficient : ℕ
+  pub left : Word
+  pub of : Factor
+  pub right : Word
 
--- ---- settings with names
+-- the sum of its parts
+abbrev pub Line : Type 0
+Line = List Part
 
--- a setting, and the names of its letters: that of letter i stands at place i
-pub record NamedSetting : Type 0 where
-  pub names : List (List ℕ)
-  pub setting : Setting
+-- ---- values
 
--- the letter with this number; each letter weighs 1
-abbrev pub letter_at : ℕ → Letter
-letter_at i = record { index = i; extra = 0 }
+-- item k of a list that is counted from 1
+abbrev pub item : {X : Type 0} → X → List X → ℕ → X
+item none xs zero = none
+item none xs (suc k) = get_or xs k none
 
--- one of the first n letters
-abbrev pub IsLetterBelow : ℕ → Letter → Type 0
-IsLetterBelow n x = (x.index < n) × (x.extra ≡ 0)
+-- the polynomial of a factor, over the values of the lines before it
+abbrev pub factor_value : Setting → List Polynomial → Factor → Polynomial
+factor_value s values (Factor.a_generator i) = generator s i
+factor_value s values (Factor.a_line k) = item [] values k
 
--- a word over the first n letters
-abbrev pub IsWordBelow : ℕ → Word → Type 0
-IsWordBelow n w = All (IsLetterBelow n) w
+-- the value of a part
+abbrev pub part_value : Setting → List Polynomial → Part → Polynomial
+part_value s values part = scale part.coefficient (polynomial_times part.left (factor_value s values part.of) part.right)
 
--- a word that may stand in a text: of at most 255 letters
-pub record IsTextWord (n : ℕ) (w : Word) : Type 0 where
-  pub letters : IsWordBelow n w
-  pub short : length w ≤ 255
+-- the value of a line: the sum of the values of its parts
+unfoldable pub line_value : Setting → List Polynomial → Line → Polynomial
+line_value s values [] = []
+line_value s values (part ∷ line) = part_value s values part ++ line_value s values line
 
--- each word of the polynomial may stand in a text
-abbrev pub AreTextWords : ℕ → Polynomial → Type 0
-AreTextWords n f = All (λ t. IsTextWord n t.key) f
+-- the values so far, and then those of the lines, each over all before it
+unfoldable pub values_after : Setting → List Polynomial → List Line → List Polynomial
+values_after s values [] = values
+values_after s values (line ∷ lines) = values_after s (values ++ line_value s values line ∷ []) lines
 
--- a polynomial in normal form whose words may stand in a text
-pub record IsTextPolynomial (n p : ℕ) (f : Polynomial) : Type 0 where
-  pub normal : IsNormal p f
-  pub words : AreTextWords n f
+-- the values of lines
+abbrev pub values_of : Setting → List Line → List Polynomial
+values_of s = values_after s []
 
--- a generator: not zero
-pub record IsTextGenerator (n p : ℕ) (f : Polynomial) : Type 0 where
-  pub polynomial : IsTextPolynomial n p f
-  pub nonzero : f ≢ []
-
--- 1 to 64 different names, and at most 1,000 generators over them
-pub record IsSetting (s : NamedSetting) : Type 0 where
-  pub prime : IsTrue (is_listed_prime s.setting.prime)
-  pub some : 0 < length s.names
-  pub few : length s.names ≤ 64
-  pub named : All (λ name. IsTrue (is_name name)) s.names
-  pub apart : IsDistinct s.names
-  pub generators : length s.setting.generators ≤ 1000
-  pub each : All (IsTextGenerator (length s.names) s.setting.prime) s.setting.generators
+-- the value of the last line, and zero where there is none
+abbrev pub lines_value : Setting → List Line → Polynomial
+lines_value s lines = item [] (values_of s lines) (length lines)
 
 -- ---- certificates
 
--- a setting with names, a claim, and terms that are to multiply out to it
+-- a setting, a claim, and the lines of which the last one is to have the claim's value
 pub record Certificate : Type 0 where
   pub setting : NamedSetting
   pub claim : Polynomial
-  pub terms : Element
+  pub lines : List Line
 
--- the monomial of a Sig
-abbrev pub monomial_of : Sig → Monomial
-monomial_of σ = record { left = σ.left; generator = σ.generator; right = σ.right }
+-- the last line's value is the claim; where there is no line the claim is zero
+abbrev pub IsValid : Setting → Polynomial → List Line → Type 0
+IsValid s claim lines = SamePolynomial s (lines_value s lines) claim
 
--- a term without the degree that stands beside its monomial
-abbrev pub term_of : Term Sig → Term Monomial
-term_of t = record { coefficient = t.coefficient; key = monomial_of t.key }
+-- the rest: the claim minus the value of the last line
+abbrev pub rest_of : Setting → Polynomial → List Line → Polynomial
+rest_of s claim lines = normal_form s.prime (minus s.prime claim 1 (lines_value s lines))
 
--- the element of terms with degrees
-abbrev pub element_of : List (Term Sig) → Element
-element_of = map_keys monomial_of
+-- ---- reach: how many letters a word of a value can have
 
--- a term of a certificate: a residue, a generator of the setting, and words that may stand in a text
-pub record IsTextTerm (s : NamedSetting) (t : Term Monomial) : Type 0 where
-  pub residue : t.coefficient < s.setting.prime
-  pub generator : IsGenerator s.setting t.key.generator
-  pub left : IsTextWord (length s.names) t.key.left
-  pub right : IsTextWord (length s.names) t.key.right
+-- the most letters of a word of f
+abbrev pub longest : Polynomial → ℕ
+longest [] = 0
+longest (t ∷ f) = max (length t.key) (longest f)
 
--- a certificate that has a printed form
+-- the reach of a factor, over the reaches of the lines before it
+abbrev pub factor_reach : Setting → List ℕ → Factor → ℕ
+factor_reach s reaches (Factor.a_generator i) = longest (generator s i)
+factor_reach s reaches (Factor.a_line k) = item 0 reaches k
+
+-- the reach of a part
+abbrev pub part_reach : Setting → List ℕ → Part → ℕ
+part_reach s reaches part = length part.left + factor_reach s reaches part.of + length part.right
+
+-- the reach of a line: the greatest of its parts
+unfoldable pub line_reach : Setting → List ℕ → Line → ℕ
+line_reach s reaches [] = 0
+line_reach s reaches (part ∷ line) = max (part_reach s reaches part) (line_reach s reaches line)
+
+-- ---- the rule of certificates
+
+-- a generator of the setting, or one of so many lines
+abbrev pub IsFactor : Setting → ℕ → Factor → Type 0
+IsFactor s lines (Factor.a_generator i) = IsGenerator s i
+IsFactor s lines (Factor.a_line k) = (1 ≤ k) × (k ≤ lines)
+
+-- a part of a line behind those with these reaches
+pub record IsPart (s : NamedSetting) (reaches : List ℕ) (part : Part) : Type 0 where
+  pub residue : part.coefficient < s.setting.prime
+  pub factor : IsFactor s.setting (length reaches) part.of
+  pub left : IsWordIn s.alphabet part.left
+  pub right : IsWordIn s.alphabet part.right
+  pub short : part_reach s.setting reaches part ≤ 100000
+
+-- lines behind those with these reaches
+abbrev pub AreLines : NamedSetting → List ℕ → List Line → Type 0
+AreLines s reaches [] = Unit {0}
+AreLines s reaches (line ∷ lines) = All (IsPart s reaches) line × AreLines s (reaches ++ line_reach s.setting reaches line ∷ []) lines
+
+-- a certificate: its lines name generators of the setting and earlier lines, and no word of a value is longer than 100,000
 pub record IsCertificate (c : Certificate) : Type 0 where
   pub setting : IsSetting c.setting
-  pub claim : IsTextPolynomial (length c.setting.names) c.setting.setting.prime c.claim
-  pub terms : All (IsTextTerm c.setting) c.terms
+  pub claim : IsPolynomialIn c.setting.alphabet c.setting.setting.prime c.claim
+  pub lines : AreLines c.setting [] c.lines
 
--- the degree that stands beside a monomial is its degree in the setting
-abbrev pub HasDegree : Setting → Sig → Type 0
-HasDegree s σ = σ ≡ sig_of (generator_weight s) (monomial_of σ)
+-- ---- certificates of a text
 
--- the terms multiply out to the claim: it is the sum of c a f_i b over them
-abbrev pub IsValid : Setting → Polynomial → Element → Type 0
-IsValid s claim terms = SamePolynomial s (evaluation s terms) claim
+-- the words of a part may stand in a text
+pub record HasTextWords (s : NamedSetting) (part : Part) : Type 0 where
+  pub left : IsTextWord s.alphabet part.left
+  pub right : IsTextWord s.alphabet part.right
 
--- the rest: the claim minus what the terms multiply out to
-abbrev pub rest_of : Setting → Polynomial → Element → Polynomial
-rest_of s claim terms = normal_form s.prime (minus s.prime claim 1 (evaluation s terms))
+-- a certificate that has a printed form: its words have at most 255 letters
+pub record IsTextCertificate (c : Certificate) : Type 0 where
+  pub certificate : IsCertificate c
+  pub claim : IsTextPolynomial c.setting.alphabet c.setting.setting.prime c.claim
+  pub words : All (λ line. All (HasTextWords c.setting) line) c.lines
+
+-- ---- lines and module elements
+
+-- the element of a factor, over those of the lines before it
+abbrev pub factor_element : List Element → Factor → Element
+factor_element elements (Factor.a_generator i) = record { coefficient = 1; key = unit_monomial i } ∷ []
+factor_element elements (Factor.a_line k) = item [] elements k
+
+-- the element of a part
+abbrev pub part_element : List Element → Part → Element
+part_element elements part = scale part.coefficient (element_times part.left (factor_element elements part.of) part.right)
+
+-- the element of a line
+unfoldable pub line_element : List Element → Line → Element
+line_element elements [] = []
+line_element elements (part ∷ line) = part_element elements part ++ line_element elements line
+
+-- the elements so far, and then those of the lines
+unfoldable pub elements_after : List Element → List Line → List Element
+elements_after elements [] = elements
+elements_after elements (line ∷ lines) = elements_after (elements ++ line_element elements line ∷ []) lines
+
+-- the cofactors that the last line stands for: the lines before it written out in generators
+abbrev pub lines_element : List Line → Element
+lines_element lines = item [] (elements_after [] lines) (length lines)
+
+-- a term as a part
+abbrev pub term_part : Term Monomial → Part
+term_part t = record { coefficient = t.coefficient; left = t.key.left; of = Factor.a_generator t.key.generator; right = t.key.right }
+
+-- the terms of an element as the parts of one line, and no line where there is no term
+abbrev pub element_lines : Element → List Line
+element_lines [] = []
+element_lines (t ∷ α) = map term_part (t ∷ α) ∷ []

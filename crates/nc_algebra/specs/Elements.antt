@@ -1,5 +1,5 @@
 -- Module elements: sums of module monomials over the generators of a setting, and what they evaluate to.
-use Rattle.nc_algebra.specs.Monomials.{IsMonomialLess, degree_of, Monomial, same_monomial, times}
+use Rattle.nc_algebra.specs.Monomials.{IsMonomialLess, Monomial, Sig, degree_of, monomial_of, same_monomial, sig_of, times}
 use Rattle.nc_algebra.specs.Polynomials.{Polynomial, coefficient, leading, polynomial_times}
 use Rattle.nc_algebra.specs.Primes.{IsZero}
 use Rattle.nc_algebra.specs.Sums.{Leads, SameSum, Term, coefficient_by, map_keys, substitute}
@@ -35,6 +35,10 @@ generator_weight s i = word_weight (leading s.prime (generator s i))
 -- the degree of a module monomial
 abbrev pub degree : Setting → Monomial → ℕ
 degree s = degree_of (generator_weight s)
+
+-- the degree that stands beside a monomial is its degree in the setting
+abbrev pub HasDegree : Setting → Sig → Type 0
+HasDegree s σ = σ ≡ sig_of (generator_weight s) (monomial_of σ)
 
 -- the order of the setting on module monomials
 abbrev pub IsLess : Setting → Monomial → Monomial → Type 0

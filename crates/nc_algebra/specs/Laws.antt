@@ -1,7 +1,8 @@
 -- The laws that the functions of this crate carry.
-use Rattle.nc_algebra.specs.Certificates.{IsValid, rest_of}
-use Rattle.nc_algebra.specs.Elements.{degree, Element, IsLabelled, IsLess, Setting, WeighsAtMost, generator_weight}
-use Rattle.nc_algebra.specs.Finite.{IsDistinct, IsOver, monomials_within}
+use Rattle.nc_algebra.specs.Certificates.{Certificate, IsCertificate, IsValid, Line, element_lines, lines_element, lines_value, rest_of}
+use Rattle.nc_algebra.specs.Elements.{degree, Element, IsGenerator, IsIn, IsLabelled, IsLess, Setting, WeighsAtMost, evaluation, generator_weight}
+use Rattle.nc_algebra.specs.Finite.{IsOver, monomials_within}
+use Rattle.nc_algebra.specs.Lists.{IsDistinct}
 use Rattle.nc_algebra.specs.Problems.{Bound, IsWithinBound}
 use Rattle.nc_algebra.specs.Monomials.{Monomial, above_degree, compare_monomials, compare_sigs, sig_of, sig_times, times}
 use Rattle.nc_algebra.specs.Orders.{Compares}
@@ -63,4 +64,13 @@ pub record NormalForms (p : ℕ) : Type 0 where
 
 -- a certificate is valid exactly where nothing is left of its claim
 abbrev pub Validity : Type 0
-Validity = (s : Setting) (claim : Polynomial) (terms : Element) → 0 < s.prime → IsValid s claim terms ↔ (rest_of s claim terms ≡ [])
+Validity = (s : Setting) (claim : Polynomial) (lines : List Line) → 0 < s.prime → IsValid s claim lines ↔ (rest_of s claim lines ≡ [])
+
+-- what a certificate's lines stand for is an element over the generators, and their value is what it evaluates to: so a valid certificate has cofactors of its claim
+abbrev pub Cofactors : Type 0
+Cofactors = (c : Certificate) → IsCertificate c → IsIn c.setting.setting (lines_element c.lines) (λ σ. IsGenerator c.setting.setting σ.generator)
+    × (evaluation c.setting.setting (lines_element c.lines) ≡ lines_value c.setting.setting c.lines)
+
+-- the one line of an element's terms has the value that the element evaluates to
+abbrev pub ElementLines : Type 0
+ElementLines = (s : Setting) (α : Element) → lines_value s (element_lines α) ≡ evaluation s α

@@ -1,4 +1,5 @@
 pub mod Orders
+pub mod Lists
 pub mod Words
 pub mod Primes
 pub mod Sums
@@ -7,5 +8,7 @@ pub mod Polynomials
 pub mod Elements
 pub mod Problems
 pub mod Finite
+pub mod Alphabets
+pub mod Settings
 pub mod Certificates
 pub mod Laws

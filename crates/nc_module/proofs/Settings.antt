@@ -1,8 +1,9 @@
 -- What holds of the generators of a setting.
-use Rattle.nc_algebra.proofs.Certificates.{text_word_light}
+use Rattle.nc_algebra.proofs.Alphabets.{text_word_light}
 use Rattle.nc_algebra.proofs.Elements.{generator_at}
 use Rattle.nc_algebra.proofs.Leading.{leading-normal}
-use Rattle.nc_algebra.specs.Certificates.{IsSetting, IsTextGenerator, IsTextWord, NamedSetting}
+use Rattle.nc_algebra.specs.Alphabets.{IsTextGenerator, IsTextWord}
+use Rattle.nc_algebra.specs.Settings.{IsSetting, NamedSetting}
 use Rattle.nc_algebra.specs.Elements.{IsGenerator, generator, generator_weight}
 use Rattle.nc_algebra.specs.Polynomials.{IsNormal, Polynomial, leading}
 use Rattle.nc_algebra.specs.Sums.{Term}
@@ -16,15 +17,15 @@ use Rattle.std.specs.List.{All}
 pub generator_read : (s : NamedSetting) (i : ℕ) (f : Polynomial) → IsGenerator s.setting i → f ≡ get_or s.setting.generators (i - 1) f → f ≡ generator s.setting i
 generator_read s i f h e = get_or_read s.setting.generators (i - 1) f (omega (arith, h.0, h.1)) e [] ∙ sym (generator_at s.setting i h)
 
-pub generator_is_text : (s : NamedSetting) (i : ℕ) → IsSetting s → IsGenerator s.setting i → IsTextGenerator (length s.names) s.setting.prime (generator s.setting i)
-generator_is_text s i h g = subst (IsTextGenerator (length s.names) s.setting.prime) (sym (generator_at s.setting i g)) (h.each (i - 1) [] (omega (arith, g.0, g.1)))
+pub generator_is_text : (s : NamedSetting) (i : ℕ) → IsSetting s → IsGenerator s.setting i → IsTextGenerator s.alphabet s.setting.prime (generator s.setting i)
+generator_is_text s i h g = subst (IsTextGenerator s.alphabet s.setting.prime) (sym (generator_at s.setting i g)) (h.each (i - 1) [] (omega (arith, g.0, g.1)))
 
 -- its weight is that of its first word
-pub weight_first : (s : NamedSetting) (i : ℕ) (t : Term Word) (f : Polynomial) → IsTextGenerator (length s.names) s.setting.prime (generator s.setting i) → generator s.setting i ≡ t ∷ f → generator_weight s.setting i ≡ word_weight t.key
+pub weight_first : (s : NamedSetting) (i : ℕ) (t : Term Word) (f : Polynomial) → IsTextGenerator s.alphabet s.setting.prime (generator s.setting i) → generator s.setting i ≡ t ∷ f → generator_weight s.setting i ≡ word_weight t.key
 weight_first s i t f h e = ap word_weight (ap (leading s.setting.prime) e ∙ leading-normal s.setting.prime t f (subst (IsNormal s.setting.prime) e h.polynomial.normal))
 
-pub first_is_short : (s : NamedSetting) (i : ℕ) (t : Term Word) (f : Polynomial) → IsTextGenerator (length s.names) s.setting.prime (generator s.setting i) → generator s.setting i ≡ t ∷ f → word_weight t.key ≤ 255
-first_is_short s i t f h e =
-    let words = recursion_from_All (λ u. IsTextWord (length s.names) u.key) (t ∷ f) (subst (λ (g : Polynomial). All (λ u. IsTextWord (length s.names) u.key) g) e h.polynomial.words) in
-    let first : IsTextWord (length s.names) t.key = words.0 in
-    text_word_light (length s.names) t.key first
+pub first_is_short : (s : NamedSetting) (i : ℕ) (t : Term Word) (f : Polynomial) → IsSetting s → IsTextGenerator s.alphabet s.setting.prime (generator s.setting i) → generator s.setting i ≡ t ∷ f → word_weight t.key ≤ 25500
+first_is_short s i t f is h e =
+    let words = recursion_from_All (λ u. IsTextWord s.alphabet u.key) (t ∷ f) (subst (λ (g : Polynomial). All (λ u. IsTextWord s.alphabet u.key) g) e h.polynomial.words) in
+    let first : IsTextWord s.alphabet t.key = words.0 in
+    text_word_light s.alphabet is.alphabet t.key first

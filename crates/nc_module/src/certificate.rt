@@ -1,27 +1,26 @@
 //! Certificates.
 
+use crate::line::Lines;
 use crate::setting::Setting;
-use crate::term::ModuleTerms;
 use nc_poly::Poly;
 use std::marker::Model;
 
-/// A setting, a claim, and terms that are to multiply out to it: the sum of `c a f b` over the terms, where f is the
-/// generator of the term's monomial and a and b are its words. The degree beside each monomial is its degree in the
-/// setting.
+/// A setting, a claim, and lines of which the last one is to have the claim's value; where there is no line the claim is
+/// to be zero. Each line names generators of the setting and lines before it, and no word that its value can have is
+/// longer than 100,000 letters.
 #[derive(Drop)]
 pub struct Certificate {
     pub setting: Setting,
     pub claim: Poly,
-    pub terms: ModuleTerms,
+    pub lines: Lines,
 }
 
 impl Model for Certificate {
-    ghost use Rattle.nc_algebra.specs.Certificates.{Certificate, HasDegree, IsCertificate, element_of};
-    ghost use Rattle.std.specs.Prelude.{All};
+    ghost use Rattle.nc_algebra.specs.Certificates.{Certificate, IsCertificate};
 
     ghost Value = { Certificate };
 
-    ghost view = { λ c. record { setting = c.setting; claim = c.claim; terms = element_of c.terms } };
+    ghost view = { λ c. record { setting = c.setting; claim = c.claim; lines = c.lines } };
 
-    ghost invariant = { λ c. IsCertificate (record { setting = c.setting; claim = c.claim; terms = element_of c.terms }) × All (λ t. HasDegree c.setting.setting t.key) c.terms };
+    ghost invariant = { λ c. IsCertificate (record { setting = c.setting; claim = c.claim; lines = c.lines }) };
 }

@@ -1,14 +1,18 @@
-//! Settings of generators with names, module terms over them, and certificates of ideal membership.
+//! Settings of generators over an alphabet, and certificates of ideal membership.
 #![tactic(auto)]
 
+mod alphabet;
 mod certificate;
+mod line;
 mod name;
+mod problem;
 mod setting;
-mod term;
 #[cfg(test)]
 mod tests;
 
+pub use alphabet::Alphabet;
 pub use certificate::Certificate;
+pub use line::{Line, Lines, MAX_LINES, Of, Part};
 pub use name::{Name, is_name_byte};
+pub use problem::{Bound, Problem};
 pub use setting::Setting;
-pub use term::{ModuleTerm, ModuleTerms};

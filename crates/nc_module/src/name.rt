@@ -1,6 +1,6 @@
 //! Names of letters.
 
-ghost use Rattle.nc_algebra.specs.Certificates.{is_name, is_name_byte};
+ghost use Rattle.nc_algebra.specs.Alphabets.{is_name, is_name_byte};
 ghost use Rattle.std.specs.List.{list_all};
 ghost use Rattle.std.specs.Prelude.{IsTrue, None, Some, if◌then◌else◌, ◌≡◌};
 
@@ -14,7 +14,7 @@ pub struct Name {
 }
 
 impl Model for Name {
-    ghost use Rattle.nc_algebra.specs.Certificates.{is_name};
+    ghost use Rattle.nc_algebra.specs.Alphabets.{is_name};
     ghost use Rattle.std.specs.Prelude.{IsTrue, List, take, ℕ, ◌≤◌};
 
     ghost Value = { List ℕ };
@@ -38,7 +38,7 @@ fn all_name_bytes(bytes: &[u8]) -> bool
 }
 
 /// Whether bytes are a name.
-fn is_name(bytes: &[u8]) -> bool
+pub fn is_name(bytes: &[u8]) -> bool
     ensures { result ≡ is_name bytes.now }
 {
     let Some(first) = bytes.first() else {

@@ -1,44 +1,54 @@
 //! Settings.
 
-ghost use Rattle.nc_algebra.specs.Certificates.{IsSetting, IsTextGenerator, NamedSetting};
+ghost use Rattle.nc_algebra.specs.Alphabets.{IsTextGenerator};
 ghost use Rattle.nc_algebra.specs.Elements.{IsGenerator, generator, generator_weight};
-ghost use Rattle.std.specs.Prelude.{length, ◌≡◌, ◌≤◌};
+ghost use Rattle.nc_algebra.specs.Settings.{IsSetting, NamedSetting};
+ghost use Rattle.std.specs.Prelude.{IsTrue, ◌↔◌, ◌≡◌, ◌≤◌};
 
+use crate::alphabet::Alphabet;
 use crate::name::Name;
 use nc_field::Prime;
 use nc_poly::Poly;
 use std::marker::Model;
 
-/// A prime, the names of the letters, and the generators.
+/// A prime, an alphabet, and the generators.
 #[derive(Drop)]
 pub struct Setting {
     prime: Prime,
-    names: Vec<Name>,
+    alphabet: Alphabet,
     generators: Vec<Poly>,
 }
 
 impl Model for Setting {
-    ghost use Rattle.nc_algebra.specs.Certificates.{IsSetting, NamedSetting};
+    ghost use Rattle.nc_algebra.specs.Settings.{IsSetting, NamedSetting};
 
     ghost Value = { NamedSetting };
 
-    ghost view = { λ s. record { names = s.names.items; setting = record { prime = s.prime; generators = s.generators.items } } };
+    ghost view = { λ s. record { alphabet = s.alphabet; setting = record { prime = s.prime; generators = s.generators.items } } };
 
-    ghost invariant = { λ s. IsSetting (record { names = s.names.items; setting = record { prime = s.prime; generators = s.generators.items } }) };
+    ghost invariant = { λ s. IsSetting (record { alphabet = s.alphabet; setting = record { prime = s.prime; generators = s.generators.items } }) };
 }
 
 impl Setting {
-    /// The setting with this prime, these names, of which there are 1 to 64, all different, and these generators, at most
-    /// 1,000, none of them zero, whose words have at most 255 letters, all of them named.
-    pub fn of(prime: Prime, names: Vec<Name>, generators: Vec<Poly>) -> Setting
-        requires { IsSetting (record { names = names.items; setting = record { prime = prime; generators = generators.items } }) }
-        ensures { result ≡ record { names = names.items; setting = record { prime = prime; generators = generators.items } } }
+    /// The setting with this prime, this alphabet, and these generators, at most 1,000, none of them zero, whose words
+    /// are over the alphabet and have at most 255 letters.
+    pub fn of(prime: Prime, alphabet: Alphabet, generators: Vec<Poly>) -> Setting
+        requires { IsSetting (record { alphabet = alphabet; setting = record { prime = prime; generators = generators.items } }) }
+        ensures { result ≡ record { alphabet = alphabet; setting = record { prime = prime; generators = generators.items } } }
     {
         Setting {
             prime,
-            names,
+            alphabet,
             generators,
         }
+    }
+
+    /// Whether `of` takes these.
+    pub fn takes(prime: Prime, alphabet: &Alphabet, generators: &[Poly]) -> bool
+        ensures { IsTrue result ↔ IsSetting (record { alphabet = alphabet.now; setting = record { prime = prime; generators = generators.now } }) }
+    {
+        let _names = alphabet.names();
+        generators.len() <= 1000 && generators.iter().all(|f| alphabet.is_generator(prime, f))
     }
 
     /// The prime.
@@ -49,12 +59,27 @@ impl Setting {
         self.prime
     }
 
-    /// The names of the letters, that of letter 0 first.
-    pub fn names(&self) -> &[Name]
-        ensures names { result.now ≡ self.now.names }
+    /// The alphabet.
+    pub fn alphabet(&self) -> &Alphabet
+        ensures alphabet { result.now ≡ self.now.alphabet }
         ensures setting { IsSetting self.now }
     {
-        self.names.as_slice()
+        &self.alphabet
+    }
+
+    /// The names of the letters, that of letter 0 first.
+    pub fn names(&self) -> &[Name]
+        ensures names { result.now ≡ self.now.alphabet.names }
+        ensures setting { IsSetting self.now }
+    {
+        self.alphabet.names()
+    }
+
+    /// The weights of the letters, that of letter 0 first.
+    pub fn weights(&self) -> &[u8]
+        ensures { result.now ≡ self.now.alphabet.weights }
+    {
+        self.alphabet.weights()
     }
 
     /// The generators, the one with number 1 first.
@@ -69,7 +94,8 @@ impl Setting {
     pub fn generator(&self, i: u32) -> &Poly
         requires { IsGenerator self.now.setting i }
         ensures generator { result.now ≡ generator self.now.setting i }
-        ensures text { IsTextGenerator (length self.now.names) self.now.setting.prime result.now }
+        ensures text { IsTextGenerator self.now.alphabet self.now.setting.prime result.now }
+        ensures setting { IsSetting self.now }
     {
         &self.generators[i as usize - 1]
     }
@@ -78,7 +104,7 @@ impl Setting {
     pub fn weight(&self, i: u32) -> u32
         requires { IsGenerator self.now.setting i }
         ensures weight { result ≡ generator_weight self.now.setting i }
-        ensures few { result ≤ 255 }
+        ensures few { result ≤ 25500 }
     {
         match self.generator(i).lead() {
             Some(term) => term.word.weight(),

@@ -1,16 +1,12 @@
-//! Names, and a certificate over two generators.
+//! Names, alphabets, settings and lines.
 
-ghost use Rattle.nc_algebra.specs.Certificates.{AreTextWords, IsTextGenerator, IsTextWord};
-ghost use Rattle.nc_algebra.specs.Polynomials.{AreResidues};
-ghost use Rattle.std.specs.Prelude.{IfOk, IsTrue, length, ◌≡◌, ◌≤◌};
+ghost use Rattle.std.specs.Prelude.{IfOk, length, ◌≡◌, ◌≤◌};
 
-use crate::{Certificate, ModuleTerm, ModuleTerms, Name, Setting};
+use crate::{Alphabet, Certificate, Line, Lines, Name, Of, Part, Setting};
 use nc_field::Prime;
 use nc_poly::{Poly, Term};
-use nc_sig::Sig;
 use nc_words::{Letter, Word};
 use std::alloc::Global;
-use std::process::Abort;
 use std::test::Fail;
 
 #[test]
@@ -43,6 +39,15 @@ fn name(bytes: &[u8]) -> Result<Name, Fail>
     Ok(Name::of(bytes).ok_or("no name")?)
 }
 
+/// The alphabet of x and y_1, with these weights.
+fn alphabet(alloc: Global, weights: Vec<u8>) -> Result<Alphabet, Fail> {
+    let names = vec![in alloc; name(b"x")?, name(b"y_1")?]?;
+    if !Alphabet::takes(&names, &weights) {
+        return Err("no alphabet".into());
+    }
+    Ok(Alphabet::of(names, weights))
+}
+
 /// A polynomial of one term with coefficient 1.
 fn monomial(alloc: Global, p: Prime, letters: &[Letter]) -> Result<Poly, Fail>
     requires few { length letters.now ≤ 24 }
@@ -53,79 +58,88 @@ fn monomial(alloc: Global, p: Prime, letters: &[Letter]) -> Result<Poly, Fail>
     Ok(Poly::of_terms(p, terms))
 }
 
-/// Whether the letters are a word of the first two letters that may stand in a text.
-fn is_text_word(letters: &[Letter]) -> bool
-    ensures { IsTrue result → IsTextWord 2 letters.now }
-{
-    letters.len() <= 255 && letters.iter().all(|l| l.index() < 2 && l.weight() == 1)
-}
+#[test]
+fn alphabets(rt: HostRuntime) -> Result<(), Fail> {
+    let alloc = rt.alloc();
+    for (weights, want) in [
+        (&[1, 100], true),
+        (&[0, 1], false),
+        (&[1, 101], false),
+    ] {
+        let names = vec![in alloc; name(b"x")?, name(b"y_1")?]?;
+        assert_eq!(rt; Alphabet::takes(&names, weights.as_slice()), want);
+    }
+    let twice = vec![in alloc; name(b"x")?, name(b"x")?]?;
+    assert!(rt; !Alphabet::takes(&twice, &[1, 1]));
+    assert!(rt; !Alphabet::takes(&twice[..1], &[1, 1]));
+    assert!(rt; !Alphabet::takes(&[], &[]));
 
-/// Whether the words are such.
-fn are_text_words(f: &Poly) -> bool
-    ensures { IsTrue result → AreTextWords 2 f.now }
-{
-    f.terms().iter().all(|t| is_text_word(t.letters()))
-}
-
-/// Whether the coefficients lie below the prime.
-fn are_residues(p: Prime, f: &Poly) -> bool
-    ensures { IsTrue result → AreResidues p f.now }
-{
-    f.terms().iter().all(|t| t.coefficient < p.number())
-}
-
-/// Whether it may be a generator over two letters.
-fn is_generator(p: Prime, f: &Poly) -> bool
-    ensures { IsTrue result → IsTextGenerator 2 p f.now }
-{
-    let _terms = f.terms();
-    !f.is_zero() && are_residues(p, f) && are_text_words(f)
-}
-
-/// The letters x and y, and the generators x x y and y.
-fn setting(rt: &impl Abort, alloc: Global, p: Prime) -> Result<Setting, Fail>
-    requires { p ≡ 101 }
-    ensures prime { IfOk result (λ s. s.setting.prime ≡ p) }
-    ensures letters { IfOk result (λ s. length s.names ≡ 2) }
-    ensures generators { IfOk result (λ s. length s.setting.generators ≡ 2) }
-{
-    let x = Letter::default();
-    let y = Letter::of(1, 1).ok_or("no such letter")?;
-    let first = monomial(alloc, p, &[x, x, y])?;
-    let second = monomial(alloc, p, &[y])?;
-    assert!(rt; is_generator(p, &first));
-    assert!(rt; is_generator(p, &second));
-    let names = vec![in alloc; name(b"x")?, name(b"y_1")?]?;
-    let generators = vec![in alloc; first, second]?;
-    Ok(Setting::of(p, names, generators))
+    let heavy = alphabet(alloc, vec![in alloc; 1, 3]?)?;
+    assert!(rt; heavy.has(Letter::of(1, 3).ok_or("a letter")?));
+    assert!(rt; !heavy.has(Letter::of(1, 1).ok_or("a letter")?));
+    assert!(rt; !heavy.has(Letter::of(2, 1).ok_or("a letter")?));
+    Ok(())
 }
 
 #[test]
 fn settings(rt: HostRuntime) -> Result<(), Fail> {
     let alloc = rt.alloc();
     let p = Prime::of(101).ok_or("listed")?;
-    let setting = setting(&rt, alloc, p)?;
+    let x = Letter::default();
+    let y = Letter::of(1, 3).ok_or("no such letter")?;
+    let first = monomial(alloc, p, &[x, x, y])?;
+    let second = monomial(alloc, p, &[y])?;
+    let alphabet = alphabet(alloc, vec![in alloc; 1, 3]?)?;
+    let generators = vec![in alloc; first, second]?;
+    assert!(rt; !Setting::takes(p, &alphabet, &[Poly::zero(alloc)]));
+    assert!(rt; Setting::takes(p, &alphabet, &generators));
+    let setting = Setting::of(p, alphabet, generators);
     assert_eq!(rt; setting.prime().number(), 101);
     assert_eq!(rt; setting.names().len(), 2);
     assert_eq!(rt; setting.names()[0].bytes(), b"x".as_slice());
     assert_eq!(rt; setting.names()[1].bytes(), b"y_1".as_slice());
+    assert_eq!(rt; setting.weights(), [1, 3].as_slice());
     assert_eq!(rt; setting.generators().len(), 2);
-    assert_eq!(rt; setting.weight(1), 3);
-    assert_eq!(rt; setting.weight(2), 1);
+    assert!(rt; setting.generators().len() == 2);
+    assert_eq!(rt; setting.weight(1), 5);
+    assert_eq!(rt; setting.weight(2), 3);
     assert_eq!(rt; setting.generator(1).terms().len(), 1);
 
-    let at = Sig::of(setting.weight(2), 2, Word::empty(alloc), Word::empty(alloc));
-    let terms = ModuleTerms::of(vec![in alloc; ModuleTerm { coefficient: 5, at }]?);
-    assert_eq!(rt; terms.items().len(), 1);
-    let term = &terms.items()[0];
-    assert_eq!(rt; term.coefficient, 5);
-    assert_eq!(rt; term.at.degree, 1);
-    // A certificate need not be valid: these terms don't multiply out to 0.
+    // Without a line the value is zero, which is the claim.
     let certificate = Certificate {
         setting,
         claim: Poly::zero(alloc),
-        terms,
+        lines: Lines::empty(alloc),
     };
     assert!(rt; certificate.claim.is_zero());
+    assert_eq!(rt; certificate.lines.len(), 0);
+    Ok(())
+}
+
+/// The part 1 * factor.
+fn part(alloc: Global, of: Of) -> Part {
+    Part {
+        coefficient: 1,
+        left: Word::empty(alloc),
+        of,
+        right: Word::empty(alloc),
+    }
+}
+
+#[test]
+fn lines(rt: HostRuntime) -> Result<(), Fail> {
+    let alloc = rt.alloc();
+    let mut line = Line::empty(alloc);
+    line.push(part(alloc, Of::Generator(2)))?;
+    line.push(part(alloc, Of::Line(1)))?;
+    assert!(rt; line.len() == 2);
+    assert!(rt; line.get(1).of == Of::Generator(2));
+    assert!(rt; line.get(2).of == Of::Line(1));
+    let mut lines = Lines::empty(alloc);
+    lines.push(Line::empty(alloc))?;
+    lines.push(line)?;
+    assert!(rt; lines.len() == 2);
+    assert!(rt; lines.get(1).len() == 0);
+    assert!(rt; lines.get(2).parts().len() == 2);
     Ok(())
 }

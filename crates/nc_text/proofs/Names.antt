@@ -1,6 +1,6 @@
 -- The names of a setting's letters: each is a name, and is told from the others.
 use Rattle.nc_algebra.specs.Certificates.{IsLetterBelow, is_name}
-use Rattle.nc_algebra.specs.Finite.{Among, IsDistinct}
+use Rattle.nc_algebra.specs.Lists.{Among, IsDistinct}
 use Rattle.nc_algebra.specs.Words.{Letter}
 use Rattle.nc_text.specs.Printing.{name_of}
 use Rattle.nc_text.specs.Reading.{letter_of}

@@ -1,6 +1,6 @@
 -- What is read behind a keyword is part of a certificate.
 use Rattle.nc_algebra.specs.Certificates.{IsTextGenerator, IsTextPolynomial, IsTextTerm, IsTextWord, NamedSetting, is_name}
-use Rattle.nc_algebra.specs.Finite.{Among, IsDistinct}
+use Rattle.nc_algebra.specs.Lists.{Among, IsDistinct}
 use Rattle.nc_algebra.specs.Polynomials.{Polynomial}
 use Rattle.nc_algebra.specs.Primes.{is_listed_prime}
 use Rattle.nc_text.proofs.Names.{bytes_same}

@@ -1,6 +1,6 @@
 -- What is printed behind a keyword is read again.
 use Rattle.nc_algebra.specs.Certificates.{IsTextTerm, IsTextWord, NamedSetting, is_name}
-use Rattle.nc_algebra.specs.Finite.{Among, IsDistinct}
+use Rattle.nc_algebra.specs.Lists.{Among, IsDistinct}
 use Rattle.nc_algebra.specs.Monomials.{Monomial}
 use Rattle.nc_algebra.specs.Polynomials.{Polynomial}
 use Rattle.nc_algebra.specs.Primes.{is_listed_prime}

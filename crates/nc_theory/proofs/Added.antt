@@ -1,5 +1,5 @@
 -- Lists with one element added, and what holds of their elements and of pairs of these.
-use Rattle.nc_algebra.specs.Finite.{Among}
+use Rattle.nc_algebra.specs.Lists.{Among}
 use Rattle.std.proofs.Common.{List, [], arith, inl, inr, map, refl, subst, sym, ◌++◌, ◌∷◌, ◌≡◌}
 use Rattle.std.proofs.lemmas.List.Elements.{All-cons, All-nil}
 use Rattle.std.proofs.lemmas.List.Kept.{AllPairs-cons}

@@ -1,6 +1,6 @@
 -- Every play of events leaves the desk at a state of the run, and its counts add up.
 use Rattle.nc_algebra.proofs.Orders.{nat_order}
-use Rattle.nc_algebra.specs.Finite.{Among}
+use Rattle.nc_algebra.specs.Lists.{Among}
 use Rattle.nc_algebra.specs.Elements.{generator_weight}
 use Rattle.nc_algebra.specs.Monomials.{same_monomial, Monomial, compare_monomials}
 use Rattle.nc_algebra.specs.Primes.{IsField}

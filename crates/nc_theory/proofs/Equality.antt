@@ -5,6 +5,7 @@ use Rattle.nc_algebra.proofs.Sums.{key_dec}
 use Rattle.nc_algebra.specs.Elements.{Setting}
 use Rattle.nc_algebra.specs.Monomials.{IsMonomialLess, Monomial, same_monomial}
 use Rattle.nc_algebra.specs.Polynomials.{Polynomial}
+use Rattle.nc_algebra.specs.Alphabets.{Alphabet}
 use Rattle.nc_algebra.specs.Problems.{Bound, NamedProblem, Problem}
 use Rattle.nc_algebra.specs.Sums.{Term}
 use Rattle.nc_algebra.specs.Words.{Word}
@@ -78,5 +79,8 @@ setting_dec s t = both (nat_dec s.prime t.prime) (list_dec polynomial_dec s.gene
 problem_dec : (P Q : Problem) → Decided (P ≡ Q)
 problem_dec P Q = both (setting_dec P.setting Q.setting) (pair_dec (bound_dec P.bound Q.bound) (nat_dec P.steps Q.steps)) (λ a b i. record { setting = a i; bound = b.0 i; steps = b.1 i }) (ap (λ z. z.setting)) (λ e. (ap (λ z. z.bound) e, ap (λ z. z.steps) e))
 
+alphabet_dec : (a b : Alphabet) → Decided (a ≡ b)
+alphabet_dec a b = both (list_dec (list_dec nat_dec) a.names b.names) (list_dec nat_dec a.weights b.weights) (λ n w i. record { names = n i; weights = w i }) (ap (λ z. z.names)) (ap (λ z. z.weights))
+
 pub named_dec : (P Q : NamedProblem) → Decided (P ≡ Q)
-named_dec P Q = both (problem_dec P.problem Q.problem) (list_dec (list_dec nat_dec) P.names Q.names) (λ a b i. record { problem = a i; names = b i }) (ap (λ z. z.problem)) (ap (λ z. z.names))
+named_dec P Q = both (problem_dec P.problem Q.problem) (alphabet_dec P.alphabet Q.alphabet) (λ a b i. record { problem = a i; alphabet = b i }) (ap (λ z. z.problem)) (ap (λ z. z.alphabet))

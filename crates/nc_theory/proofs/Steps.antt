@@ -6,7 +6,8 @@ use Rattle.nc_algebra.proofs.Orders.{compare_greater, compare_less, compare_same
 use Rattle.nc_algebra.proofs.Sums.{zero_number}
 use Rattle.nc_algebra.proofs.Words.{cut}
 use Rattle.nc_algebra.specs.Elements.{IsLess, IsZeroPolynomial, Setting, WordsAre, generator, generator_weight}
-use Rattle.nc_algebra.specs.Finite.{Among, IsOver, monomials_within}
+use Rattle.nc_algebra.specs.Finite.{IsOver, monomials_within}
+use Rattle.nc_algebra.specs.Lists.{Among}
 use Rattle.nc_algebra.specs.Monomials.{IsMonomialLess, Monomial, compare_monomials}
 use Rattle.nc_algebra.specs.Polynomials.{Polynomial, leading}
 use Rattle.nc_algebra.specs.Primes.{IsField}

@@ -3,7 +3,7 @@ use Rattle.nc_algebra.proofs.Finite.{among_contains, contains_among}
 use Rattle.nc_algebra.proofs.Monomials.{monomial_laws, monomials_compare}
 use Rattle.nc_algebra.proofs.Orders.{Decided, less_from_compare, less_from_test, compare_less}
 use Rattle.nc_algebra.specs.Elements.{IsLess, Setting, generator_weight}
-use Rattle.nc_algebra.specs.Finite.{Among}
+use Rattle.nc_algebra.specs.Lists.{Among}
 use Rattle.nc_algebra.specs.Monomials.{IsMonomialLess, Monomial, compare_monomials, same_monomial}
 use Rattle.nc_algebra.specs.Primes.{IsField}
 use Rattle.nc_algebra.specs.Problems.{NamedProblem}
