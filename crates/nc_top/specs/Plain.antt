@@ -1,6 +1,6 @@
 -- Plain certificates: those over the field 101, in printed form.
 use Rattle.nc_algebra.specs.Certificates.{Certificate, IsCertificate}
-use Rattle.nc_text.specs.Printing.{certificate_text}
+use Rattle.nc_print.specs.Printing.{certificate_text}
 use Rattle.std.specs.Prelude.{List, length, ℕ, ◌≡◌, ◌≤◌}
 
 -- the bytes are the printed form of this certificate over the field 101, and are not too many

@@ -8,7 +8,7 @@ use Rattle.nc_algebra.specs.Certificates.{Certificate, rest_of}
 use Rattle.nc_io.specs.Adds.{Adds, AddsFront}
 use Rattle.nc_io.specs.Causes.{Rose}
 use Rattle.nc_io.specs.Pieces.{TakesWhole}
-use Rattle.nc_text.specs.Printing.{poly_text}
+use Rattle.nc_print.specs.Printing.{poly_text}
 use Rattle.nc_top.specs.Checking.{IsValidCertificate}
 use Rattle.nc_top.specs.Plain.{IsNotPlain, IsPlain}
 use Rattle.nc_top.specs.declared.status.Status.{Status}

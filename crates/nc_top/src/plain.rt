@@ -1,7 +1,7 @@
 //! Plain certificates.
 
 ghost use Rattle.nc_algebra.specs.Certificates.{IsCertificate};
-ghost use Rattle.nc_text.specs.Printing.{certificate_text};
+ghost use Rattle.nc_print.specs.Printing.{certificate_text};
 ghost use Rattle.nc_top.specs.Plain.{IsNotPlain, IsPlain};
 ghost use Rattle.std.specs.Prelude.{IfOk, IsTrue, MatchOption, ◌≡◌, ◌↔◌};
 

@@ -1,5 +1,5 @@
 use Rattle.nc_algebra.specs.Certificates.{Certificate}
-use Rattle.nc_text.specs.Printing.{certificate_text}
+use Rattle.nc_print.specs.Printing.{certificate_text}
 use Rattle.nc_top.proofs.Reports.{plain_is_read}
 use Rattle.std.proofs.Common.{ap, sym, ◌∙◌, ◌≡◌}
 use Rattle.std.proofs.lemmas.Bool.{false≢true}
