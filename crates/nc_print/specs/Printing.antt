@@ -1,9 +1,13 @@
 -- The printed forms of words, polynomials, monomials and certificates.
-use Rattle.nc_algebra.specs.Certificates.{Certificate}
+use Rattle.nc_algebra.specs.Alphabets.{Alphabet}
+use Rattle.nc_algebra.specs.Certificates.{Certificate, Factor, Part}
+use Rattle.nc_algebra.specs.Elements.{Element}
 use Rattle.nc_algebra.specs.Monomials.{Monomial}
 use Rattle.nc_algebra.specs.Polynomials.{Polynomial}
+use Rattle.nc_algebra.specs.Settings.{NamedSetting}
 use Rattle.nc_algebra.specs.Sums.{Term}
 use Rattle.nc_algebra.specs.Words.{Letter, Word}
+use Rattle.std.specs.List.{list_all}
 use Rattle.std.specs.Prelude.{List, [], codes, decimal, flat_map, if◌then◌else◌, map, slice_index_or, ℕ, ◌++◌, ◌==◌, ◌∷◌}
 
 -- a letter's name
@@ -44,29 +48,67 @@ sig_text names σ = word_text names σ.left ++ (codes " [" ++ (decimal σ.genera
 abbrev pub names_line : List (List ℕ) → List ℕ
 names_line names = codes "letters" ++ flat_map (λ name. codes " " ++ name) names
 
+-- the weights, each after one space
+abbrev pub weights_line : List ℕ → List ℕ
+weights_line weights = codes "weights" ++ flat_map (λ m. codes " " ++ decimal m) weights
+
+-- the lines `letters` and, where some weight is not 1, `weights`
+abbrev pub alphabet_lines : Alphabet → List (List ℕ)
+alphabet_lines a = names_line a.names ∷ (if list_all (λ m. m == 1) a.weights then [] else weights_line a.weights ∷ [])
+
 -- a generator behind its keyword
 abbrev pub generator_line : List (List ℕ) → Polynomial → List ℕ
 generator_line names f = codes "generator " ++ poly_text names f
 
--- the coefficient as it is, and the monomial
-abbrev pub term_line : List (List ℕ) → Term Monomial → List ℕ
-term_line names t = codes "term " ++ (decimal t.coefficient ++ (codes " " ++ sig_text names t.key))
+-- the lines `field`, `letters`, `weights` and `generator`
+abbrev pub setting_lines : NamedSetting → List (List ℕ)
+setting_lines s = (codes "field " ++ decimal s.setting.prime) ∷ (alphabet_lines s.alphabet ++ map (generator_line s.alphabet.names) s.setting.generators)
+
+-- a generator's number in brackets, or a line's in braces
+abbrev pub factor_text : Factor → List ℕ
+factor_text (Factor.a_generator i) = codes " [" ++ (decimal i ++ codes "] ")
+factor_text (Factor.a_line k) = codes " {" ++ (decimal k ++ codes "} ")
+
+-- a part: the coefficient as it is, the left word, what is multiplied, the right word
+abbrev pub part_line : List (List ℕ) → Part → List ℕ
+part_line names part = codes "part " ++ (decimal part.coefficient ++ (codes " " ++ (word_text names part.left ++ (factor_text part.of ++ word_text names part.right))))
+
+-- the line `line`, and the parts
+abbrev pub line_lines : List (List ℕ) → List Part → List (List ℕ)
+line_lines names parts = codes "line" ∷ map (part_line names) parts
 
 -- all lines, in their order
 abbrev pub certificate_lines : Certificate → List (List ℕ)
 certificate_lines c =
-    codes "certificate 1"
-    ∷ (codes "field " ++ decimal c.setting.setting.prime)
-    ∷ names_line c.setting.names
-    ∷ (map (generator_line c.setting.names) c.setting.setting.generators
-    ++ (codes "claim " ++ poly_text c.setting.names c.claim)
-    ∷ (map (term_line c.setting.names) c.terms
+    codes "certificate 2"
+    ∷ (setting_lines c.setting
+    ++ (codes "claim " ++ poly_text c.setting.alphabet.names c.claim)
+    ∷ (flat_map (line_lines c.setting.alphabet.names) c.lines
     ++ codes "end" ∷ []))
 
 -- each line is ended by a line feed
 abbrev pub ended : List (List ℕ) → List ℕ
 ended lines = flat_map (λ line. line ++ 10 ∷ []) lines
 
--- the certificate as a text, form 1
+-- the certificate as a text
 abbrev pub certificate_text : Certificate → List ℕ
 certificate_text c = ended (certificate_lines c)
+
+-- ---- form 1: the terms of a module element
+
+-- the coefficient as it is, and the monomial
+abbrev pub term_line : List (List ℕ) → Term Monomial → List ℕ
+term_line names t = codes "term " ++ (decimal t.coefficient ++ (codes " " ++ sig_text names t.key))
+
+-- all lines, in their order
+abbrev pub terms_lines : NamedSetting → Polynomial → Element → List (List ℕ)
+terms_lines s claim terms =
+    codes "certificate 1"
+    ∷ (setting_lines s
+    ++ (codes "claim " ++ poly_text s.alphabet.names claim)
+    ∷ (map (term_line s.alphabet.names) terms
+    ++ codes "end" ∷ []))
+
+-- the claim and its terms as a text
+abbrev pub terms_text : NamedSetting → Polynomial → Element → List ℕ
+terms_text s claim terms = ended (terms_lines s claim terms)

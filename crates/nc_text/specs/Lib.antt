@@ -3,4 +3,5 @@ pub mod Patterns
 pub mod Rows
 pub mod Settings
 pub mod Certificates
+pub mod Problems
 pub mod Laws

@@ -1,5 +1,5 @@
 -- Reading words and polynomials from the tokens of a line, up to the first fault.
-use Rattle.nc_algebra.specs.Certificates.{letter_at}
+use Rattle.nc_algebra.specs.Alphabets.{Alphabet, letter_at}
 use Rattle.nc_algebra.specs.Polynomials.{Polynomial, normal_form}
 use Rattle.nc_algebra.specs.Sums.{Term}
 use Rattle.nc_algebra.specs.Words.{Letter, Word}
@@ -21,12 +21,12 @@ abbrev pub lengthened : Word → Letter → ℕ → Result Word Kind
 lengthened word letter n = if nat_lt 255 (length word + n) then Err LongWord else Ok (word ++ replicate n letter)
 
 -- FACTOR, behind the word so far: a name, or a name with an exponent
-unfoldable pub factor_at : List (List ℕ) → Word → List Token → Result (Word × List Token) Kind
-factor_at names word ts = do
+unfoldable pub factor_at : Alphabet → Word → List Token → Result (Word × List Token) Kind
+factor_at a word ts = do
   name ← name_at ts
-  letter ← letter_of names name.0
+  letter ← letter_of a.names name.0
   exponent ← exponent_at name.1
-  longer ← lengthened word (letter_at letter) exponent.0
+  longer ← lengthened word (letter_at a letter) exponent.0
   Ok (longer, exponent.1)
 
 -- what follows a factor: with `*` a further factor, else nothing of the word
@@ -35,15 +35,15 @@ after_factor further word (Times ∷ rest) = further word rest
 after_factor further word ts = Ok (word, ts)
 
 -- FACTOR { * FACTOR }, behind the word so far, of at most n factors
-unfoldable pub factors_at : ℕ → List (List ℕ) → Word → List Token → Result (Word × List Token) Kind
-factors_at zero names word ts = Err (misplaced ts)
-factors_at (suc n) names word ts = do
-  factor ← factor_at names word ts
-  after_factor (factors_at n names) factor.0 factor.1
+unfoldable pub factors_at : ℕ → Alphabet → Word → List Token → Result (Word × List Token) Kind
+factors_at zero a word ts = Err (misplaced ts)
+factors_at (suc n) a word ts = do
+  factor ← factor_at a word ts
+  after_factor (factors_at n a) factor.0 factor.1
 
 -- WORD: no more factors than tokens
-abbrev pub word_at : List (List ℕ) → List Token → Result (Word × List Token) Kind
-word_at names ts = factors_at (length ts) names [] ts
+abbrev pub word_at : Alphabet → List Token → Result (Word × List Token) Kind
+word_at a ts = factors_at (length ts) a [] ts
 
 -- ---- polynomials
 
@@ -52,17 +52,17 @@ abbrev pub residue_of : ℕ → Bool → ℕ → ℕ
 residue_of p negative n = if negative then (p - n % p) % p else n % p
 
 -- what stands behind the literal of a term: `*` and a word, or nothing
-unfoldable pub word_behind : List (List ℕ) → List Token → Result (Word × List Token) Kind
-word_behind names (Times ∷ rest) = word_at names rest
-word_behind names ts = Ok ([], ts)
+unfoldable pub word_behind : Alphabet → List Token → Result (Word × List Token) Kind
+word_behind a (Times ∷ rest) = word_at a rest
+word_behind a ts = Ok ([], ts)
 
 -- TERM, with the sign before it: a literal, a literal times a word, or a word
-unfoldable pub term_at : ℕ → List (List ℕ) → Bool → List Token → Result (Term Word × List Token) Kind
-term_at p names negative (Literal n ∷ rest) = do
-  word ← word_behind names rest
+unfoldable pub term_at : ℕ → Alphabet → Bool → List Token → Result (Term Word × List Token) Kind
+term_at p a negative (Literal n ∷ rest) = do
+  word ← word_behind a rest
   Ok (record { coefficient = residue_of p negative n; key = word.0 }, word.1)
-term_at p names negative ts = do
-  word ← word_at names ts
+term_at p a negative ts = do
+  word ← word_at a ts
   Ok (record { coefficient = residue_of p negative 1; key = word.0 }, word.1)
 
 -- what follows a term: the end of the line, or a sign and further terms
@@ -73,17 +73,17 @@ after_term further (Minus ∷ rest) = further true rest
 after_term further ts = Err (misplaced ts)
 
 -- TERM { SIGN TERM } of at most n terms, to the end of the line
-unfoldable pub terms_at : ℕ → ℕ → List (List ℕ) → Bool → List Token → Result Polynomial Kind
-terms_at zero p names negative ts = Err (misplaced ts)
-terms_at (suc n) p names negative ts = do
-  term ← term_at p names negative ts
-  others ← after_term (terms_at n p names) term.1
+unfoldable pub terms_at : ℕ → ℕ → Alphabet → Bool → List Token → Result Polynomial Kind
+terms_at zero p a negative ts = Err (misplaced ts)
+terms_at (suc n) p a negative ts = do
+  term ← term_at p a negative ts
+  others ← after_term (terms_at n p a) term.1
   Ok (term.0 ∷ others)
 
 -- the terms of POLY as they are written, to the end of the line: no more terms than tokens
-abbrev pub sum_at : ℕ → List (List ℕ) → List Token → Result Polynomial Kind
-sum_at p names ts = terms_at (length (sign_at ts).1) p names (sign_at ts).0 (sign_at ts).1
+abbrev pub sum_at : ℕ → Alphabet → List Token → Result Polynomial Kind
+sum_at p a ts = terms_at (length (sign_at ts).1) p a (sign_at ts).0 (sign_at ts).1
 
 -- POLY: the normal form of its terms
-unfoldable pub poly_at : ℕ → List (List ℕ) → List Token → Result Polynomial Kind
-poly_at p names ts = sum_at p names ts >>= λ f. Ok (normal_form p f)
+unfoldable pub poly_at : ℕ → Alphabet → List Token → Result Polynomial Kind
+poly_at p a ts = sum_at p a ts >>= λ f. Ok (normal_form p f)

@@ -1,5 +1,5 @@
 -- Printed lines that begin with a keyword, and how they are taken.
-use Rattle.nc_algebra.specs.Certificates.{is_name}
+use Rattle.nc_algebra.specs.Alphabets.{is_name}
 use Rattle.nc_tokens.proofs.Bytes.{bytes_same}
 use Rattle.nc_tokens.proofs.PlainBytes.{ArePlain, name_plain, plain_append}
 use Rattle.nc_tokens.proofs.PlainLines.{IsPrintedLine, written_line}

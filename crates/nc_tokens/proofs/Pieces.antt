@@ -3,7 +3,7 @@ use Rattle.std.proofs.Common.{◌≡◌, ℕ, suc, get_or, ◌-◌, ◌+◌, ◌
 use Rattle.std.specs.List.{prefix_len}
 use Rattle.std.proofs.lemmas.List.{append-nil, take_all}
 use Rattle.std.specs.Char.{is_ascii_digit, is_ascii_alphabetic}
-use Rattle.nc_algebra.specs.Certificates.{is_name_byte}
+use Rattle.nc_algebra.specs.Alphabets.{is_name_byte}
 use Rattle.std.proofs.lemmas.Bool.Decides.{nat_tests}
 use Rattle.nc_tokens.specs.Tokens.{Name, Token, goes_on, is_blank, literal_of, pieces, sign_of, token_of, tokens}
 

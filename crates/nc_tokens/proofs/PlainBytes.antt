@@ -1,5 +1,5 @@
 -- Bytes that may stand in a line and begin no comment; those of numbers and names are.
-use Rattle.nc_algebra.specs.Certificates.{is_name, is_name_byte}
+use Rattle.nc_algebra.specs.Alphabets.{is_name, is_name_byte}
 use Rattle.nc_tokens.proofs.Digits.{decimal_is}
 use Rattle.nc_tokens.specs.Lines.{is_allowed}
 use Rattle.std.proofs.Common.{Bool, List, [], arith, decimal, eqb, false, length, not, refl, true, ℕ, ◌&&◌, ◌++◌, ◌<◌, ◌∙◌, ◌∷◌, ◌≡◌}

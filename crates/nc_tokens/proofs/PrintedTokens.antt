@@ -1,5 +1,5 @@
 -- The tokens of printed pieces, before any bytes that end them.
-use Rattle.nc_algebra.specs.Certificates.{is_name, is_name_byte}
+use Rattle.nc_algebra.specs.Alphabets.{is_name, is_name_byte}
 use Rattle.nc_tokens.proofs.Digits.{AreDigitsOf}
 use Rattle.nc_tokens.proofs.Pieces.{counted_piece, nothing_goes, one_piece}
 use Rattle.nc_tokens.specs.Tokens.{Close, Literal, Name, Open, Times, Token, Plus, is_blank, pieces, sign_of, token_of, tokens}

@@ -1,5 +1,5 @@
 -- The tokens of a line: literals, names and signs.
-use Rattle.nc_algebra.specs.Certificates.{is_name_byte}
+use Rattle.nc_algebra.specs.Alphabets.{is_name_byte}
 use Rattle.std.specs.Char.{is_ascii_alphabetic, is_ascii_digit}
 use Rattle.std.specs.Prelude.{Bool, List, [], false, if◌then◌else◌, length, map, nat_lt, ℕ, ◌&&◌, ◌++◌, ◌==◌, ◌||◌, ◌∷◌}
 use Rattle.std.specs.Str.Parse.{digits_value}

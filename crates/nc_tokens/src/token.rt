@@ -1,6 +1,6 @@
 //! The tokens of a line.
 
-ghost use Rattle.nc_algebra.specs.Certificates.{is_name_byte};
+ghost use Rattle.nc_algebra.specs.Alphabets.{is_name_byte};
 ghost use Rattle.nc_tokens.specs.Shown.{IsShownAs, before};
 ghost use Rattle.nc_tokens.specs.Tokens.{is_blank, literal_of, sign_of, tokens};
 ghost use Rattle.std.specs.Char.{is_ascii_digit};
