@@ -1,7 +1,6 @@
 pub mod Names
 pub mod Shorter
 pub mod Words
-pub mod Light
 pub mod Letters
 pub mod Polynomials
 pub mod Nonzero

@@ -1,4 +1,5 @@
 -- Reading a polynomial term after term, as a loop does.
+use Rattle.nc_algebra.specs.Alphabets.{Alphabet}
 use Rattle.std.proofs.Common.{◌≡◌, ℕ, zero, suc, ◌≤◌, Bool, true, false, List, [], ◌∷◌, ◌++◌, length, Result, Ok, Err, refl, sym, ap, subst, ◌∙◌, append_assoc, arith}
 use Rattle.std.proofs.lemmas.List.{append-nil, nil_from_length}
 use Rattle.nc_tokens.specs.declared.fault.Kind.{Kind}
@@ -25,10 +26,10 @@ abbrev with_front : Polynomial → Read → Read
 with_front front read = read >>= λ others. Ok (front ++ others)
 
 -- the terms so far, and those that follow, are on the way to the whole
-pub record IsOnTheWay (p : ℕ) (names : List (List ℕ)) (front : Polynomial) (negative : Bool) (ts : List Token) (whole : Read) : Type 0 where
+pub record IsOnTheWay (p : ℕ) (a : Alphabet) (front : Polynomial) (negative : Bool) (ts : List Token) (whole : Read) : Type 0 where
   pub budget : ℕ
   pub enough : length ts ≤ budget
-  pub same : with_front front (terms_at budget p names negative ts) ≡ whole
+  pub same : with_front front (terms_at budget p a negative ts) ≡ whole
 
 no_front : (r : Read) → with_front [] r ≡ r
 no_front (Ok x) = refl
@@ -38,48 +39,48 @@ regroup : (front : Polynomial) (t : Term Word) (r : Read) → with_front front (
 regroup front t (Ok x) = ap (λ (l : Polynomial). Ok l) (sym (append_assoc front (t ∷ []) x))
 regroup front t (Err f) = refl
 
-pub begins : (p : ℕ) (names : List (List ℕ)) (ts rest : List Token) (negative : Bool) → sign_at ts ≡ (negative, rest) → IsOnTheWay p names [] negative rest (sum_at p names ts)
-begins p names ts rest negative e = rw e (record { budget = length rest; enough = omega arith; same = no_front (terms_at (length rest) p names negative rest) })
+pub begins : (p : ℕ) (a : Alphabet) (ts rest : List Token) (negative : Bool) → sign_at ts ≡ (negative, rest) → IsOnTheWay p a [] negative rest (sum_at p a ts)
+begins p a ts rest negative e = rw e (record { budget = length rest; enough = omega arith; same = no_front (terms_at (length rest) p a negative rest) })
 
 -- a term is read, and the same holds of what follows it
-record IsBehindTerm (p : ℕ) (names : List (List ℕ)) (front : Polynomial) (ts : List Token) (whole : Read) : Type 0 where
+record IsBehindTerm (p : ℕ) (a : Alphabet) (front : Polynomial) (ts : List Token) (whole : Read) : Type 0 where
   pub budget : ℕ
   pub enough : length ts ≤ budget
-  pub same : with_front front (after_term (terms_at budget p names) ts) ≡ whole
+  pub same : with_front front (after_term (terms_at budget p a) ts) ≡ whole
 
-behind_term : (p : ℕ) (names : List (List ℕ)) (front : Polynomial) (negative : Bool) (ts : List Token) (whole : Read) (x : Term Word × List Token) → term_at p names negative ts ≡ Ok x
-    → IsOnTheWay p names front negative ts whole → IsBehindTerm p names (front ++ x.0 ∷ []) x.1 whole
+behind_term : (p : ℕ) (a : Alphabet) (front : Polynomial) (negative : Bool) (ts : List Token) (whole : Read) (x : Term Word × List Token) → term_at p a negative ts ≡ Ok x
+    → IsOnTheWay p a front negative ts whole → IsBehindTerm p a (front ++ x.0 ∷ []) x.1 whole
 unfolding terms_at
-behind_term p names front negative ts whole x e h = by_budget h.budget h.enough h.same
+behind_term p a front negative ts whole x e h = by_budget h.budget h.enough h.same
   where
-    by_budget : (n : ℕ) → length ts ≤ n → with_front front (terms_at n p names negative ts) ≡ whole → IsBehindTerm p names (front ++ x.0 ∷ []) x.1 whole
-    by_budget zero enough same = absurd (omega (arith, term_shorter p names negative ts x e))
+    by_budget : (n : ℕ) → length ts ≤ n → with_front front (terms_at n p a negative ts) ≡ whole → IsBehindTerm p a (front ++ x.0 ∷ []) x.1 whole
+    by_budget zero enough same = absurd (omega (arith, term_shorter p a negative ts x e))
     by_budget (suc n) enough same =
-        let r = after_term (terms_at n p names) x.1 in
-        let one : terms_at (suc n) p names negative ts ≡ (r >>= λ others. Ok (x.0 ∷ others)) = ap (λ (r : Result (Term Word × List Token) Kind). r >>= λ term. after_term (terms_at n p names) term.1 >>= λ others. Ok (term.0 ∷ others)) e in
+        let r = after_term (terms_at n p a) x.1 in
+        let one : terms_at (suc n) p a negative ts ≡ (r >>= λ others. Ok (x.0 ∷ others)) = ap (λ (r : Result (Term Word × List Token) Kind). r >>= λ term. after_term (terms_at n p a) term.1 >>= λ others. Ok (term.0 ∷ others)) e in
         record {
           budget = n;
-          enough = omega (arith, term_shorter p names negative ts x e);
+          enough = omega (arith, term_shorter p a negative ts x e);
           same = sym (regroup front x.0 r) ∙ ap (with_front front) (sym one) ∙ same;
         }
 
-pub goes_on : (p : ℕ) (names : List (List ℕ)) (front : Polynomial) (negative : Bool) (ts : List Token) (whole : Read) (t : Term Word) (us rest : List Token) → term_at p names negative ts ≡ Ok (t, us)
-    → us ≡ Plus ∷ rest → IsOnTheWay p names front negative ts whole → IsOnTheWay p names (front ++ t ∷ []) false rest whole
-goes_on p names front negative ts whole t us rest e sign h =
-    let b = behind_term p names front negative ts whole (t, us) e h in
-    record { budget = b.budget; enough = omega (arith, b.enough, ap length sign); same = ap (λ (l : List Token). with_front (front ++ t ∷ []) (after_term (terms_at b.budget p names) l)) (sym sign) ∙ b.same }
+pub goes_on : (p : ℕ) (a : Alphabet) (front : Polynomial) (negative : Bool) (ts : List Token) (whole : Read) (t : Term Word) (us rest : List Token) → term_at p a negative ts ≡ Ok (t, us)
+    → us ≡ Plus ∷ rest → IsOnTheWay p a front negative ts whole → IsOnTheWay p a (front ++ t ∷ []) false rest whole
+goes_on p a front negative ts whole t us rest e sign h =
+    let b = behind_term p a front negative ts whole (t, us) e h in
+    record { budget = b.budget; enough = omega (arith, b.enough, ap length sign); same = ap (λ (l : List Token). with_front (front ++ t ∷ []) (after_term (terms_at b.budget p a) l)) (sym sign) ∙ b.same }
 
-pub goes_on_less : (p : ℕ) (names : List (List ℕ)) (front : Polynomial) (negative : Bool) (ts : List Token) (whole : Read) (t : Term Word) (us rest : List Token) → term_at p names negative ts ≡ Ok (t, us)
-    → us ≡ Minus ∷ rest → IsOnTheWay p names front negative ts whole → IsOnTheWay p names (front ++ t ∷ []) true rest whole
-goes_on_less p names front negative ts whole t us rest e sign h =
-    let b = behind_term p names front negative ts whole (t, us) e h in
-    record { budget = b.budget; enough = omega (arith, b.enough, ap length sign); same = ap (λ (l : List Token). with_front (front ++ t ∷ []) (after_term (terms_at b.budget p names) l)) (sym sign) ∙ b.same }
+pub goes_on_less : (p : ℕ) (a : Alphabet) (front : Polynomial) (negative : Bool) (ts : List Token) (whole : Read) (t : Term Word) (us rest : List Token) → term_at p a negative ts ≡ Ok (t, us)
+    → us ≡ Minus ∷ rest → IsOnTheWay p a front negative ts whole → IsOnTheWay p a (front ++ t ∷ []) true rest whole
+goes_on_less p a front negative ts whole t us rest e sign h =
+    let b = behind_term p a front negative ts whole (t, us) e h in
+    record { budget = b.budget; enough = omega (arith, b.enough, ap length sign); same = ap (λ (l : List Token). with_front (front ++ t ∷ []) (after_term (terms_at b.budget p a) l)) (sym sign) ∙ b.same }
 
-pub ends : (p : ℕ) (names : List (List ℕ)) (front : Polynomial) (negative : Bool) (ts : List Token) (whole : Read) (t : Term Word) (us : List Token) → term_at p names negative ts ≡ Ok (t, us)
-    → us ≡ [] → IsOnTheWay p names front negative ts whole → whole ≡ Ok (front ++ t ∷ [])
-ends p names front negative ts whole t us e end h =
-    let b = behind_term p names front negative ts whole (t, us) e h in
-    sym b.same ∙ ap (λ (l : List Token). with_front (front ++ t ∷ []) (after_term (terms_at b.budget p names) l)) end ∙ ap (λ (l : Polynomial). Ok l) (append-nil (front ++ t ∷ []))
+pub ends : (p : ℕ) (a : Alphabet) (front : Polynomial) (negative : Bool) (ts : List Token) (whole : Read) (t : Term Word) (us : List Token) → term_at p a negative ts ≡ Ok (t, us)
+    → us ≡ [] → IsOnTheWay p a front negative ts whole → whole ≡ Ok (front ++ t ∷ [])
+ends p a front negative ts whole t us e end h =
+    let b = behind_term p a front negative ts whole (t, us) e h in
+    sym b.same ∙ ap (λ (l : List Token). with_front (front ++ t ∷ []) (after_term (terms_at b.budget p a) l)) end ∙ ap (λ (l : Polynomial). Ok l) (append-nil (front ++ t ∷ []))
 
 wrong : (further : Bool → List Token → Read) (token : shown.Token) (rest : List Token) → (token ≡ code.End → ⊥) → (token ≡ code.Plus → ⊥) → (token ≡ code.Minus → ⊥) → after_term further (before token rest) ≡ Err (misplaced (before token rest))
 wrong further (code.Literal n) rest a b c = refl
@@ -96,17 +97,17 @@ wrong further code.CloseBrace rest a b c = refl
 wrong further code.Bad rest a b c = refl
 wrong further code.End rest a b c = absurd (a refl)
 
-pub is_wrong : (p : ℕ) (names : List (List ℕ)) (front : Polynomial) (negative : Bool) (ts : List Token) (whole : Read) (t : Term Word) (us rest : List Token) (token : shown.Token) (f : LineError)
-    → term_at p names negative ts ≡ Ok (t, us) → us ≡ before token rest → (token ≡ code.End → ⊥) → (token ≡ code.Plus → ⊥) → (token ≡ code.Minus → ⊥) → IsMisplaced token f
-    → IsOnTheWay p names front negative ts whole → Fails f whole
-is_wrong p names front negative ts whole t us rest token f e is not_end not_plus not_minus wrong_here h =
-    let b = behind_term p names front negative ts whole (t, us) e h in
-    let k : whole ≡ Err (misplaced (before token rest)) = sym b.same ∙ ap (λ (l : List Token). with_front (front ++ t ∷ []) (after_term (terms_at b.budget p names) l)) is ∙ ap (with_front (front ++ t ∷ [])) (wrong (terms_at b.budget p names) token rest not_end not_plus not_minus) in
+pub is_wrong : (p : ℕ) (a : Alphabet) (front : Polynomial) (negative : Bool) (ts : List Token) (whole : Read) (t : Term Word) (us rest : List Token) (token : shown.Token) (f : LineError)
+    → term_at p a negative ts ≡ Ok (t, us) → us ≡ before token rest → (token ≡ code.End → ⊥) → (token ≡ code.Plus → ⊥) → (token ≡ code.Minus → ⊥) → IsMisplaced token f
+    → IsOnTheWay p a front negative ts whole → Fails f whole
+is_wrong p a front negative ts whole t us rest token f e is not_end not_plus not_minus wrong_here h =
+    let b = behind_term p a front negative ts whole (t, us) e h in
+    let k : whole ≡ Err (misplaced (before token rest)) = sym b.same ∙ ap (λ (l : List Token). with_front (front ++ t ∷ []) (after_term (terms_at b.budget p a) l)) is ∙ ap (with_front (front ++ t ∷ [])) (wrong (terms_at b.budget p a) token rest not_end not_plus not_minus) in
     rw (wrong_here rest) k
 
-none_at : (p : ℕ) (names : List (List ℕ)) (negative : Bool) → term_at p names negative [] ≡ Err (misplaced [])
+none_at : (p : ℕ) (a : Alphabet) (negative : Bool) → term_at p a negative [] ≡ Err (misplaced [])
 unfolding term_at factors_at
-none_at p names negative = refl
+none_at p a negative = refl
 
 abbrev term_error : List Token → Result (Term Word × List Token) Kind
 term_error ts = Err (misplaced ts)
@@ -118,14 +119,14 @@ same_error : (f : LineError) (ts : List Token) → Fails f (term_error ts) → F
 same_error errors.Memory ts h = tt
 same_error (errors.Fault k) ts h = let same : misplaced ts ≡ k = cc in cc
 
-pub term_fails : (f : LineError) (p : ℕ) (names : List (List ℕ)) (front : Polynomial) (negative : Bool) (ts : List Token) (whole : Read) → Fails f (term_at p names negative ts) → IsOnTheWay p names front negative ts whole → Fails f whole
+pub term_fails : (f : LineError) (p : ℕ) (a : Alphabet) (front : Polynomial) (negative : Bool) (ts : List Token) (whole : Read) → Fails f (term_at p a negative ts) → IsOnTheWay p a front negative ts whole → Fails f whole
 unfolding terms_at
-term_fails f p names front negative ts whole fails h = by_budget h.budget h.enough h.same
+term_fails f p a front negative ts whole fails h = by_budget h.budget h.enough h.same
   where
-    by_budget : (n : ℕ) → length ts ≤ n → with_front front (terms_at n p names negative ts) ≡ whole → Fails f whole
+    by_budget : (n : ℕ) → length ts ≤ n → with_front front (terms_at n p a negative ts) ≡ whole → Fails f whole
     by_budget zero enough same =
         let e : ts ≡ [] = nil_from_length ts (omega arith) in
-        let none : term_at p names negative ts ≡ Err (misplaced ts) = rw e (none_at p names negative) in
+        let none : term_at p a negative ts ≡ Err (misplaced ts) = rw e (none_at p a negative) in
         let given : Fails f (term_error ts) = subst (λ (r : Result (Term Word × List Token) Kind). Fails f r) none fails in
         subst (λ (r : Read). Fails f r) same (bind_fails f (poly_error ts) (λ others. Ok (front ++ others)) (same_error f ts given))
-    by_budget (suc n) enough same = subst (λ (r : Read). Fails f r) same (bind_fails f (term_at p names negative ts >>= λ term. after_term (terms_at n p names) term.1 >>= λ others. Ok (term.0 ∷ others)) _ (bind_fails f (term_at p names negative ts) _ fails))
+    by_budget (suc n) enough same = subst (λ (r : Read). Fails f r) same (bind_fails f (term_at p a negative ts >>= λ term. after_term (terms_at n p a) term.1 >>= λ others. Ok (term.0 ∷ others)) _ (bind_fails f (term_at p a negative ts) _ fails))

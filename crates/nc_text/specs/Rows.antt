@@ -10,7 +10,7 @@ use Rattle.nc_algebra.specs.Primes.{is_listed_prime}
 use Rattle.nc_algebra.specs.Words.{Word}
 use Rattle.nc_tokens.specs.declared.fault.Kind.{Kind}
 use Rattle.nc_tokens.specs.declared.fault.Kind.TheVariants.{BadName, BadPrime, DoubleName, LongLine, OutOfRange, Syntax, TooManyGenerators, TooManyNames, ZeroGenerator}
-use Rattle.nc_tokens.specs.Wanted.{close_at, close_brace_at, end_at, literal_at, misplaced, open_at, open_brace_at, ◌>>=◌}
+use Rattle.nc_tokens.specs.Wanted.{close_at, close_brace_at, end_at, literal_at, misplaced, open_at, ◌>>=◌}
 use Rattle.nc_text.specs.Reading.{poly_at, word_at}
 use Rattle.nc_tokens.specs.Tokens.{Literal, Name, OpenBrace, Token}
 use Rattle.std.specs.List.{list_any}
@@ -20,6 +20,10 @@ use Rattle.std.specs.Str.{bytes_eq}
 -- a number, if it passes a test
 abbrev pub checked : Bool → Kind → ℕ → Result ℕ Kind
 checked passes fault n = if passes then Ok n else Err fault
+
+-- a number from 1 to the most
+abbrev pub counted : ℕ → ℕ → Result ℕ Kind
+counted most n = checked (nat_lt 0 n && nat_lt n (most + 1)) OutOfRange n
 
 -- certificate: the form, which is 1 or 2
 unfoldable pub form_at : List Token → Result ℕ Kind
@@ -49,16 +53,22 @@ letters_at names [] = if length names == 0 then Err Syntax else Ok names
 letters_at names (Name name ∷ rest) = further_name names name >>= λ further. letters_at (names ++ further ∷ []) rest
 letters_at names ts = Err BadName
 
--- weights: one literal from 1 to 100 for each of n letters
+-- a weight: a literal from 1 to 100
+abbrev pub weight_at : List Token → Result (ℕ × List Token) Kind
+weight_at ts = do
+  m ← literal_at ts
+  weight ← counted 100 m.0
+  Ok (weight, m.1)
+
+-- weights: one for each of n letters
 unfoldable pub weights_at : ℕ → List Token → Result (List ℕ) Kind
 weights_at zero ts = do
   _ ← end_at ts
   Ok []
 weights_at (suc n) ts = do
-  m ← literal_at ts
-  first ← checked (nat_lt 0 m.0 && nat_lt m.0 101) OutOfRange m.0
-  others ← weights_at n m.1
-  Ok (first ∷ others)
+  first ← weight_at ts
+  others ← weights_at n first.1
+  Ok (first.0 ∷ others)
 
 -- a generator is not zero
 abbrev pub nonzero : Polynomial → Result Polynomial Kind
@@ -74,10 +84,6 @@ unfoldable pub side_at : Alphabet → List Token → Result (Word × List Token)
 side_at a (Literal n ∷ rest) = if n == 1 then Ok ([], rest) else Err Syntax
 side_at a ts = word_at a ts
 
--- a number from 1 to the most
-abbrev pub counted : ℕ → ℕ → Result ℕ Kind
-counted most n = checked (nat_lt 0 n && nat_lt n (most + 1)) OutOfRange n
-
 -- the number of one of so many generators, in brackets
 unfoldable pub generator_number_at : ℕ → List Token → Result (ℕ × List Token) Kind
 generator_number_at generators ts = do
@@ -87,11 +93,10 @@ generator_number_at generators ts = do
   outside ← close_at n.1
   Ok (i, outside)
 
--- the number of one of so many lines, in braces
+-- the number of one of so many lines, behind its opening brace
 unfoldable pub line_number_at : ℕ → List Token → Result (ℕ × List Token) Kind
 line_number_at lines ts = do
-  inside ← open_brace_at ts
-  n ← literal_at inside
+  n ← literal_at ts
   k ← counted lines n.0
   outside ← close_brace_at n.1
   Ok (k, outside)
@@ -115,7 +120,7 @@ term_row_at p a generators ts = do
 -- what a part multiplies: a generator's number in brackets, or a line's in braces
 unfoldable pub multiplied_at : ℕ → ℕ → List Token → Result (Factor × List Token) Kind
 multiplied_at generators lines (OpenBrace ∷ rest) = do
-  k ← line_number_at lines (OpenBrace ∷ rest)
+  k ← line_number_at lines rest
   Ok (Factor.a_line k.0, k.1)
 multiplied_at generators lines ts = do
   i ← generator_number_at generators ts

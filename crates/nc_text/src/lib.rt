@@ -5,14 +5,16 @@
 ghost use Rattle.nc_text.specs.Laws.{OneCertificate, ReadsCertificates, ReadsMonomials, ReadsPolynomials, ReadsWhatIsPrinted, SameWords};
 
 mod certificate;
+mod lines;
 mod polynomial;
 mod rows;
 mod setting;
+mod sides;
 #[cfg(test)]
 mod tests;
 mod word;
 
-pub use certificate::read_certificate;
+pub use certificate::{MAX_BYTES, read_certificate};
 pub use nc_print::{write_certificate, write_poly, write_sig};
 pub use nc_tokens::{Kind, ReadFault, TextFault};
 

@@ -7,7 +7,7 @@ ghost use Rattle.std.specs.Prelude.{IfOk, length, ◌<◌, ◌≡◌, ◌≤◌}
 
 use crate::word::word_of;
 use nc_field::{Prime, Residue};
-use nc_module::Name;
+use nc_module::Alphabet;
 use nc_poly::{Poly, Term};
 use nc_tokens::{LineError, Token, Tokens, misplaced};
 use nc_words::Word;
@@ -28,12 +28,11 @@ fn residue_of(prime: Prime, negative: bool, number: u64) -> Residue
 
 /// Reads what stands behind the literal of a term.
 #[tactic(auto, unfolding(crate::specs::Reading::word_behind))]
-fn word_behind(alloc: Global, names: &[Name], line: &mut Tokens<'_>) -> Result<Word, LineError>
-    requires few { length names.now ≤ 64 }
-    ensures { Gives (λ w. (w, line.new)) result (word_behind names.now line.old) }
+fn word_behind(alloc: Global, alphabet: &Alphabet, line: &mut Tokens<'_>) -> Result<Word, LineError>
+    ensures { Gives (λ w. (w, line.new)) result (word_behind alphabet.now line.old) }
 {
     if line.takes_times() {
-        return word_of(alloc, names, line);
+        return word_of(alloc, alphabet, line);
     }
     Ok(Word::empty(alloc))
 }
@@ -43,21 +42,20 @@ fn word_behind(alloc: Global, names: &[Name], line: &mut Tokens<'_>) -> Result<W
 fn term_of(
     alloc: Global,
     prime: Prime,
-    names: &[Name],
+    alphabet: &Alphabet,
     negative: bool,
     line: &mut Tokens<'_>,
 ) -> Result<Term, LineError>
-    requires few { length names.now ≤ 64 }
-    ensures reads { Gives (λ t. (t, line.new)) result (term_at prime names.now negative line.old) }
+    ensures reads { Gives (λ t. (t, line.new)) result (term_at prime alphabet.now negative line.old) }
     ensures residue { IfOk result (λ t. t.coefficient < prime) }
 {
     match line.takes_literal() {
         Some(number) => {
-            let word = word_behind(alloc, names, line)?;
+            let word = word_behind(alloc, alphabet, line)?;
             Ok(Term::of(residue_of(prime, negative, number), word))
         }
         None => {
-            let word = word_of(alloc, names, line)?;
+            let word = word_of(alloc, alphabet, line)?;
             Ok(Term::of(residue_of(prime, negative, 1), word))
         }
     }
@@ -67,17 +65,16 @@ fn term_of(
 fn sum_of(
     alloc: Global,
     prime: Prime,
-    names: &[Name],
+    alphabet: &Alphabet,
     line: &mut Tokens<'_>,
 ) -> Result<Vec<Term>, LineError>
-    requires few { length names.now ≤ 64 }
-    ensures reads { Gives (λ f. f.items) result (sum_at prime names.now line.old) }
+    ensures reads { Gives (λ f. f.items) result (sum_at prime alphabet.now line.old) }
     ensures residues { IfOk result (λ f. AreResidues prime f.items) }
 {
     let mut terms = Vec::new(alloc);
     let mut negative = line.takes_sign();
     'terms: loop {
-        let term = term_of(alloc, prime, names, negative, line)?;
+        let term = term_of(alloc, prime, alphabet, negative, line)?;
         terms.push(term)?;
         match line.take() {
             Token::End => return Ok(terms),
@@ -93,12 +90,11 @@ fn sum_of(
 pub fn poly_of(
     alloc: Global,
     prime: Prime,
-    names: &[Name],
+    alphabet: &Alphabet,
     line: &mut Tokens<'_>,
 ) -> Result<Poly, LineError>
-    requires few { length names.now ≤ 64 }
-    ensures { Gives (λ f. f) result (poly_at prime names.now line.old) }
+    ensures { Gives (λ f. f) result (poly_at prime alphabet.now line.old) }
 {
-    let terms = sum_of(alloc, prime, names, line)?;
+    let terms = sum_of(alloc, prime, alphabet, line)?;
     Ok(Poly::of_terms(prime, terms))
 }

@@ -1,13 +1,13 @@
-//! The lines `field`, `letters` and `generator`, which give the setting of a text.
+//! The lines `field`, `letters`, `weights` and `generator`, which give the setting of a text.
 
 ghost use Rattle.nc_tokens.specs.Gives.{GivesText};
-ghost use Rattle.nc_text.specs.Settings.{field_line, generator_lines, letters_line, setting_lines};
+ghost use Rattle.nc_text.specs.Settings.{alphabet_lines, field_line, generator_lines, letters_line, setting_lines, weights_line};
 ghost use Rattle.nc_tokens.specs.Unread.{left};
 ghost use Rattle.std.specs.Prelude.{IfOk, length, ◌≤◌};
 
-use crate::rows::{field_of, generator_of, letters_of};
+use crate::rows::{field_of, generator_of, letters_of, weights_of};
 use nc_field::Prime;
-use nc_module::{Name, Setting};
+use nc_module::{Alphabet, Name, Setting};
 use nc_poly::Poly;
 use nc_tokens::{ReadFault, Text, at};
 use std::alloc::Global;
@@ -36,15 +36,39 @@ fn letters_line(alloc: Global, text: &mut Text<'_>) -> Result<Vec<Name>, ReadFau
     Ok(names)
 }
 
+/// Reads the line `weights`, if it comes next; else each letter weighs 1.
+#[tactic(auto, using(nc_tokens::proofs::Told::at_gives), unfolding(crate::specs::Settings::weights_line))]
+fn weights_line(alloc: Global, letters: usize, text: &mut Text<'_>) -> Result<Vec<u8>, ReadFault>
+    ensures { GivesText (λ ms. (ms.items, left text.new)) result (weights_line letters (left text.old)) }
+{
+    match text.takes(b"weights") {
+        None => Ok(vec![in alloc; 1; letters]?),
+        Some(row) => {
+            let mut row = row;
+            let weights = at(row.number, weights_of(alloc, letters, &mut row.tokens))?;
+            Ok(weights)
+        }
+    }
+}
+
+/// Reads the lines `letters` and `weights`.
+#[tactic(auto, unfolding(crate::specs::Settings::alphabet_lines))]
+fn alphabet_of(alloc: Global, text: &mut Text<'_>) -> Result<Alphabet, ReadFault>
+    ensures { GivesText (λ a. (a, left text.new)) result (alphabet_lines (left text.old)) }
+{
+    let names = letters_line(alloc, text)?;
+    let weights = weights_line(alloc, names.len(), text)?;
+    Ok(Alphabet::of(names, weights))
+}
+
 /// Reads the lines `generator`.
 fn generators_of(
     alloc: Global,
     prime: Prime,
-    names: &[Name],
+    alphabet: &Alphabet,
     text: &mut Text<'_>,
 ) -> Result<Vec<Poly>, ReadFault>
-    requires few { length names.now ≤ 64 }
-    ensures { GivesText (λ fs. (fs.items, left text.new)) result (generator_lines prime names.now 1000 (left text.old)) }
+    ensures { GivesText (λ fs. (fs.items, left text.new)) result (generator_lines prime alphabet.now 1000 (left text.old)) }
 {
     let mut generators = Vec::new(alloc);
     let mut room = MAX_GENERATORS;
@@ -52,7 +76,7 @@ fn generators_of(
         let mut row = row;
         let generator = at(
             row.number,
-            generator_of(alloc, prime, names, room, &mut row.tokens),
+            generator_of(alloc, prime, alphabet, room, &mut row.tokens),
         )?;
         generators.push(generator)?;
         room = room.saturating_sub(1);
@@ -60,13 +84,13 @@ fn generators_of(
     Ok(generators)
 }
 
-/// Reads the lines `field`, `letters` and `generator`.
+/// Reads the lines `field`, `letters`, `weights` and `generator`.
 #[tactic(auto, unfolding(crate::specs::Settings::setting_lines))]
 pub fn setting_of(alloc: Global, text: &mut Text<'_>) -> Result<Setting, ReadFault>
     ensures { GivesText (λ s. (s, left text.new)) result (setting_lines (left text.old)) }
 {
     let prime = field_line(text)?;
-    let names = letters_line(alloc, text)?;
-    let generators = generators_of(alloc, prime, &names, text)?;
-    Ok(Setting::of(prime, names, generators))
+    let alphabet = alphabet_of(alloc, text)?;
+    let generators = generators_of(alloc, prime, &alphabet, text)?;
+    Ok(Setting::of(prime, alphabet, generators))
 }

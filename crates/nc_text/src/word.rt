@@ -1,13 +1,12 @@
 //! Words of a text.
 
-ghost use Rattle.nc_algebra.specs.Certificates.{letter_at};
-ghost use Rattle.nc_algebra.specs.Words.{word_weight};
+ghost use Rattle.nc_algebra.specs.Alphabets.{IsTextWord};
 ghost use Rattle.nc_tokens.specs.Gives.{Gives};
 ghost use Rattle.nc_text.specs.Reading.{factor_at, lengthened, letter_of, word_at};
 ghost use Rattle.std.specs.Prelude.{IfOk, IfSome, OnOk, length, position, ◌<◌, ◌≡◌, ◌≤◌};
 ghost use Rattle.std.specs.Str.{bytes_eq};
 
-use nc_module::Name;
+use nc_module::{Alphabet, Name};
 use nc_tokens::{Kind, LineError, Tokens};
 use nc_words::{Letter, Word};
 use std::alloc::Global;
@@ -24,25 +23,13 @@ fn place_of(names: &[Name], name: &[u8]) -> Option<usize>
 }
 
 /// The number of the letter that has a name.
-fn letter_of(names: &[Name], name: &[u8]) -> Result<u8, LineError>
-    requires { length names.now ≤ 64 }
+fn letter_of(names: &[Name], name: &[u8]) -> Result<usize, LineError>
     ensures reads { Gives (λ x. x) result (letter_of names.now name.now) }
-    ensures few { IfOk result (λ x. x < 64) }
+    ensures within { IfOk result (λ x. x < length names.now) }
 {
     match place_of(names, name) {
-        Some(letter) => Ok(letter as u8),
+        Some(letter) => Ok(letter),
         None => Err(LineError::Fault(Kind::UnknownName)),
-    }
-}
-
-/// The letter with this number, which weighs 1.
-fn letter_at(index: u8) -> Letter
-    requires { index < 64 }
-    ensures { result ≡ letter_at index }
-{
-    match Letter::of(index, 1) {
-        Some(letter) => letter,
-        None => unreachable!(),
     }
 }
 
@@ -63,43 +50,40 @@ fn lengthen(word: &mut Vec<Letter>, letter: Letter, times: u64) -> Result<(), Li
 
 /// Reads a factor, and writes it behind the word.
 #[tactic(auto, unfolding(crate::specs::Reading::factor_at))]
-fn factor(word: &mut Vec<Letter>, names: &[Name], line: &mut Tokens<'_>) -> Result<(), LineError>
-    requires few { length names.now ≤ 64 }
+fn factor(word: &mut Vec<Letter>, alphabet: &Alphabet, line: &mut Tokens<'_>) -> Result<(), LineError>
     requires short { length word.old.items ≤ 255 }
-    ensures reads { Gives (λ _. (word.new.items, line.new)) result (factor_at names.now word.old.items line.old) }
+    ensures reads { Gives (λ _. (word.new.items, line.new)) result (factor_at alphabet.now word.old.items line.old) }
     ensures short { OnOk result (length word.new.items ≤ 255) }
 {
     let name = line.name()?;
-    let letter = letter_of(names, name)?;
+    let letter = letter_of(alphabet.names(), name)?;
     let exponent = line.exponent()?;
-    lengthen(word, letter_at(letter), exponent)
+    lengthen(word, alphabet.letter(letter), exponent)
 }
 
 /// Reads the letters of a word.
 fn letters_of_word(
     alloc: Global,
-    names: &[Name],
+    alphabet: &Alphabet,
     line: &mut Tokens<'_>,
 ) -> Result<Vec<Letter>, LineError>
-    requires few { length names.now ≤ 64 }
-    ensures reads { Gives (λ w. (w.items, line.new)) result (word_at names.now line.old) }
+    ensures reads { Gives (λ w. (w.items, line.new)) result (word_at alphabet.now line.old) }
     ensures short { IfOk result (λ w. length w.items ≤ 255) }
 {
     let mut word = Vec::new(alloc);
-    factor(&mut word, names, line)?;
+    factor(&mut word, alphabet, line)?;
     'factors: while line.takes_times() {
-        factor(&mut word, names, line)?;
+        factor(&mut word, alphabet, line)?;
     }
     Ok(word)
 }
 
 /// Reads a word.
-pub fn word_of(alloc: Global, names: &[Name], line: &mut Tokens<'_>) -> Result<Word, LineError>
-    requires few { length names.now ≤ 64 }
-    ensures reads { Gives (λ w. (w, line.new)) result (word_at names.now line.old) }
-    ensures light { IfOk result (λ w. word_weight w ≤ 255) }
+pub fn word_of(alloc: Global, alphabet: &Alphabet, line: &mut Tokens<'_>) -> Result<Word, LineError>
+    ensures reads { Gives (λ w. (w, line.new)) result (word_at alphabet.now line.old) }
+    ensures text { IfOk result (λ w. IsTextWord alphabet.now w) }
 {
-    let letters = letters_of_word(alloc, names, line)?;
+    let letters = letters_of_word(alloc, alphabet, line)?;
     let word = Word::join(alloc, &letters, &[], &[])?;
     Ok(word)
 }

@@ -1,6 +1,6 @@
 -- Reading lines with one keyword, one after the other, as a loop does.
 use Rattle.nc_tokens.specs.Gives.{FailsText}
-use Rattle.nc_tokens.specs.Lines.{End, Line, Row, Written, a_line, at_line, begins, behind, row}
+use Rattle.nc_tokens.specs.Lines.{End, Line, Row, Written, a_line, at_line, begins, behind, row, lines_left}
 use Rattle.nc_tokens.specs.Wanted.{◌>>=◌}
 use Rattle.nc_tokens.specs.Tokens.{Token}
 use Rattle.nc_tokens.specs.declared.fault.Kind.{Kind}
@@ -9,11 +9,6 @@ use Rattle.nc_tokens.specs.declared.fault.ReadFault.TheVariants as faults
 use Rattle.nc_tokens.specs.declared.fault.TextFault.{TextFault}
 use Rattle.std.proofs.Common.{Bool, Err, List, None, Ok, Result, Some, [], ap, append_assoc, arith, cond, false, refl, subst, sym, true, ℕ, ◌&&◌, ◌++◌, ◌+◌, ◌-◌, ◌<◌, ◌∙◌, ◌∷◌, ◌≡◌}
 use Rattle.std.proofs.lemmas.List.{append-nil}
-
--- how many lines are left
-abbrev pub lines_left : Written → ℕ
-lines_left (End n) = 0
-lines_left (Line n clean ts after) = lines_left after + 1
 
 one_line : (b : Bool) (r s : Row) → cond b (Some r) None ≡ Some s → (b ≡ true) × (r ≡ s)
 one_line true r s e = (refl, cc)

@@ -44,6 +44,11 @@ written n [] = End n
 written n (line ∷ lines) = if list_all is_blank (content line) then written (n + 1) lines
     else Line n (list_all is_allowed (content line)) (tokens (content line)) (written (n + 1) lines)
 
+-- how many lines are left
+abbrev pub lines_left : Written → ℕ
+lines_left (End n) = 0
+lines_left (Line n clean ts after) = lines_left after + 1
+
 -- ---- taking the next line
 
 -- a fault in line n

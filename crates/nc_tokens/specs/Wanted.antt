@@ -1,5 +1,5 @@
 -- What is wanted next in a line: a value and the tokens after it, or the first fault.
-use Rattle.nc_tokens.specs.Tokens.{Close, CloseBrace, Literal, Long, Minus, Name, Open, OpenBrace, Plus, Power, Token}
+use Rattle.nc_tokens.specs.Tokens.{Close, CloseBrace, Literal, Long, Minus, Name, Open, Plus, Power, Token}
 use Rattle.nc_tokens.specs.declared.fault.Kind.TheVariants.{LongLiteral, Syntax}
 use Rattle.nc_tokens.specs.declared.fault.Kind.{Kind}
 use Rattle.std.specs.Prelude.{Bool, Err, List, Ok, Result, [], false, true, ℕ, ◌∷◌}
@@ -51,12 +51,7 @@ unfoldable pub close_at : List Token → Result (List Token) Kind
 close_at (Close ∷ rest) = Ok rest
 close_at ts = Err (misplaced ts)
 
--- the brace before a line's number
-unfoldable pub open_brace_at : List Token → Result (List Token) Kind
-open_brace_at (OpenBrace ∷ rest) = Ok rest
-open_brace_at ts = Err (misplaced ts)
-
--- the brace behind it
+-- the brace behind a line's number
 unfoldable pub close_brace_at : List Token → Result (List Token) Kind
 close_brace_at (CloseBrace ∷ rest) = Ok rest
 close_brace_at ts = Err (misplaced ts)

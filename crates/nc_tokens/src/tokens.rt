@@ -1,7 +1,7 @@
 //! A line's tokens, one after the other.
 
 ghost use Rattle.nc_tokens.specs.Gives.{Gives};
-ghost use Rattle.nc_tokens.specs.Wanted.{close_at, close_brace_at, end_at, exponent_at, literal_at, name_at, open_at, open_brace_at, sign_at};
+ghost use Rattle.nc_tokens.specs.Wanted.{close_at, close_brace_at, end_at, exponent_at, literal_at, name_at, open_at, sign_at};
 ghost use Rattle.nc_tokens.specs.Shown.{IsMisplaced, IsTaken, IsTakenLiteral, before};
 ghost use Rattle.nc_tokens.specs.Tokens as spec;
 ghost use Rattle.nc_tokens.specs.Tokens.{tokens};
@@ -144,14 +144,17 @@ impl<'a> Tokens<'a> {
         }
     }
 
-    /// Takes a `{`, which is wanted here.
-    #[tactic(auto, unfolding(crate::specs::Wanted::open_brace_at))]
-    pub fn open_brace(&mut self) -> Result<(), LineError>
-        ensures { Gives (λ _. self.new) result (open_brace_at self.old) }
+    /// Takes a `{`, if it comes next.
+    pub fn takes_brace(&mut self) -> bool
+        ensures { IsTaken spec.OpenBrace self.old self.new result }
     {
-        match self.take() {
-            Token::OpenBrace => Ok(()),
-            token => Err(misplaced(token)),
+        let (token, rest) = next_token(self.rest);
+        match token {
+            Token::OpenBrace => {
+                self.rest = rest;
+                true
+            }
+            _ => false,
         }
     }
 

@@ -5,7 +5,7 @@ use Rattle.nc_text.proofs.word.letters_of_word.Given as goal
 
 abbrev pub invariant-factors : goal.invariant-factors
 invariant-factors l = record {
-  reads : IsOnTheWay l.names l.word.items l.line (word_at l.names l.fn.line);
+  reads : IsOnTheWay l.alphabet l.word.items l.line (word_at l.alphabet l.fn.line);
   short : length l.word.items ≤ 255;
 }
 
