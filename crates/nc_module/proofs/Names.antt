@@ -7,9 +7,6 @@ use Rattle.std.proofs.lemmas.Slice.Eq.{bytes_eq-Decides}
 use Rattle.std.specs.List.{list_any}
 use Rattle.std.specs.Str.{bytes_eq}
 
-pub bytes_same : (xs : List ℕ) → bytes_eq xs xs ≡ true
-bytes_same xs = (bytes_eq-Decides xs xs).1 refl
-
 -- a name that no test finds is not among the names
 pub not_among : (x : List ℕ) (names : List (List ℕ)) → list_any (λ n. bytes_eq n x) names ≡ false → ¬ Among x names
 not_among x [] e h = h
@@ -18,7 +15,7 @@ not_among x (y ∷ names) e h =
     by_place k.0 (not_among x names k.1) h
   where
     by_place : bytes_eq y x ≡ false → ¬ Among x names → (x ≡ y) ⊎ Among x names → ⊥
-    by_place apart rest (inl e) = true≢false (sym (bytes_same x) ∙ ap (λ (n : List ℕ). bytes_eq n x) e ∙ apart)
+    by_place apart rest (inl e) = true≢false (sym ((bytes_eq-Decides x x).1 refl) ∙ ap (λ (n : List ℕ). bytes_eq n x) e ∙ apart)
     by_place apart rest (inr h) = rest h
 
 -- and one that a test finds is

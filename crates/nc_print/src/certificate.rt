@@ -1,106 +1,89 @@
 //! Printed certificates.
 
-ghost use Rattle.nc_algebra.specs.Certificates.{element_of, monomial_of};
-ghost use Rattle.nc_print.specs.Printing.{certificate_text, ended, generator_line, names_line, poly_text, term_line};
-ghost use Rattle.std.specs.Prelude.{All, OnOk, [], codes, decimal, flat_map, length, map, ◌++◌, ◌<◌, ◌∷◌, ◌≡◌};
+ghost use Rattle.nc_module.specs.Factors.{factor_of};
+ghost use Rattle.nc_print.specs.Printing.{certificate_text, ended, factor_text, line_lines, part_line};
+ghost use Rattle.std.specs.Prelude.{All, OnOk, [], flat_map, length, map, ◌++◌, ◌<◌, ◌∷◌, ◌≡◌};
 
-use crate::monomial::write_sig;
-use crate::polynomial::{push_number, write_poly};
-use nc_module::{Certificate, ModuleTerm, Name, Setting};
-use nc_poly::Poly;
+use crate::polynomial::{push_number, write_word};
+use crate::setting::{write_poly_line, write_setting};
+use nc_module::{Certificate, Line, Name, Of, Part};
 use std::alloc::AllocError;
 
-/// Appends a line with a keyword and a polynomial.
-fn write_poly_line(
-    out: &mut Vec<u8>,
-    keyword: &[u8],
-    names: &[Name],
-    f: &Poly,
-) -> Result<(), AllocError>
-    requires { All (λ t. All (λ x. x.index < length names.now) t.key) f.now }
-    ensures { OnOk result (out.new.items ≡ out.old.items ++ (keyword.now ++ poly_text names.now f.now ++ 10 ∷ [])) }
+/// Appends what a part multiplies.
+fn write_factor(out: &mut Vec<u8>, of: Of) -> Result<(), AllocError>
+    ensures { OnOk result (out.new.items ≡ out.old.items ++ factor_text (factor_of of)) }
 {
-    out.extend_from_slice(keyword)?;
-    write_poly(out, names, f)?;
-    out.extend_from_slice(b"\n")
-}
-
-/// Appends the names, with a space before each.
-fn push_names(out: &mut Vec<u8>, names: &[Name]) -> Result<(), AllocError>
-    ensures { OnOk result (out.new.items ≡ out.old.items ++ flat_map (λ name. codes " " ++ name) names.now) }
-{
-    for name in names {
-        out.push(b' ')?;
-        out.extend_from_slice(name.bytes())?;
+    match of {
+        Of::Generator(i) => {
+            out.extend_from_slice(b" [")?;
+            push_number(out, i)?;
+            out.extend_from_slice(b"] ")
+        }
+        Of::Line(k) => {
+            out.extend_from_slice(b" {")?;
+            push_number(out, k)?;
+            out.extend_from_slice(b"} ")
+        }
     }
-    Ok(())
 }
 
-/// Appends the lines `generator`.
-fn write_generators(
-    out: &mut Vec<u8>,
-    names: &[Name],
-    generators: &[Poly],
-) -> Result<(), AllocError>
-    requires { All (λ f. All (λ t. All (λ x. x.index < length names.now) t.key) f) generators.now }
-    ensures { OnOk result (out.new.items ≡ out.old.items ++ ended (map (generator_line names.now) generators.now)) }
+/// Appends a line `part`.
+fn write_part(out: &mut Vec<u8>, names: &[Name], part: &Part) -> Result<(), AllocError>
+    requires left { All (λ x. x.index < length names.now) part.now.left }
+    requires right { All (λ x. x.index < length names.now) part.now.right }
+    ensures { OnOk result (out.new.items ≡ out.old.items ++ (part_line names.now part.now ++ 10 ∷ [])) }
 {
-    for f in generators {
-        write_poly_line(out, b"generator ", names, f)?;
-    }
-    Ok(())
-}
-
-/// Appends the lines `field`, `letters` and `generator`.
-fn write_setting(out: &mut Vec<u8>, s: &Setting) -> Result<(), AllocError>
-    ensures { OnOk result (out.new.items ≡ out.old.items ++ ended ((codes "field " ++ decimal s.now.setting.prime) ∷ names_line s.now.names ∷ map (generator_line s.now.names) s.now.setting.generators)) }
-{
-    let names = s.names();
-    out.extend_from_slice(b"field ")?;
-    push_number(out, s.prime().number())?;
-    out.extend_from_slice(b"\nletters")?;
-    push_names(out, names)?;
-    out.push(b'\n')?;
-    write_generators(out, names, s.generators())
-}
-
-/// Appends a line `term`.
-fn write_term_line(out: &mut Vec<u8>, names: &[Name], t: &ModuleTerm) -> Result<(), AllocError>
-    requires left { All (λ x. x.index < length names.now) t.now.key.left }
-    requires right { All (λ x. x.index < length names.now) t.now.key.right }
-    ensures { OnOk result (out.new.items ≡ out.old.items ++ (term_line names.now (record { coefficient = t.now.coefficient; key = monomial_of t.now.key }) ++ 10 ∷ [])) }
-{
-    out.extend_from_slice(b"term ")?;
-    push_number(out, t.coefficient)?;
+    out.extend_from_slice(b"part ")?;
+    push_number(out, part.coefficient)?;
     out.push(b' ')?;
-    write_sig(out, names, &t.at)?;
+    write_word(out, names, part.left.letters())?;
+    write_factor(out, part.of)?;
+    write_word(out, names, part.right.letters())?;
     out.extend_from_slice(b"\n")
 }
 
-/// Appends the lines `term`.
-fn write_term_lines(
-    out: &mut Vec<u8>,
-    names: &[Name],
-    terms: &[ModuleTerm],
-) -> Result<(), AllocError>
-    requires left { All (λ t. All (λ x. x.index < length names.now) t.key.left) terms.now }
-    requires right { All (λ t. All (λ x. x.index < length names.now) t.key.right) terms.now }
-    ensures { OnOk result (out.new.items ≡ out.old.items ++ ended (map (term_line names.now) (element_of terms.now))) }
+/// Appends the lines `part`.
+fn write_parts(out: &mut Vec<u8>, names: &[Name], parts: &[Part]) -> Result<(), AllocError>
+    requires left { All (λ part. All (λ x. x.index < length names.now) part.left) parts.now }
+    requires right { All (λ part. All (λ x. x.index < length names.now) part.right) parts.now }
+    ensures { OnOk result (out.new.items ≡ out.old.items ++ ended (map (part_line names.now) parts.now)) }
 {
-    for t in terms {
-        write_term_line(out, names, t)?;
+    for part in parts {
+        write_part(out, names, part)?;
     }
     Ok(())
 }
 
-/// Appends the text of a certificate, form 1. After `Err` the text in `out` may be part of it.
+/// Appends the line `line` and its lines `part`.
+fn write_line(out: &mut Vec<u8>, names: &[Name], line: &Line) -> Result<(), AllocError>
+    requires left { All (λ part. All (λ x. x.index < length names.now) part.left) line.now }
+    requires right { All (λ part. All (λ x. x.index < length names.now) part.right) line.now }
+    ensures { OnOk result (out.new.items ≡ out.old.items ++ ended (line_lines names.now line.now)) }
+{
+    out.extend_from_slice(b"line\n")?;
+    write_parts(out, names, line.parts())
+}
+
+/// Appends the lines `line` with their lines `part`.
+fn write_lines(out: &mut Vec<u8>, names: &[Name], lines: &[Line]) -> Result<(), AllocError>
+    requires left { All (λ line. All (λ part. All (λ x. x.index < length names.now) part.left) line) lines.now }
+    requires right { All (λ line. All (λ part. All (λ x. x.index < length names.now) part.right) line) lines.now }
+    ensures { OnOk result (out.new.items ≡ out.old.items ++ ended (flat_map (line_lines names.now) lines.now)) }
+{
+    for line in lines {
+        write_line(out, names, line)?;
+    }
+    Ok(())
+}
+
+/// Appends the text of a certificate, by lines. After `Err` the text in `out` may be part of it.
 pub fn write_certificate(out: &mut Vec<u8>, c: &Certificate) -> Result<(), AllocError>
     ensures { OnOk result (out.new.items ≡ out.old.items ++ certificate_text c.now) }
 {
     let names = c.setting.names();
-    out.extend_from_slice(b"certificate 1\n")?;
+    out.extend_from_slice(b"certificate 2\n")?;
     write_setting(out, &c.setting)?;
     write_poly_line(out, b"claim ", names, &c.claim)?;
-    write_term_lines(out, names, c.terms.items())?;
+    write_lines(out, names, c.lines.lines())?;
     out.extend_from_slice(b"end\n")
 }

@@ -4,6 +4,7 @@
 mod certificate;
 mod monomial;
 mod polynomial;
+mod setting;
 #[cfg(test)]
 mod tests;
 

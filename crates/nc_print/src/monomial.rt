@@ -1,6 +1,6 @@
 //! Printed monomials.
 
-ghost use Rattle.nc_algebra.specs.Certificates.{monomial_of};
+ghost use Rattle.nc_algebra.specs.Monomials.{monomial_of};
 ghost use Rattle.nc_print.specs.Printing.{sig_text};
 ghost use Rattle.std.specs.Prelude.{All, OnOk, length, ◌++◌, ◌<◌, ◌≡◌};
 

@@ -1,6 +1,7 @@
 -- What is read as a word or a polynomial may stand in a text.
 use Rattle.nc_algebra.proofs.NormalForms.{normal_form_listed, normal_form_normal}
 use Rattle.nc_algebra.specs.Alphabets.{Alphabet, AreTextWords, IsLetterIn, IsTextPolynomial, IsTextWord, IsWordIn, letter_at}
+use Rattle.nc_algebra.specs.Certificates.{longest}
 use Rattle.nc_algebra.specs.Polynomials.{Polynomial, normal_form}
 use Rattle.nc_algebra.specs.Words.{Letter, Word}
 use Rattle.nc_tokens.proofs.Steps.{on_any, on_bind, on_choice}
@@ -99,3 +100,8 @@ poly_reads p a ts some = on_bind _ _ (sum_at p a ts) _ (sum_reads p a ts) (λ f 
 -- so a word that was read is one
 pub read_is_text : (a : Alphabet) (ts rest : List Token) (w : Word) → word_at a ts ≡ Ok (w, rest) → IsTextWord a w
 read_is_text a ts rest w e = subst (λ r. IfOk r (λ x. IsTextWord a x.0)) e (word_reads a ts)
+
+-- words of a text have at most 255 letters
+pub words_longest : (a : Alphabet) (f : Polynomial) → AllByRecursion (λ t. IsTextWord a t.key) f → longest f ≤ 255
+words_longest a [] h = omega arith
+words_longest a (t ∷ f) h = max_le (length t.key) (longest f) 255 h.0.short (words_longest a f h.1)

@@ -16,3 +16,8 @@ on_any (Err e) = tt
 pub on_choice : {A E : Type 0} (P : A → Type 0) (b : Bool) (r s : Result A E) → (b ≡ true → IfOk r P) → (b ≡ false → IfOk s P) → IfOk (cond b r s) P
 on_choice P true r s when_true when_false = when_true refl
 on_choice P false r s when_true when_false = when_false refl
+
+-- of a value of which more is known
+pub on_weaker : {A E : Type 0} (P Q : A → Type 0) (r : Result A E) → ((x : A) → P x → Q x) → IfOk r P → IfOk r Q
+on_weaker P Q (Ok x) weaker h = weaker x h
+on_weaker P Q (Err e) weaker h = tt
