@@ -10,7 +10,7 @@ mod setting;
 #[cfg(test)]
 mod tests;
 
-pub use alphabet::Alphabet;
+pub use alphabet::{Alphabet, has_name};
 pub use certificate::Certificate;
 pub use line::{Line, Lines, MAX_LINES, Of, Part};
 pub use name::{Name, is_name_byte};

@@ -106,7 +106,7 @@ module _ (s : NamedSetting) (is : IsSetting s) (some : 0 < s.setting.prime) wher
   no_lines reaches = record { lines = tt; words = All-nil (λ line. All (HasTextWords s) line) }
 
   parts_of : (reaches : List ℕ) (parts : List Part) → All (IsTextPart s reaches) parts → All (IsPart s reaches) parts
-  parts_of reaches parts h = All-weaker (IsTextPart s reaches) (IsPart s reaches) (λ part k. k.part) parts h
+  parts_of reaches parts h = All-weaker (IsTextPart s reaches) (IsPart s reaches) (λ part k. k.rule) parts h
 
   words_of : (reaches : List ℕ) (parts : List Part) → All (IsTextPart s reaches) parts → All (HasTextWords s) parts
   words_of reaches parts h = All-weaker (IsTextPart s reaches) (HasTextWords s) (λ part k. k.words) parts h

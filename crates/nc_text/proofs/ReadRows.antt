@@ -147,7 +147,7 @@ mono_reads a generators ts =
 
 -- a part that may stand in a text
 pub record IsTextPart (s : NamedSetting) (reaches : List ℕ) (part : Part) : Type 0 where
-  pub part : IsPart s reaches part
+  pub rule : IsPart s reaches part
   pub words : HasTextWords s part
 
 -- a generator has short words
@@ -158,7 +158,7 @@ pub term_reads : (s : NamedSetting) (ts : List Token) → IsSetting s → 0 < s.
 unfolding term_row_at
 term_reads s ts is some =
     on_bind _ _ (literal_at ts) _ (on_any (literal_at ts)) (λ c _. on_bind _ _ (mono_at s.alphabet (length s.setting.generators) c.1) _ (mono_reads s.alphabet (length s.setting.generators) c.1) (λ σ h. record {
-      part = record {
+      rule = record {
         residue = mod-lt c.0 some;
         factor = (h.some, h.listed);
         left = h.left.letters;
@@ -184,6 +184,6 @@ part_reads s reaches ts some =
     on_bind _ _ (side_at s.alphabet of.1) _ (side_reads s.alphabet of.1) (λ right right_text. on_bind _ _ (end_at right.1) _ (on_any (end_at right.1)) (λ _ _.
     let part : Part = record { coefficient = c.0 % s.setting.prime; left = left.0; of = of.0; right = right.0 } in
     on_weaker _ _ (within_reach s.setting reaches part) (λ q is. subst (λ (r : Part). IsTextPart s reaches r) (sym is.0) (record {
-      part = record { residue = mod-lt c.0 some; factor = is_factor; left = left_text.letters; right = right_text.letters; short = is.1 };
+      rule = record { residue = mod-lt c.0 some; factor = is_factor; left = left_text.letters; right = right_text.letters; short = is.1 };
       words = record { left = left_text; right = right_text };
     })) (within_reads s.setting reaches part))))))

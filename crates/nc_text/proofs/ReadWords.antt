@@ -10,11 +10,13 @@ use Rattle.nc_tokens.specs.Wanted.{exponent_at, name_at, sign_at}
 use Rattle.nc_tokens.specs.Tokens.{Literal, Minus, Plus, Times, Token}
 use Rattle.nc_tokens.specs.declared.fault.Kind.{Kind}
 use Rattle.nc_tokens.specs.declared.fault.Kind.TheVariants.{LongWord, UnknownName}
-use Rattle.std.proofs.Common.{All, Bool, Err, List, None, Ok, IfOk, Option, Result, Some, [], arith, bytes_eq, false, length, ltb, ok_or, position, refl, replicate, subst, suc, true, zero, ℕ, ◌++◌, ◌+◌, ◌<◌, ◌∷◌, ◌≡◌}
+use Rattle.std.proofs.Common.{All, Bool, Err, List, None, Ok, IfOk, Option, Result, Some, [], arith, bytes_eq, false, length, ltb, ok_or, position, refl, replicate, subst, suc, true, zero, ℕ, ◌++◌, ◌+◌, ◌<◌, ◌∷◌, ◌≡◌, ◌≤◌}
 use Rattle.std.proofs.lemmas.Bool.{ltb-false}
 use Rattle.std.proofs.lemmas.List.Elements.{All-append, All-cons, All-from_recursion, All-nil, All-replicate, recursion_from_All}
 use Rattle.std.proofs.lemmas.List.Quantifiers.{position-Some}
+use Rattle.std.proofs.Math.Nat.{max-le}
 use Rattle.std.proofs.lemmas.List.{length-append, length-replicate}
+use Rattle.std.specs.List.{AllByRecursion}
 
 letter_reads : (names : List (List ℕ)) (name : List ℕ) → IfOk (letter_of names name) (λ l. l < length names)
 letter_reads names name = by_place (position (λ n. bytes_eq n name) names) refl
@@ -104,4 +106,4 @@ read_is_text a ts rest w e = subst (λ r. IfOk r (λ x. IsTextWord a x.0)) e (wo
 -- words of a text have at most 255 letters
 pub words_longest : (a : Alphabet) (f : Polynomial) → AllByRecursion (λ t. IsTextWord a t.key) f → longest f ≤ 255
 words_longest a [] h = omega arith
-words_longest a (t ∷ f) h = max_le (length t.key) (longest f) 255 h.0.short (words_longest a f h.1)
+words_longest a (t ∷ f) h = max-le h.0.short (words_longest a f h.1)

@@ -10,8 +10,6 @@ mod polynomial;
 mod rows;
 mod setting;
 mod sides;
-#[cfg(test)]
-mod tests;
 mod word;
 
 pub use certificate::{MAX_BYTES, read_certificate};

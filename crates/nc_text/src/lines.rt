@@ -1,6 +1,6 @@
 //! The lines of a certificate in its second form.
 
-ghost use Rattle.nc_algebra.specs.Certificates.{IsFactor, longest as longest_of, part_reach};
+ghost use Rattle.nc_algebra.specs.Certificates.{IsFactor, factor_reach, longest as longest_of, part_reach};
 ghost use Rattle.nc_module.specs.Factors.{factor_of};
 ghost use Rattle.nc_text.specs.Certificates.{line_lines, part_lines};
 ghost use Rattle.nc_text.specs.Rows.{part_at};
@@ -41,21 +41,31 @@ fn longest_of_generators(alloc: Global, setting: &Setting) -> Result<Vec<usize>,
     Ok(all)
 }
 
+/// How far what is multiplied reaches.
+fn inside_of(setting: &Setting, longest: &[usize], reaches: &[usize], of: Of) -> usize
+    requires generators { longest.now ≡ map longest_of setting.now.setting.generators }
+    requires factor { IsFactor setting.now.setting (length reaches.now) (factor_of of) }
+    requires short { All (λ m. m ≤ 100000) longest.now }
+    requires reached { All (λ m. m ≤ 100000) reaches.now }
+    ensures value { result ≡ factor_reach setting.now.setting reaches.now (factor_of of) }
+    ensures short { result ≤ 100000 }
+{
+    let _ = setting.prime();
+    match of {
+        Of::Generator(i) => longest[i as usize - 1],
+        Of::Line(k) => reaches[k as usize - 1],
+    }
+}
+
 /// How far a part reaches: its words and the longest word of what it multiplies.
 fn reach_of(setting: &Setting, longest: &[usize], reaches: &[usize], part: &Part) -> usize
     requires generators { longest.now ≡ map longest_of setting.now.setting.generators }
     requires factor { IsFactor setting.now.setting (length reaches.now) part.now.of }
     requires short { All (λ m. m ≤ 100000) longest.now }
     requires reached { All (λ m. m ≤ 100000) reaches.now }
-    requires left { length part.now.left ≤ 255 }
-    requires right { length part.now.right ≤ 255 }
     ensures { result ≡ part_reach setting.now.setting reaches.now part.now }
 {
-    let _ = setting.prime();
-    let inside = match part.of {
-        Of::Generator(i) => longest[i as usize - 1],
-        Of::Line(k) => reaches[k as usize - 1],
-    };
+    let inside = inside_of(setting, longest, reaches, part.of);
     part.left.letters().len() + inside + part.right.letters().len()
 }
 

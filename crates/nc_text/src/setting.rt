@@ -57,7 +57,7 @@ fn alphabet_of(alloc: Global, text: &mut Text<'_>) -> Result<Alphabet, ReadFault
     ensures { GivesText (λ a. (a, left text.new)) result (alphabet_lines (left text.old)) }
 {
     let names = letters_line(alloc, text)?;
-    let weights = weights_line(alloc, names.len(), text)?;
+    let weights = weights_line(alloc, names.as_slice().len(), text)?;
     Ok(Alphabet::of(names, weights))
 }
 

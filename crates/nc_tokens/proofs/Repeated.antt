@@ -57,11 +57,11 @@ pub passed_by : {A : Type 0} (keyword : List ℕ) (n : ℕ) (clean : Bool) (ts :
 unfolding a_line
 passed_by keyword n clean ts after read other e = ap (λ (b : Bool). cond b read other) (no_line (clean && begins keyword ts) (row n (behind ts) after) e)
 
-regroup : {A : Type 0} (front : List A) (x : A) (r : Read A) → with_front front (with_first r x) ≡ with_front (front ++ x ∷ []) r
+pub regroup : {A : Type 0} (front : List A) (x : A) (r : Read A) → with_front front (with_first r x) ≡ with_front (front ++ x ∷ []) r
 regroup front x (Ok y) = ap (λ (l : List _). Ok (l, y.1)) (sym (append_assoc front (x ∷ []) y.0))
 regroup front x (Err e) = refl
 
-no_front : {A : Type 0} (r : Read A) → with_front [] r ≡ r
+pub no_front : {A : Type 0} (r : Read A) → with_front [] r ≡ r
 no_front (Ok x) = refl
 no_front (Err e) = refl
 
@@ -72,7 +72,7 @@ pub record IsOnTheWay {A : Type 0} (all : ℕ → Written → Read A) (front : L
 pub begin : {A : Type 0} (all : ℕ → Written → Read A) (room : ℕ) (w : Written) → IsOnTheWay all [] room w (all room w)
 begin all room w = record { same = no_front (all room w) }
 
-bind_fails : {A B : Type 0} (e : ReadFault) (r : Result A TextFault) (f : A → Result B TextFault) → FailsText e r → FailsText e (r >>= f)
+pub bind_fails : {A B : Type 0} (e : ReadFault) (r : Result A TextFault) (f : A → Result B TextFault) → FailsText e r → FailsText e (r >>= f)
 bind_fails faults.OutOfMemory r f h = tt
 bind_fails (faults.Text k) r f h = ap (λ x. x >>= f) h
 

@@ -23,7 +23,7 @@ pub terms-preserved : goal.terms-preserved
 terms-preserved c =
     let read = at_gives (λ (q : Part). q) _ _ _ _ c.at.ensures c.term_of.ensures in
     let s = c.args.setting.now in
-    rw c.in_ok-push.ensures (goes_on _ _ _ (are_lines s.setting.prime s.alphabet (length s.setting.generators)) _ _ _ _ _ _ c.in-Some.ensures (rw c.in_ok-part.was at read) c.terms.invariant)
+    rw c.in_ok-push.ensures.added (goes_on _ _ _ (are_lines s.setting.prime s.alphabet (length s.setting.generators)) _ _ _ _ _ _ c.in-Some.ensures (rw c.in_ok-part.was at read) c.terms.invariant)
 
 pub returns : goal.returns
 returns c =
