@@ -8,7 +8,7 @@ use Rattle.nc_algebra.specs.Elements.{IsGenerator, generator, generator_weight}
 use Rattle.nc_algebra.specs.Polynomials.{IsNormal, Polynomial, leading}
 use Rattle.nc_algebra.specs.Sums.{Term}
 use Rattle.nc_algebra.specs.Words.{Word, word_weight}
-use Rattle.std.proofs.Common.{[], ap, arith, get_or, length, subst, sym, ℕ, ◌-◌, ◌∙◌, ◌∷◌, ◌≡◌, ◌≤◌}
+use Rattle.std.proofs.Common.{[], ap, arith, get_or, refl, subst, sym, ℕ, ◌-◌, ◌∙◌, ◌∷◌, ◌≡◌, ◌≤◌}
 use Rattle.std.proofs.lemmas.List.{get_or_read}
 use Rattle.std.proofs.lemmas.List.Elements.{recursion_from_All}
 use Rattle.std.specs.List.{All}
@@ -29,3 +29,14 @@ first_is_short s i t f is h e =
     let words = recursion_from_All (λ u. IsTextWord s.alphabet u.key) (t ∷ f) (subst (λ (g : Polynomial). All (λ u. IsTextWord s.alphabet u.key) g) e h.polynomial.words) in
     let first : IsTextWord s.alphabet t.key = words.0 in
     text_word_light s.alphabet is.alphabet t.key first
+
+-- so a generator weighs at most 25,500
+pub generator_weighs : (s : NamedSetting) (i : ℕ) → IsSetting s → IsGenerator s.setting i → generator_weight s.setting i ≤ 25500
+generator_weighs s i is g = by_terms (generator s.setting i) refl
+  where
+    text : IsTextGenerator s.alphabet s.setting.prime (generator s.setting i)
+    text = generator_is_text s i is g
+
+    by_terms : (f : Polynomial) → generator s.setting i ≡ f → generator_weight s.setting i ≤ 25500
+    by_terms [] e = absurd (text.nonzero e)
+    by_terms (t ∷ f) e = omega (arith, weight_first s i t f text e, first_is_short s i t f is text e)

@@ -13,3 +13,12 @@ pub mod Reaches
 pub mod PartLines
 pub mod Weights
 pub mod LinesLeft
+pub mod ReadProblems
+pub mod Names
+pub mod RoundTripPolynomials
+pub mod RoundTripRows
+pub mod PrintedLines
+pub mod PlainText
+pub mod RoundTripCertificates
+pub mod RoundTripParts
+pub mod Examples

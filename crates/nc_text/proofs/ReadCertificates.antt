@@ -26,7 +26,7 @@ use Rattle.std.proofs.lemmas.List.{length-replicate}
 listed_positive : (p : ℕ) → is_listed_prime p ≡ true → 0 < p
 listed_positive p listed = let one : 1 < p = (listed_is_prime p listed).above_one in omega (arith, one)
 
-at_line_reads : {A : Type 0} (P : A → Type 0) (n : ℕ) (r : Result A Kind) → IfOk r P → IfOk (at_line n r) P
+pub at_line_reads : {A : Type 0} (P : A → Type 0) (n : ℕ) (r : Result A Kind) → IfOk r P → IfOk (at_line n r) P
 at_line_reads P n (Ok x) h = h
 at_line_reads P n (Err e) h = tt
 

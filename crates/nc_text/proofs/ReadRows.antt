@@ -23,7 +23,7 @@ use Rattle.std.proofs.lemmas.List.Elements.{All-cons, All-nil, All-push, recursi
 use Rattle.std.proofs.lemmas.List.{length-append}
 use Rattle.std.specs.List.{list_any}
 
-checked_reads : (b : Bool) (k : Kind) (n : ℕ) → IfOk (checked b k n) (λ m. (b ≡ true) × (m ≡ n))
+pub checked_reads : (b : Bool) (k : Kind) (n : ℕ) → IfOk (checked b k n) (λ m. (b ≡ true) × (m ≡ n))
 checked_reads b k n = on_choice (λ m. (b ≡ true) × (m ≡ n)) b (Ok n) (Err k) (λ yes. (yes, refl)) (λ no. tt)
 
 -- ---- field

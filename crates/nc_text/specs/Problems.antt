@@ -39,10 +39,15 @@ claim_in p a w (Some line) = at_line line.number (poly_at p a line.tokens) >>= �
 unfoldable pub optional_claim : ℕ → Alphabet → Written → Result (Option Polynomial × Written) TextFault
 optional_claim p a w = claim_in p a w (a_line (codes "claim") w)
 
+-- the line `claim`, which must come next
 unfoldable pub wanted_claim : ℕ → Alphabet → Written → Result (Option Polynomial × Written) TextFault
 wanted_claim p a w = do
   claim ← claim_line p a w
   Ok (Some claim.0, claim.1)
+
+-- one of the two
+abbrev pub claim_at : Bool → ℕ → Alphabet → Written → Result (Option Polynomial × Written) TextFault
+claim_at wants_claim p a w = if wants_claim then wanted_claim p a w else optional_claim p a w
 
 -- all lines of a problem, with a claim where one is wanted
 unfoldable pub problem_at : Bool → Written → Result ProblemText TextFault
@@ -50,7 +55,7 @@ problem_at wants_claim w = do
   setting ← setting_lines w
   bound ← bound_line setting.0.alphabet (length setting.0.setting.generators) setting.1
   steps ← steps_line bound.1
-  claim ← if wants_claim then wanted_claim setting.0.setting.prime setting.0.alphabet steps.1 else optional_claim setting.0.setting.prime setting.0.alphabet steps.1
+  claim ← claim_at wants_claim setting.0.setting.prime setting.0.alphabet steps.1
   _ ← the_end claim.1
   Ok (record { problem = record { problem = record { setting = setting.0.setting; bound = bound.0; steps = steps.0 }; alphabet = setting.0.alphabet }; claim = claim.0 })
 

@@ -148,10 +148,16 @@ degree_at ts = do
   _ ← end_at n.1
   Ok (Bound.to_degree d)
 
+-- behind `below`: MONO
+unfoldable pub below_at : Alphabet → ℕ → List Token → Result Bound Kind
+below_at a generators ts = do
+  β ← mono_at a generators ts
+  Ok (Bound.under β)
+
 -- bound: `degree` and a literal, or `below` and MONO
 unfoldable pub bound_at : Alphabet → ℕ → List Token → Result Bound Kind
 bound_at a generators (Name word ∷ rest) = if bytes_eq word (codes "degree") then degree_at rest
-    else (if bytes_eq word (codes "below") then (mono_at a generators rest >>= λ β. Ok (Bound.under β)) else Err Syntax)
+    else (if bytes_eq word (codes "below") then below_at a generators rest else Err Syntax)
 bound_at a generators ts = Err (misplaced ts)
 
 -- steps: a literal of at most 1,000,000,000

@@ -2,6 +2,7 @@
 
 ghost use Rattle.nc_algebra.specs.Alphabets.{IsTextWord};
 ghost use Rattle.nc_algebra.specs.Certificates.{IsFactor};
+ghost use Rattle.nc_algebra.specs.Elements.{IsGenerator};
 ghost use Rattle.nc_module.specs.Factors.{factor_of};
 ghost use Rattle.nc_text.specs.Rows.{counted, generator_number_at, line_number_at, mono_at, multiplied_at, side_at, term_row_at};
 ghost use Rattle.nc_tokens.specs.Gives.{Gives};
@@ -97,8 +98,11 @@ fn generators_of(setting: &Setting) -> u32
 
 /// Reads a monomial over a setting, to the end of the line.
 #[tactic(auto, unfolding(crate::specs::Rows::mono_at))]
-fn mono_of(alloc: Global, setting: &Setting, line: &mut Tokens<'_>) -> Result<Mono, LineError>
-    ensures { Gives (λ m. m) result (mono_at setting.now.alphabet (length setting.now.setting.generators) line.old) }
+pub fn mono_of(alloc: Global, setting: &Setting, line: &mut Tokens<'_>) -> Result<Mono, LineError>
+    ensures reads { Gives (λ m. m) result (mono_at setting.now.alphabet (length setting.now.setting.generators) line.old) }
+    ensures generator { IfOk result (λ m. IsGenerator setting.now.setting m.generator) }
+    ensures left { IfOk result (λ m. IsTextWord setting.now.alphabet m.left) }
+    ensures right { IfOk result (λ m. IsTextWord setting.now.alphabet m.right) }
 {
     let left = side_of(alloc, setting.alphabet(), line)?;
     let generator = generator_number(generators_of(setting), line)?;
