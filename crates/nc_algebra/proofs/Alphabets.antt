@@ -1,7 +1,7 @@
 -- Words over an alphabet are light.
 use Rattle.nc_algebra.specs.Alphabets.{Alphabet, IsAlphabet, IsLetterIn, IsTextWord, IsWordIn}
 use Rattle.nc_algebra.specs.Words.{Word, letter_weight, word_weight}
-use Rattle.std.proofs.Common.{ap, arith, length, ◌*◌, ◌∙◌, ◌∷◌, [], ◌≡◌, ◌≤◌}
+use Rattle.std.proofs.Common.{ap, arith, length, ◌*◌, ◌∷◌, [], ◌≤◌}
 use Rattle.std.proofs.lemmas.List.Elements.{recursion_from_All}
 use Rattle.std.specs.List.{AllByRecursion}
 

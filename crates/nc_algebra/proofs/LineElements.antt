@@ -5,14 +5,14 @@ use Rattle.nc_algebra.proofs.Sums.{at_other, zero_number}
 use Rattle.nc_algebra.specs.Certificates.{AreLines, Certificate, Factor, IsCertificate, IsPart, Line, Part, element_lines, elements_after, factor_element, factor_value, item, line_element, line_reach, line_value, lines_element, lines_value, part_element, part_value, term_part, values_after, values_of}
 use Rattle.nc_algebra.specs.Elements.{Element, IsGenerator, IsIn, IsLess, Setting, element_times, evaluation, generator, generator_weight}
 use Rattle.nc_algebra.specs.Laws.{Cofactors, ElementLines}
-use Rattle.nc_algebra.specs.Monomials.{Monomial, same_monomial, times, unit_monomial}
+use Rattle.nc_algebra.specs.Monomials.{Monomial, same_monomial}
 use Rattle.nc_algebra.specs.Polynomials.{Polynomial, polynomial_times}
 use Rattle.nc_algebra.specs.Primes.{IsZero}
 use Rattle.nc_algebra.specs.Settings.{NamedSetting}
 use Rattle.nc_algebra.specs.Sums.{Term, coefficient_by, map_keys, scale, substitute}
 use Rattle.nc_algebra.specs.Words.{Word}
-use Rattle.std.proofs.Common.{List, [], ap, ap₂, append_assoc, arith, get_or, inl, inr, length, map, mul_assoc, refl, subst, suc, sym, zero, ℕ, ◌*◌, ◌++◌, ◌+◌, ◌<◌, ◌∙◌, ◌∷◌, ◌≡◌, ◌≢◌, ◌≤◌, ◌⊎◌}
-use Rattle.std.proofs.lemmas.List.{append-nil, length-append, map-append}
+use Rattle.std.proofs.Common.{List, [], ap, ap₂, append_assoc, arith, inl, inr, length, map, refl, subst, suc, sym, zero, ℕ, ◌*◌, ◌++◌, ◌∙◌, ◌∷◌, ◌≡◌, ◌⊎◌}
+use Rattle.std.proofs.lemmas.List.{append-nil, map-append}
 use Rattle.std.proofs.lemmas.List.Elements.{recursion_from_All}
 use Rattle.std.proofs.Math.ListN.{get_or-map}
 use Rattle.std.specs.List.{AllByRecursion}

@@ -68,7 +68,9 @@ impl Alphabet {
         ensures { IsTrue result ↔ IsAlphabet (record { names = names.now; weights = weights.now }) }
     {
         let few = !names.is_empty() && names.len() <= 64 && weights.len() == names.len();
-        few && are_names(names) && are_distinct(names) && weights.iter().all(|w| 1 <= *w && *w <= 100)
+        few && are_names(names)
+            && are_distinct(names)
+            && weights.iter().all(|w| 1 <= *w && *w <= 100)
     }
 
     /// The names, that of letter 0 first.

@@ -61,11 +61,7 @@ fn monomial(alloc: Global, p: Prime, letters: &[Letter]) -> Result<Poly, Fail>
 #[test]
 fn alphabets(rt: HostRuntime) -> Result<(), Fail> {
     let alloc = rt.alloc();
-    for (weights, want) in [
-        (&[1, 100], true),
-        (&[0, 1], false),
-        (&[1, 101], false),
-    ] {
+    for (weights, want) in [(&[1, 100], true), (&[0, 1], false), (&[1, 101], false)] {
         let names = vec![in alloc; name(b"x")?, name(b"y_1")?]?;
         assert_eq!(rt; Alphabet::takes(&names, weights.as_slice()), want);
     }

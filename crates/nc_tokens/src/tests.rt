@@ -89,7 +89,7 @@ fn tokens_are_taken_one_after_the_other(rt: HostRuntime) {
     assert!(rt; tokens.takes_times());
     assert!(rt; tokens.name().is_ok_and(|name| name == b"x".as_slice()));
     assert!(rt; tokens.exponent().is_ok_and(|n| n == 3));
-    assert!(rt; tokens.open_brace().is_ok());
+    assert!(rt; tokens.takes_brace());
     assert!(rt; tokens.literal().is_ok_and(|n| n == 4));
     assert!(rt; tokens.close_brace().is_ok());
     assert!(rt; tokens.open().is_ok());
@@ -98,8 +98,9 @@ fn tokens_are_taken_one_after_the_other(rt: HostRuntime) {
     assert!(rt; tokens.end().is_ok());
 
     let mut tokens = Tokens::of(b"] { ] 9999999999999999999 [");
-    assert!(rt; is_fault(tokens.open_brace(), Kind::Syntax));
+    assert!(rt; !tokens.takes_brace());
     assert!(rt; is_fault(tokens.close_brace(), Kind::Syntax));
+    assert!(rt; tokens.takes_brace());
     assert!(rt; is_fault(tokens.open(), Kind::Syntax));
     assert!(rt; is_fault(tokens.literal(), Kind::LongLiteral));
     assert!(rt; is_fault(tokens.end(), Kind::Syntax));

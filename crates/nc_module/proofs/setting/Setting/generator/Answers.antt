@@ -3,7 +3,7 @@ use Rattle.nc_algebra.specs.Settings.{IsSetting, NamedSetting}
 use Rattle.nc_algebra.specs.Elements.{generator}
 use Rattle.nc_algebra.specs.Polynomials.{Polynomial}
 use Rattle.nc_module.proofs.Settings.{generator_is_text, generator_read}
-use Rattle.std.proofs.Common.{ap, get_or, length, subst, sym, ◌-◌, ◌∙◌, ◌≡◌}
+use Rattle.std.proofs.Common.{ap, get_or, subst, sym, ◌-◌, ◌∙◌, ◌≡◌}
 use Rattle.nc_module.proofs.setting.Setting.generator.Goals as goal
 
 pub returns-clause-generator : goal.returns-clause-generator

@@ -2,7 +2,7 @@ use Rattle.nc_algebra.specs.Alphabets.{IsTextGenerator}
 use Rattle.nc_algebra.specs.Sums.{Term}
 use Rattle.nc_algebra.specs.Words.{Word, word_weight}
 use Rattle.nc_module.proofs.Settings.{first_is_short, weight_first}
-use Rattle.std.proofs.Common.{ap, arith, length, refl, subst, sym, ◌∙◌, ◌≡◌}
+use Rattle.std.proofs.Common.{ap, arith, refl, subst, sym, ◌∙◌, ◌≡◌}
 use Rattle.nc_module.proofs.setting.Setting.weight.Goals as goal
 
 pub unreachable-requires : goal.unreachable-requires
