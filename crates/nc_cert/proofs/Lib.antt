@@ -1,0 +1,5 @@
+pub mod Lines
+pub mod Fits
+pub mod Readiness
+pub mod Differences
+pub mod Letters
