@@ -3,3 +3,4 @@ pub mod Fits
 pub mod Readiness
 pub mod Differences
 pub mod Letters
+pub mod Tested

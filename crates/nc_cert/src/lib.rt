@@ -2,6 +2,8 @@
 #![tactic(auto)]
 
 mod checking;
+#[cfg(test)]
+mod tests;
 mod value;
 
 pub use checking::{Verdict, check};
