@@ -3,7 +3,7 @@ use Rattle.nc_algebra.proofs.Certificates.{valid_by_rest}
 use Rattle.nc_algebra.proofs.NormalForms.{normal_form-normal, normal_form_equal}
 use Rattle.nc_algebra.proofs.Sums.{coefficient-minus, linear_sum-append, linear_sum-scale}
 use Rattle.nc_algebra.proofs.Words.{word_laws}
-use Rattle.nc_algebra.specs.Certificates.{AreLines, Certificate, IsCertificate, IsPart, IsValid, Line, Part, factor_value, line_value, lines_value, part_value, rest_of, values_of}
+use Rattle.nc_algebra.specs.Certificates.{AreLines, Certificate, IsCertificate, IsValid, Line, Part, factor_value, line_value, lines_value, part_value, rest_of, values_of}
 use Rattle.nc_algebra.specs.Elements.{Setting}
 use Rattle.nc_algebra.specs.Polynomials.{IsNormal, Polynomial, coefficient, normal_form, polynomial_times}
 use Rattle.nc_algebra.specs.Settings.{IsSetting, NamedSetting}
@@ -13,7 +13,7 @@ use Rattle.nc_cert.proofs.Fits.{lines_fit}
 use Rattle.nc_cert.proofs.Lines.{last_value, line_behind, lines_before, reaches_after, values_after-push}
 use Rattle.nc_cert.proofs.Readiness.{above_one, line_ready, same_line}
 use Rattle.nc_cert.specs.Ready.{IsReady}
-use Rattle.std.proofs.Common.{List, [], ap, ap₂, arith, drop, get_or, length, map, refl, subst, suc, sym, take, zero, ℕ, ◌%◌, ◌*◌, ◌+◌, ◌++◌, ◌-◌, ◌<◌, ◌∙◌, ◌∷◌, ◌≡◌, ◌≤◌}
+use Rattle.std.proofs.Common.{List, [], ap, arith, drop, get_or, length, map, refl, subst, suc, sym, take, ℕ, ◌%◌, ◌*◌, ◌+◌, ◌++◌, ◌-◌, ◌<◌, ◌∙◌, ◌∷◌, ◌≡◌, ◌≤◌}
 use Rattle.std.proofs.Math.Nat.{add-mod, add-mul-mod_self_left, mod-eq_of_lt}
 use Rattle.std.proofs.lemmas.List.{append_assoc, append-nil, map-append, take-append-drop, take_all, take_more}
 use Rattle.std.proofs.lemmas.Nat.{mul-mod_first, mul-mod_second}

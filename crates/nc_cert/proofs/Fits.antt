@@ -11,7 +11,7 @@ use Rattle.nc_cert.proofs.Lines.{reaches_after}
 use Rattle.std.proofs.Common.{List, [], arith, length, subst, suc, sym, zero, ℕ, ◌++◌, ◌+◌, ◌-◌, ◌∷◌, ◌≤◌}
 use Rattle.std.proofs.lemmas.List.{length-append}
 use Rattle.std.proofs.lemmas.List.Elements.{All-append, recursion_from_All}
-use Rattle.std.specs.List.{All, AllByRecursion, AllZip}
+use Rattle.std.specs.List.{AllByRecursion, AllZip}
 
 -- a word over the alphabet with at most so many letters
 pub record IsWithin (a : Alphabet) (r : ℕ) (w : Word) : Type 0 where

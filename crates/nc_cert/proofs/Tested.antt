@@ -1,13 +1,13 @@
 -- The certificates of the tests.
 use Rattle.nc_algebra.specs.Alphabets.{IsTextGenerator, IsTextWord, IsLetterIn}
-use Rattle.nc_algebra.specs.Certificates.{AreLines, Certificate, Factor, IsCertificate, IsPart, Line, Part, line_reach, longest}
+use Rattle.nc_algebra.specs.Certificates.{AreLines, Factor, IsCertificate, IsPart, Line, Part, line_reach, longest}
 use Rattle.nc_algebra.specs.Elements.{IsGenerator, generator}
 use Rattle.nc_algebra.specs.Polynomials.{Polynomial}
 use Rattle.nc_algebra.specs.Settings.{IsSetting, NamedSetting}
 use Rattle.nc_algebra.specs.Words.{Word}
 use Rattle.nc_cert.proofs.Fits.{generator_text}
 use Rattle.nc_cert.proofs.Readiness.{above_one}
-use Rattle.std.proofs.Common.{List, [], arith, length, subst, sym, ℕ, ◌++◌, ◌∷◌, ◌≡◌, ◌≤◌}
+use Rattle.std.proofs.Common.{List, [], arith, subst, sym, ℕ, ◌++◌, ◌∷◌, ◌≡◌, ◌≤◌}
 use Rattle.std.proofs.lemmas.List.Elements.{All-from_recursion, All-nil, All-weaker, recursion_from_All}
 use Rattle.std.specs.List.{All, AllByRecursion}
 

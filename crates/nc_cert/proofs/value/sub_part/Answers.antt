@@ -3,7 +3,7 @@ use Rattle.nc_algebra.specs.Sums.{SameSum, minus}
 use Rattle.nc_algebra.specs.Words.{same_word}
 use Rattle.nc_cert.proofs.Differences.{part_taken}
 use Rattle.nc_module.specs.Factors.{factor_of}
-use Rattle.std.proofs.Common.{refl, subst}
+use Rattle.std.proofs.Common.{subst}
 use Rattle.std.proofs.lemmas.Result.{on_ok_weaker}
 use Rattle.nc_cert.proofs.value.sub_part.Goals as goal
 

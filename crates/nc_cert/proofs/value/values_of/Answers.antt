@@ -3,7 +3,7 @@ use Rattle.nc_algebra.specs.Polynomials.{Polynomial, normal_form}
 use Rattle.nc_algebra.specs.Sums.{minus}
 use Rattle.nc_cert.proofs.Differences.{ready_at, value_step}
 use Rattle.nc_cert.specs.Ready.{IsReady}
-use Rattle.std.proofs.Common.{List, [], ap, arith, refl, subst, sym, ◌%◌, ◌++◌, ◌-◌, ◌∙◌, ◌∷◌}
+use Rattle.std.proofs.Common.{List, [], ap, arith, subst, sym, ◌%◌, ◌++◌, ◌-◌, ◌∙◌, ◌∷◌}
 use Rattle.std.specs.List.{All}
 use Rattle.nc_cert.proofs.value.values_of.Goals as goal
 
