@@ -1,24 +1,16 @@
 -- What is left of a polynomial, part by part.
-use Rattle.nc_algebra.proofs.Certificates.{valid_by_rest}
-use Rattle.nc_algebra.proofs.NormalForms.{normal_form-normal, normal_form_equal}
+use Rattle.nc_algebra.proofs.NormalForms.{normal_form_equal}
 use Rattle.nc_algebra.proofs.Sums.{coefficient-minus, linear_sum-append, linear_sum-scale}
 use Rattle.nc_algebra.proofs.Words.{word_laws}
-use Rattle.nc_algebra.specs.Certificates.{AreLines, Certificate, IsCertificate, IsValid, Line, Part, factor_value, line_value, lines_value, part_value, rest_of, values_of}
+use Rattle.nc_algebra.specs.Certificates.{Line, Part, factor_value, line_value, part_value}
 use Rattle.nc_algebra.specs.Elements.{Setting}
-use Rattle.nc_algebra.specs.Polynomials.{IsNormal, Polynomial, coefficient, normal_form, polynomial_times}
-use Rattle.nc_algebra.specs.Settings.{IsSetting, NamedSetting}
+use Rattle.nc_algebra.specs.Polynomials.{Polynomial, coefficient, normal_form, polynomial_times}
 use Rattle.nc_algebra.specs.Sums.{SameSum, is_at, minus, scale}
 use Rattle.nc_algebra.specs.Words.{IsWordLess, Word, same_word}
-use Rattle.nc_cert.proofs.Fits.{lines_fit}
-use Rattle.nc_cert.proofs.Lines.{last_value, line_behind, lines_before, reaches_after, values_after-push}
-use Rattle.nc_cert.proofs.Readiness.{above_one, line_ready, same_line}
-use Rattle.nc_cert.specs.Ready.{IsReady}
-use Rattle.std.proofs.Common.{List, [], ap, arith, drop, get_or, length, map, refl, subst, suc, sym, take, ℕ, ◌%◌, ◌*◌, ◌+◌, ◌++◌, ◌-◌, ◌<◌, ◌∙◌, ◌∷◌, ◌≡◌, ◌≤◌}
+use Rattle.std.proofs.Common.{List, [], ap, arith, get_or, length, refl, subst, sym, take, ℕ, ◌%◌, ◌*◌, ◌+◌, ◌++◌, ◌-◌, ◌<◌, ◌∙◌, ◌∷◌, ◌≡◌, ◌≤◌}
 use Rattle.std.proofs.Math.Nat.{add-mod, add-mul-mod_self_left, mod-eq_of_lt}
-use Rattle.std.proofs.lemmas.List.{append_assoc, append-nil, map-append, take-append-drop, take_all, take_more}
+use Rattle.std.proofs.lemmas.List.{append_assoc, append-nil, take_all, take_more}
 use Rattle.std.proofs.lemmas.Nat.{mul-mod_first, mul-mod_second}
-use Rattle.std.proofs.Math.Seq.{drop-cons}
-use Rattle.std.specs.List.{All}
 
 -- f plus a number times g, at a word, modulo p
 plus_same : (p a b c : ℕ) → b % p ≡ c % p → (a + b) % p ≡ (a + c) % p
@@ -27,7 +19,7 @@ plus_same p a b c e = add-mod a b p ∙ (ap (λ n. (a % p + n) % p) e ∙ sym (a
 same_plus : (p a b c : ℕ) → a % p ≡ b % p → (a + c) % p ≡ (b + c) % p
 same_plus p a b c e = add-mod a c p ∙ (ap (λ n. (n + c % p) % p) e ∙ sym (add-mod b c p))
 
-minus_at : (p : ℕ) (f : Polynomial) (c : ℕ) (g : Polynomial) (x : Word) → coefficient (minus p f c g) x ≡ coefficient f x + (p - 1) * c * coefficient g x
+pub minus_at : (p : ℕ) (f : Polynomial) (c : ℕ) (g : Polynomial) (x : Word) → coefficient (minus p f c g) x ≡ coefficient f x + (p - 1) * c * coefficient g x
 minus_at p f c g x = coefficient-minus same_word IsWordLess word_laws p f c g x
 
 -- a product of the scalar and a part's coefficient may be taken modulo p
@@ -113,7 +105,7 @@ module _ (s : Setting) (values : List Polynomial) where
 
 -- ---- differences of equal polynomials
 
-difference_same : (p : ℕ) (f : Polynomial) (c : ℕ) (g h : Polynomial) → 0 < p → SameSum same_word p g h → normal_form p (minus p f c g) ≡ normal_form p (minus p f c h)
+pub difference_same : (p : ℕ) (f : Polynomial) (c : ℕ) (g h : Polynomial) → 0 < p → SameSum same_word p g h → normal_form p (minus p f c g) ≡ normal_form p (minus p f c h)
 difference_same p f c g h some e = normal_form_equal p (minus p f c g) (minus p f c h) some record {
   at = λ x.
       ap (λ n. n % p) (minus_at p f c g x)
@@ -122,7 +114,7 @@ difference_same p f c g h some e = normal_form_equal p (minus p f c g) (minus p 
 }
 
 -- zero minus minus a polynomial
-negative_back : (p : ℕ) (m : Polynomial) → 1 < p → normal_form p (minus p [] ((p - 1) % p) m) ≡ normal_form p m
+pub negative_back : (p : ℕ) (m : Polynomial) → 1 < p → normal_form p (minus p [] ((p - 1) % p) m) ≡ normal_form p m
 negative_back p m one = normal_form_equal p (minus p [] ((p - 1) % p) m) m (omega arith) record {
   at = λ x.
       ap (λ n. n % p) (minus_at p [] ((p - 1) % p) m x ∙ ap (λ n. 0 + (p - 1) * n * coefficient m x) (mod-eq_of_lt (omega (arith, one))))
@@ -134,66 +126,3 @@ negative_back p m one = normal_form_equal p (minus p [] ((p - 1) % p) m) m (omeg
 
     whole : (y : ℕ) → (0 + (p - 1) * (p - 1) * y) % p ≡ y % p
     whole y = ap (λ n. n % p) (form (p - 1) (p - 2) y (omega (arith, one)) (omega (arith, one))) ∙ add-mul-mod_self_left y p ((p - 2) * y)
-
--- ---- lines
-
-module _ (s : NamedSetting) (is : IsSetting s) where
-  abbrev normals : List Line → List Polynomial
-  normals lines = map (normal_form s.setting.prime) (values_of s.setting lines)
-
-  -- the line behind others is ready over their values
-  pub ready_behind : (lines : List Line) (line : Line) (more : List Line) → AreLines s [] (lines ++ line ∷ more) → All (IsReady s.setting (normals lines)) line
-  ready_behind lines line more h =
-      line_ready s is (values_of s.setting lines) (reaches_after s.setting [] lines) line
-      (lines_fit s is [] [] lines tt (lines_before s [] lines (line ∷ more) h)) (line_behind s [] lines line more h)
-
-  -- the normal form of a line's value, computed over those before it
-  value_behind : (lines : List Line) (line : Line) → normal_form s.setting.prime (minus s.setting.prime [] ((s.setting.prime - 1) % s.setting.prime) (line_value s.setting (normals lines) line)) ≡ normal_form s.setting.prime (line_value s.setting (values_of s.setting lines) line)
-  value_behind lines line =
-      negative_back s.setting.prime (line_value s.setting (normals lines) line) (above_one s is)
-      ∙ normal_form_equal s.setting.prime (line_value s.setting (normals lines) line) (line_value s.setting (values_of s.setting lines) line) (omega (arith, above_one s is)) (same_line s.setting (omega (arith, above_one s is)) (values_of s.setting lines) line)
-
-  split : (lines : List Line) (i : ℕ) (line : Line) → i < length lines → line ≡ get_or lines i line → lines ≡ take i lines ++ line ∷ drop (suc i) lines
-  split lines i line within at = sym (take-append-drop i lines) ∙ ap (λ (l : List Line). take i lines ++ l) (drop-cons lines i line within ∙ ap (λ (l : Line). l ∷ drop (suc i) lines) (sym at))
-
-  -- the line at a place is ready
-  pub ready_at : (lines : List Line) (i : ℕ) (line : Line) → i < length lines → line ≡ get_or lines i line → AreLines s [] lines → All (IsReady s.setting (normals (take i lines))) line
-  ready_at lines i line within at h = ready_behind (take i lines) line (drop (suc i) lines) (subst (AreLines s []) (split lines i line within at) h)
-
-  -- one value more
-  pub value_step : (lines : List Line) (i : ℕ) (line : Line) (value : Polynomial) → i < length lines → line ≡ get_or lines i line →
-      value ≡ normal_form s.setting.prime (minus s.setting.prime [] ((s.setting.prime - 1) % s.setting.prime) (line_value s.setting (normals (take i lines)) line)) →
-      normals (take i lines) ++ value ∷ [] ≡ normals (take (i + 1) lines)
-  value_step lines i line value within at e =
-      ap (λ (f : Polynomial). normals (take i lines) ++ f ∷ []) (e ∙ value_behind (take i lines) line)
-      ∙ (sym (map-append (normal_form s.setting.prime) (values_of s.setting (take i lines)) (line_value s.setting (values_of s.setting (take i lines)) line ∷ []))
-      ∙ ap (map (normal_form s.setting.prime)) (sym (values_after-push s.setting [] (take i lines) line) ∙ ap (values_of s.setting) (sym (take_more lines i line within ∙ ap (λ (l : Line). take i lines ++ l ∷ []) (sym at)))))
-
-  pub values_end : (lines : List Line) (i : ℕ) (values : List Polynomial) → length lines ≤ i → values ≡ normals (take i lines) → values ≡ normals lines
-  values_end lines i values long e = e ∙ ap normals (take_all i lines long)
-
-  -- ---- the rest
-
-  -- without a line the rest is the claim
-  pub rest_of_claim : (claim : Polynomial) → IsNormal s.setting.prime claim → claim ≡ rest_of s.setting claim []
-  rest_of_claim claim h = sym (normal_form_equal s.setting.prime (minus s.setting.prime claim 1 (lines_value s.setting [])) claim some record { at = λ x. ap (λ n. n % s.setting.prime) (minus_at s.setting.prime claim 1 [] x ∙ none (coefficient claim x) ((s.setting.prime - 1) * 1)) } ∙ normal_form-normal s.setting.prime claim some h)
-    where
-      some : 0 < s.setting.prime
-      some = omega (arith, above_one s is)
-
-      none : (a q : ℕ) → a + q * 0 ≡ a
-      none a q = omega arith
-
-  -- and else the claim minus the last line, over the values before it
-  pub rest_of_lines : (claim : Polynomial) (lines : List Line) (last : Line) → normal_form s.setting.prime (minus s.setting.prime claim 1 (line_value s.setting (normals lines) last)) ≡ rest_of s.setting claim (lines ++ last ∷ [])
-  rest_of_lines claim lines last =
-      difference_same s.setting.prime claim 1 (line_value s.setting (normals lines) last) (line_value s.setting (values_of s.setting lines) last) (omega (arith, above_one s is)) (same_line s.setting (omega (arith, above_one s is)) (values_of s.setting lines) last)
-      ∙ ap (λ (f : Polynomial). normal_form s.setting.prime (minus s.setting.prime claim 1 f)) (sym (last_value s.setting lines last))
-
--- ---- nothing is left exactly of a valid certificate
-
-pub valid_from_nothing : (c : Certificate) (rest : Polynomial) → IsCertificate c → rest ≡ rest_of c.setting.setting c.claim c.lines → rest ≡ [] → IsValid c.setting.setting c.claim c.lines
-valid_from_nothing c rest h e none = (valid_by_rest c.setting.setting c.claim c.lines (omega (arith, above_one c.setting h.setting))).1 (sym e ∙ none)
-
-pub nothing_from_valid : (c : Certificate) (rest : Polynomial) → IsCertificate c → rest ≡ rest_of c.setting.setting c.claim c.lines → IsValid c.setting.setting c.claim c.lines → rest ≡ []
-nothing_from_valid c rest h e valid = e ∙ (valid_by_rest c.setting.setting c.claim c.lines (omega (arith, above_one c.setting h.setting))).0 valid

@@ -1,5 +1,5 @@
 use Rattle.nc_algebra.specs.Certificates.{Certificate, IsCertificate, Line, rest_of}
-use Rattle.nc_cert.proofs.Differences.{nothing_from_valid, valid_from_nothing}
+use Rattle.nc_cert.proofs.Rests.{nothing_from_valid, valid_from_nothing}
 use Rattle.std.proofs.Common.{List, ap, subst, sym, ◌∙◌, ◌≡◌}
 use Rattle.std.proofs.lemmas.Bool.{false≢true}
 use Rattle.nc_cert.proofs.checking.check.Goals as goal

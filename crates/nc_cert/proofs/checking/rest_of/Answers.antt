@@ -1,7 +1,8 @@
 use Rattle.nc_algebra.specs.Certificates.{AreLines, Line, line_value, rest_of}
 use Rattle.nc_algebra.specs.Polynomials.{Polynomial, normal_form}
 use Rattle.nc_algebra.specs.Sums.{minus}
-use Rattle.nc_cert.proofs.Differences.{ready_behind, rest_of_claim, rest_of_lines}
+use Rattle.nc_cert.proofs.Rests.{rest_of_claim, rest_of_lines}
+use Rattle.nc_cert.proofs.Values.{ready_behind}
 use Rattle.nc_cert.proofs.Lines.{lines_before}
 use Rattle.nc_cert.proofs.Readiness.{above_one}
 use Rattle.nc_cert.specs.Ready.{IsReady}

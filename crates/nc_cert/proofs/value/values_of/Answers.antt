@@ -1,7 +1,7 @@
 use Rattle.nc_algebra.specs.Certificates.{line_value, values_after}
 use Rattle.nc_algebra.specs.Polynomials.{Polynomial, normal_form}
 use Rattle.nc_algebra.specs.Sums.{minus}
-use Rattle.nc_cert.proofs.Differences.{ready_at, value_step}
+use Rattle.nc_cert.proofs.Values.{ready_at, value_step}
 use Rattle.nc_cert.specs.Ready.{IsReady}
 use Rattle.std.proofs.Common.{List, [], ap, arith, subst, sym, ◌%◌, ◌++◌, ◌-◌, ◌∙◌, ◌∷◌}
 use Rattle.std.specs.List.{All}
