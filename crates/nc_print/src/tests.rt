@@ -149,13 +149,21 @@ fn have_names(count: usize, line: &Line) -> bool
     ensures { IsTrue result ↔ All (λ part. All (λ x. x.index < count) part.left) line.now × All (λ part. All (λ x. x.index < count) part.right) line.now }
 {
     let parts = line.parts();
-    parts.iter().all(|part| has_names(count, part.left.letters()))
-        && parts.iter().all(|part| has_names(count, part.right.letters()))
+    parts
+        .iter()
+        .all(|part| has_names(count, part.left.letters()))
+        && parts
+            .iter()
+            .all(|part| has_names(count, part.right.letters()))
 }
 
 /// What is written of lines.
 fn lines_text(alloc: Global, names: &[Name], lines: &Lines) -> Result<Vec<u8>, Fail> {
-    if !lines.lines().iter().all(|line| have_names(names.len(), line)) {
+    if !lines
+        .lines()
+        .iter()
+        .all(|line| have_names(names.len(), line))
+    {
         return Err("names".into());
     }
     let mut out = Vec::new(alloc);
@@ -189,7 +197,10 @@ fn settings(rt: HostRuntime) -> Result<(), Fail> {
     let alloc = rt.alloc();
     for (weight, want) in [
         (1, "field 101\nletters x y\ngenerator x*x + 100*y\n"),
-        (2, "field 101\nletters x y\nweights 1 2\ngenerator 100*y + x*x\n"),
+        (
+            2,
+            "field 101\nletters x y\nweights 1 2\ngenerator 100*y + x*x\n",
+        ),
     ] {
         let s = setting(alloc, alphabet(alloc, weight)?)?;
         let mut text = Vec::new(alloc);
@@ -215,7 +226,8 @@ fn certificates(rt: HostRuntime) -> Result<(), Fail> {
     };
     let mut text = Vec::new(alloc);
     write_certificate(&mut text, &certificate)?;
-    let want = "certificate 2\nfield 101\nletters x y\nweights 1 2\ngenerator 100*y + x*x\nclaim 0\nend\n";
+    let want =
+        "certificate 2\nfield 101\nletters x y\nweights 1 2\ngenerator 100*y + x*x\nclaim 0\nend\n";
     assert_eq!(rt; text.as_slice(), want.as_bytes());
     Ok(())
 }
