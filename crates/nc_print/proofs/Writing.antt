@@ -45,15 +45,13 @@ each_part s P one reaches [] are = tt
 each_part s P one reaches (line ∷ lines) are =
     (λ k d within. one reaches (get_or line k d) (are.0 k d within), each_part s P one (reaches ++ line_reach s.setting reaches line ∷ []) lines are.1)
 
-pub left_words_named : (s : NamedSetting) (names : List (List ℕ)) (lines items : List Line) → names ≡ s.alphabet.names → items ≡ lines → AreLines s [] lines
-    → All (λ line. All (λ part. AreNamed (length names) part.left) line) items
-left_words_named s names lines items same_names same are =
-    rw (same_names, same) (All-from_recursion (λ line. All (λ part. AreNamed (length s.alphabet.names) part.left) line) lines (each_part s (λ part. AreNamed (length s.alphabet.names) part.left) (λ reaches part h. named s.alphabet part.left h.left) [] lines are))
-
-pub right_words_named : (s : NamedSetting) (names : List (List ℕ)) (lines items : List Line) → names ≡ s.alphabet.names → items ≡ lines → AreLines s [] lines
-    → All (λ line. All (λ part. AreNamed (length names) part.right) line) items
-right_words_named s names lines items same_names same are =
-    rw (same_names, same) (All-from_recursion (λ line. All (λ part. AreNamed (length s.alphabet.names) part.right) line) lines (each_part s (λ part. AreNamed (length s.alphabet.names) part.right) (λ reaches part h. named s.alphabet part.right h.right) [] lines are))
+-- the letters of the words on one side of each part have names
+pub words_named : (s : NamedSetting) (side : Part → Word) → ((reaches : List ℕ) (part : Part) → IsPart s reaches part → IsWordIn s.alphabet (side part))
+    → (names : List (List ℕ)) (lines items : List Line) → names ≡ s.alphabet.names → items ≡ lines → AreLines s [] lines
+    → All (λ line. All (λ part. AreNamed (length names) (side part)) line) items
+words_named s side one names lines items same_names same are =
+    let P = λ (part : Part). AreNamed (length s.alphabet.names) (side part) in
+    rw (same_names, same) (All-from_recursion (λ line. All P line) lines (each_part s P (λ reaches part h. named s.alphabet (side part) (one reaches part h)) [] lines are))
 
 -- ---- certificates
 

@@ -1,12 +1,12 @@
 use Rattle.std.proofs.Common.{codes}
-use Rattle.nc_print.proofs.Writing.{left_words_named, right_words_named, written_in_a_row, written_last}
+use Rattle.nc_print.proofs.Writing.{words_named, written_in_a_row, written_last}
 use Rattle.nc_print.proofs.certificate.write_certificate.Goals as goal
 
 pub write_lines-requires-clause-left : goal.write_lines-requires-clause-left
-write_lines-requires-clause-left c = left_words_named c.c.inside.setting _ c.c.inside.lines _ c.names-names.ensures.names c.lines.ensures.lines c.c.invariant.lines
+write_lines-requires-clause-left c = words_named c.c.inside.setting (λ part. part.left) (λ reaches part h. h.left) _ c.c.inside.lines _ c.names-names.ensures.names c.lines.ensures.lines c.c.invariant.lines
 
 pub write_lines-requires-clause-right : goal.write_lines-requires-clause-right
-write_lines-requires-clause-right c = right_words_named c.c.inside.setting _ c.c.inside.lines _ c.names-names.ensures.names c.lines.ensures.lines c.c.invariant.lines
+write_lines-requires-clause-right c = words_named c.c.inside.setting (λ part. part.right) (λ reaches part h. h.right) _ c.c.inside.lines _ c.names-names.ensures.names c.lines.ensures.lines c.c.invariant.lines
 
 pub returns : goal.returns
 returns c =
