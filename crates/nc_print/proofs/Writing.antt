@@ -1,16 +1,16 @@
 -- Lemmas on the texts that are written piece after piece.
-use Rattle.nc_algebra.specs.Certificates.{Certificate, IsTextTerm, IsTextWord, NamedSetting, element_of, monomial_of, term_of}
-use Rattle.nc_algebra.specs.Monomials.{Monomial, Sig}
+use Rattle.nc_algebra.specs.Alphabets.{Alphabet, IsWordIn}
+use Rattle.nc_algebra.specs.Certificates.{AreLines, Certificate, IsPart, Line, Part, line_reach}
 use Rattle.nc_algebra.specs.Polynomials.{Polynomial}
-use Rattle.nc_algebra.specs.Sums.{Term}
+use Rattle.nc_algebra.specs.Settings.{NamedSetting}
 use Rattle.nc_algebra.specs.Words.{Word}
-use Rattle.nc_print.specs.Printing.{certificate_text, ended, generator_line, names_line, poly_text, term_line}
-use Rattle.std.proofs.Common.{Err, List, Ok, Result, [], ap, append_assoc, codes, decimal, get_or, if◌then◌else◌, is_ok, length, map, refl, subst, sym, take, ℕ, ◌++◌, ◌+◌, ◌<◌, ◌∙◌, ◌∷◌, ◌≡◌, ◌≤◌}
-use Rattle.std.proofs.lemmas.List.{append-nil, map-append, take_all, take_more}
+use Rattle.nc_print.specs.Printing.{certificate_text, ended, line_lines, poly_text, setting_lines}
+use Rattle.std.proofs.Common.{Err, List, Ok, Result, [], ap, append_assoc, codes, get_or, if◌then◌else◌, is_ok, length, map, refl, sym, take, ℕ, ◌++◌, ◌+◌, ◌<◌, ◌∙◌, ◌∷◌, ◌≡◌}
+use Rattle.std.proofs.lemmas.List.{append-nil, map-append, take_more}
 use Rattle.std.proofs.lemmas.List.Concat.{flat_map-append}
-use Rattle.std.proofs.lemmas.List.Elements.{All-from_recursion, recursion_from_All}
+use Rattle.std.proofs.lemmas.List.Elements.{All-from_recursion}
+use Rattle.std.specs.List.{All, AllByRecursion, flat_map}
 use Rattle.std.specs.Result.{OnOk}
-use Rattle.std.specs.List.{All, AllByRecursion}
 
 -- ---- lines
 
@@ -28,42 +28,30 @@ pub written_more : {X : Type 0} (line : X → List ℕ) (xs : List X) (i : ℕ) 
 written_more line xs i x old before after within is so_far now =
     now ∙ ap (λ (l : List ℕ). l ++ (line x ++ 10 ∷ [])) so_far ∙ append_assoc old (ended (map line (take i xs))) (line x ++ 10 ∷ []) ∙ ap (λ (l : List ℕ). old ++ l) (ended_more line xs i x within is)
 
--- ---- terms with degrees
-
-map_element : (f : Term Monomial → List ℕ) (terms : List (Term Sig)) → map (λ t. f (term_of t)) terms ≡ map f (element_of terms)
-map_element f [] = refl
-map_element f (t ∷ terms) = ap (λ (l : List (List ℕ)). f (term_of t) ∷ l) (map_element f terms)
-
--- the lines of all terms
-pub all_term_lines : (names : List (List ℕ)) (terms : List (Term Sig)) (i : ℕ) → length terms ≤ i
-    → ended (map (λ t. term_line names (record { coefficient = t.coefficient; key = monomial_of t.key })) (take i terms)) ≡ ended (map (term_line names) (element_of terms))
-all_term_lines names terms i long =
-    ap (λ (l : List (Term Sig)). ended (map (λ t. term_line names (term_of t)) l)) (take_all i terms long) ∙ ap (λ (ls : List (List ℕ)). ended ls) (map_element (term_line names) terms)
-
 -- ---- letters
-
--- what holds of each term without its degree
-each_term : (P : Term Monomial → Type 0) (Q : Term Sig → Type 0) (terms : List (Term Sig)) → ((t : Term Sig) → P (term_of t) → Q t) → AllByRecursion P (element_of terms) → AllByRecursion Q terms
-each_term P Q [] one all = tt
-each_term P Q (t ∷ terms) one all = (one t all.0, each_term P Q terms one all.1)
-
-each_item : (P : Term Monomial → Type 0) (Q : Term Sig → Type 0) (terms items : List (Term Sig)) → items ≡ terms → ((t : Term Sig) → P (term_of t) → Q t) → All P (element_of terms) → All Q items
-each_item P Q terms items same one all = subst (All Q) (sym same) (All-from_recursion Q terms (each_term P Q terms one (recursion_from_All P (element_of terms) all)))
 
 -- each letter of a word has a name
 abbrev pub AreNamed : ℕ → Word → Type 0
 AreNamed n w = All (λ x. x.index < n) w
 
-named : (n m : ℕ) (w : Word) → n ≡ m → IsTextWord m w → AreNamed n w
-named n m w same text k d within = subst (λ (b : ℕ). (get_or w k d).index < b) (sym same) (text.letters k d within).0
+-- the letters of an alphabet's words have its names
+named : (a : Alphabet) (w : Word) → IsWordIn a w → AreNamed (length a.names) w
+named a w over k d within = (over k d within).0
 
-pub left_words_named : (s : NamedSetting) (names : List (List ℕ)) (terms items : List (Term Sig)) → names ≡ s.names → items ≡ terms → All (IsTextTerm s) (element_of terms) → All (λ t. AreNamed (length names) t.key.left) items
-left_words_named s names terms items same_names same all =
-    each_item (IsTextTerm s) (λ t. AreNamed (length names) t.key.left) terms items same (λ t h. named (length names) (length s.names) t.key.left (ap length same_names) h.left) all
+-- what holds of each part of lines, wherever they stand
+each_part : (s : NamedSetting) (P : Part → Type 0) → ((reaches : List ℕ) (part : Part) → IsPart s reaches part → P part)
+    → (reaches : List ℕ) (lines : List Line) → AreLines s reaches lines → AllByRecursion (λ line. All P line) lines
+each_part s P one reaches [] are = tt
+each_part s P one reaches (line ∷ lines) are =
+    (λ k d within. one reaches (get_or line k d) (are.0 k d within), each_part s P one (reaches ++ line_reach s.setting reaches line ∷ []) lines are.1)
 
-pub right_words_named : (s : NamedSetting) (names : List (List ℕ)) (terms items : List (Term Sig)) → names ≡ s.names → items ≡ terms → All (IsTextTerm s) (element_of terms) → All (λ t. AreNamed (length names) t.key.right) items
-right_words_named s names terms items same_names same all =
-    each_item (IsTextTerm s) (λ t. AreNamed (length names) t.key.right) terms items same (λ t h. named (length names) (length s.names) t.key.right (ap length same_names) h.right) all
+-- the letters of the words on one side of each part have names
+pub words_named : (s : NamedSetting) (side : Part → Word) → ((reaches : List ℕ) (part : Part) → IsPart s reaches part → IsWordIn s.alphabet (side part))
+    → (names : List (List ℕ)) (lines items : List Line) → names ≡ s.alphabet.names → items ≡ lines → AreLines s [] lines
+    → All (λ line. All (λ part. AreNamed (length names) (side part)) line) items
+words_named s side one names lines items same_names same are =
+    let P = λ (part : Part). AreNamed (length s.alphabet.names) (side part) in
+    rw (same_names, same) (All-from_recursion (λ line. All P line) lines (each_part s P (λ reaches part h. named s.alphabet (side part) (one reaches part h)) [] lines are))
 
 -- ---- certificates
 
@@ -71,21 +59,17 @@ in_a_row : (old heading claim last : List ℕ) (front back : List (List ℕ))
     → ((((old ++ (heading ++ 10 ∷ [])) ++ ended front) ++ (claim ++ 10 ∷ [])) ++ ended back) ++ (last ++ 10 ∷ []) ≡ old ++ ended (heading ∷ (front ++ claim ∷ (back ++ last ∷ [])))
 in_a_row old heading claim last front back = simp (flat_map-append, append_assoc, append-nil)
 
--- the lines `field`, `letters` and `generator`
-abbrev pub lines_of_setting : NamedSetting → List (List ℕ)
-lines_of_setting s = (codes "field " ++ decimal s.setting.prime) ∷ names_line s.names ∷ map (generator_line s.names) s.setting.generators
-
 -- The pieces of a certificate in a row are its text: `headed`, `set`, `claimed` and `listed` are what is written up to each of them.
-pub written_in_a_row : (s : NamedSetting) (f : Polynomial) (terms items : List (Term Sig)) (c : Certificate) (names : List (List ℕ)) (old headed set claimed listed : List ℕ)
-    → record { setting = s; claim = f; terms = element_of terms } ≡ c → names ≡ s.names → items ≡ terms
-    → headed ≡ old ++ codes "certificate 1\n" → set ≡ headed ++ ended (lines_of_setting s)
-    → claimed ≡ set ++ (codes "claim " ++ poly_text names f ++ 10 ∷ []) → listed ≡ claimed ++ ended (map (term_line names) (element_of items))
+pub written_in_a_row : (s : NamedSetting) (f : Polynomial) (lines items : List Line) (c : Certificate) (names : List (List ℕ)) (old headed set claimed listed : List ℕ)
+    → record { setting = s; claim = f; lines = lines } ≡ c → names ≡ s.alphabet.names → items ≡ lines
+    → headed ≡ old ++ codes "certificate 2\n" → set ≡ headed ++ ended (setting_lines s)
+    → claimed ≡ set ++ (codes "claim " ++ poly_text names f ++ 10 ∷ []) → listed ≡ claimed ++ ended (flat_map (line_lines names) items)
     → listed ++ codes "end\n" ≡ old ++ certificate_text c
-written_in_a_row s f terms items c names old headed set claimed listed is same_names same heads sets claims lists =
-    let claimed_is : claimed ≡ set ++ (codes "claim " ++ poly_text s.names f ++ 10 ∷ []) = claims ∙ ap (λ (ns : List (List ℕ)). set ++ (codes "claim " ++ poly_text ns f ++ 10 ∷ [])) same_names in
-    let listed_is : listed ≡ claimed ++ ended (map (term_line s.names) (element_of terms)) =
-    lists ∙ ap (λ (ns : List (List ℕ)). claimed ++ ended (map (term_line ns) (element_of items))) same_names ∙ ap (λ (ts : List (Term Sig)). claimed ++ ended (map (term_line s.names) (element_of ts))) same in
-    let row = in_a_row old (codes "certificate 1") (codes "claim " ++ poly_text s.names f) (codes "end") (lines_of_setting s) (map (term_line s.names) (element_of terms)) in
+written_in_a_row s f lines items c names old headed set claimed listed is same_names same heads sets claims lists =
+    let claimed_is : claimed ≡ set ++ (codes "claim " ++ poly_text s.alphabet.names f ++ 10 ∷ []) = claims ∙ ap (λ (ns : List (List ℕ)). set ++ (codes "claim " ++ poly_text ns f ++ 10 ∷ [])) same_names in
+    let listed_is : listed ≡ claimed ++ ended (flat_map (line_lines s.alphabet.names) lines) =
+    lists ∙ ap (λ (ns : List (List ℕ)). claimed ++ ended (flat_map (line_lines ns) items)) same_names ∙ ap (λ (ls : List Line). claimed ++ ended (flat_map (line_lines s.alphabet.names) ls)) same in
+    let row = in_a_row old (codes "certificate 2") (codes "claim " ++ poly_text s.alphabet.names f) (codes "end") (setting_lines s) (flat_map (line_lines s.alphabet.names) lines) in
     ap (λ (l : List ℕ). l ++ codes "end\n") (rw (listed_is, claimed_is, sets, heads) refl) ∙ row ∙ ap (λ (d : Certificate). old ++ certificate_text d) is
 
 -- what a last call says that writes a piece, or leaves what was written

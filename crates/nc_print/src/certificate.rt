@@ -65,7 +65,7 @@ fn write_line(out: &mut Vec<u8>, names: &[Name], line: &Line) -> Result<(), Allo
 }
 
 /// Appends the lines `line` with their lines `part`.
-fn write_lines(out: &mut Vec<u8>, names: &[Name], lines: &[Line]) -> Result<(), AllocError>
+pub fn write_lines(out: &mut Vec<u8>, names: &[Name], lines: &[Line]) -> Result<(), AllocError>
     requires left { All (λ line. All (λ part. All (λ x. x.index < length names.now) part.left) line) lines.now }
     requires right { All (λ line. All (λ part. All (λ x. x.index < length names.now) part.right) line) lines.now }
     ensures { OnOk result (out.new.items ≡ out.old.items ++ ended (flat_map (line_lines names.now) lines.now)) }

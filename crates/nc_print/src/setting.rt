@@ -1,8 +1,8 @@
 //! Printed settings.
 
-ghost use Rattle.nc_print.specs.Printing.{alphabet_lines, ended, generator_line, poly_text, setting_lines, weights_line};
+ghost use Rattle.nc_print.specs.Printing.{alphabet_lines, ended, generator_line, poly_text, setting_lines};
 ghost use Rattle.std.specs.List.{list_all};
-ghost use Rattle.std.specs.Prelude.{All, OnOk, codes, decimal, flat_map, length, map, ◌++◌, ◌<◌, ◌==◌, ◌∷◌, ◌≡◌};
+ghost use Rattle.std.specs.Prelude.{All, OnOk, [], codes, decimal, flat_map, length, map, ◌++◌, ◌<◌, ◌==◌, ◌∷◌, ◌≡◌};
 
 use crate::polynomial::{push_number, write_poly};
 use nc_module::{Alphabet, Name, Setting};

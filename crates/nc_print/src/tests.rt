@@ -1,47 +1,72 @@
-//! What is written of polynomials, monomials and certificates.
+//! What is written of polynomials, monomials, settings, lines and certificates.
 
 ghost use Rattle.std.specs.Prelude.{All, IsTrue, ◌<◌, ◌↔◌};
 
 use super::*;
+use crate::certificate::write_lines;
+use crate::setting::write_setting;
 use nc_field::{Prime, Residue};
-use nc_module::{Certificate, ModuleTerms, Name, Setting};
+use nc_module::{Alphabet, Certificate, Line, Lines, Name, Of, Part, Setting};
 use nc_poly::{Poly, Term};
 use nc_sig::Sig;
 use nc_words::{Letter, Word};
 use std::alloc::Global;
 use std::test::Fail;
 
-/// Whether each letter has one of so many names.
-fn has_names(count: usize, word: &[Letter]) -> bool
-    ensures { IsTrue result ↔ All (λ x. x.index < count) word.now }
-{
-    word.iter().all(|x| usize::from(x.index()) < count)
+/// The alphabet of x, which weighs 1, and y, which weighs this.
+fn alphabet(alloc: Global, weight: u8) -> Result<Alphabet, Fail> {
+    let x = Name::of(b"x").ok_or("a name")?;
+    let y = Name::of(b"y").ok_or("a name")?;
+    let names = vec![in alloc; x, y]?;
+    let weights = vec![in alloc; 1, weight]?;
+    if !Alphabet::takes(&names, &weights) {
+        return Err("an alphabet".into());
+    }
+    Ok(Alphabet::of(names, weights))
 }
 
-/// The word of the letters with these numbers.
-fn word(alloc: Global, letters: &[u8]) -> Result<Word, Fail> {
+/// The word of these letters, each x or y.
+fn word(alloc: Global, alphabet: &Alphabet, letters: &[u8]) -> Result<Word, Fail> {
     let mut word = Word::empty(alloc);
-    for index in letters {
-        let letter = Letter::of(*index, 1).ok_or("a letter")?;
-        if word.letters().len() > 100 {
+    for letter in letters {
+        let index = usize::from(*letter != b'x');
+        if index >= alphabet.names().len() || word.letters().len() > 100 {
             return Err("a short word".into());
         }
-        word = Word::join(alloc, word.letters(), &[letter], &[])?;
+        word = Word::join(alloc, word.letters(), &[alphabet.letter(index)], &[])?;
     }
     Ok(word)
 }
 
 /// The polynomial with these terms over 101.
-fn poly(alloc: Global, list: &[(Residue, &[u8])]) -> Result<Poly, Fail> {
+fn poly(alloc: Global, alphabet: &Alphabet, list: &[(Residue, &[u8])]) -> Result<Poly, Fail> {
     let mut terms = Vec::new(alloc);
     for (c, letters) in list {
-        terms.push(Term::of(*c, word(alloc, letters)?))?;
+        terms.push(Term::of(*c, word(alloc, alphabet, letters)?))?;
     }
     let p = Prime::of(101).ok_or("listed")?;
     if !terms.iter().all(|t| t.coefficient < p.number()) {
         return Err("residues".into());
     }
     Ok(Poly::of_terms(p, terms))
+}
+
+/// The setting over 101 with this alphabet and the generator x*x - y.
+fn setting(alloc: Global, alphabet: Alphabet) -> Result<Setting, Fail> {
+    let p = Prime::of(101).ok_or("listed")?;
+    let generator = poly(alloc, &alphabet, &[(1, b"xx"), (100, b"y")])?;
+    let generators = vec![in alloc; generator]?;
+    if !Setting::takes(p, &alphabet, &generators) {
+        return Err("a setting".into());
+    }
+    Ok(Setting::of(p, alphabet, generators))
+}
+
+/// Whether each letter has one of so many names.
+fn has_names(count: usize, word: &[Letter]) -> bool
+    ensures { IsTrue result ↔ All (λ x. x.index < count) word.now }
+{
+    word.iter().all(|x| usize::from(x.index()) < count)
 }
 
 /// What is written of a polynomial.
@@ -59,9 +84,15 @@ fn poly_text(alloc: Global, names: &[Name], f: &Poly) -> Result<Vec<u8>, Fail> {
 }
 
 /// The monomial with these words.
-fn sig(alloc: Global, left: &[u8], generator: u32, right: &[u8]) -> Result<Sig, Fail> {
-    let left = word(alloc, left)?;
-    let right = word(alloc, right)?;
+fn sig(
+    alloc: Global,
+    alphabet: &Alphabet,
+    left: &[u8],
+    generator: u32,
+    right: &[u8],
+) -> Result<Sig, Fail> {
+    let left = word(alloc, alphabet, left)?;
+    let right = word(alloc, alphabet, right)?;
     if left.weight() > 1000 || right.weight() > 1000 {
         return Err("light words".into());
     }
@@ -78,48 +109,125 @@ fn sig_text(alloc: Global, names: &[Name], s: &Sig) -> Result<Vec<u8>, Fail> {
     Ok(out)
 }
 
-/// The certificate of 0 with the letter x and no generators.
-fn certificate_of_zero(alloc: Global) -> Result<Certificate, Fail> {
-    let p = Prime::of(101).ok_or("listed")?;
-    let mut names = Vec::new(alloc);
-    names.push(Name::of(b"x").ok_or("a name")?)?;
-    let setting = Setting::of(p, names, Vec::new(alloc));
-    Ok(Certificate {
-        setting,
-        claim: Poly::zero(alloc),
-        terms: ModuleTerms::of(Vec::new(alloc)),
+/// The part with these words.
+fn part(
+    alloc: Global,
+    alphabet: &Alphabet,
+    coefficient: Residue,
+    left: &[u8],
+    of: Of,
+    right: &[u8],
+) -> Result<Part, Fail> {
+    let left = word(alloc, alphabet, left)?;
+    let right = word(alloc, alphabet, right)?;
+    Ok(Part {
+        coefficient,
+        left,
+        of,
+        right,
     })
+}
+
+/// The generator as a line, and then that line times x on the left, minus times x on the right.
+fn lines(alloc: Global, alphabet: &Alphabet) -> Result<Lines, Fail> {
+    let mut first = Line::empty(alloc);
+    first.push(part(alloc, alphabet, 1, b"", Of::Generator(1), b"")?)?;
+    let mut second = Line::empty(alloc);
+    second.push(part(alloc, alphabet, 1, b"x", Of::Line(1), b"")?)?;
+    second.push(part(alloc, alphabet, 100, b"", Of::Line(1), b"x")?)?;
+    let mut lines = Lines::empty(alloc);
+    lines.push(first)?;
+    if lines.len() > 1 {
+        return Err("few lines".into());
+    }
+    lines.push(second)?;
+    Ok(lines)
+}
+
+/// Whether each letter of each part of the line has one of so many names.
+fn have_names(count: usize, line: &Line) -> bool
+    ensures { IsTrue result ↔ All (λ part. All (λ x. x.index < count) part.left) line.now × All (λ part. All (λ x. x.index < count) part.right) line.now }
+{
+    let parts = line.parts();
+    parts
+        .iter()
+        .all(|part| has_names(count, part.left.letters()))
+        && parts
+            .iter()
+            .all(|part| has_names(count, part.right.letters()))
+}
+
+/// What is written of lines.
+fn lines_text(alloc: Global, names: &[Name], lines: &Lines) -> Result<Vec<u8>, Fail> {
+    if !lines
+        .lines()
+        .iter()
+        .all(|line| have_names(names.len(), line))
+    {
+        return Err("names".into());
+    }
+    let mut out = Vec::new(alloc);
+    write_lines(&mut out, names, lines.lines())?;
+    Ok(out)
 }
 
 #[test]
 fn polynomials_and_monomials(rt: HostRuntime) -> Result<(), Fail> {
     let alloc = rt.alloc();
-    let names = [
-        Name::of(b"x").ok_or("a name")?,
-        Name::of(b"y").ok_or("a name")?,
-    ];
+    let alphabet = alphabet(alloc, 1)?;
+    let names = alphabet.names();
     let empty: &[(Residue, &[u8])] = &[];
     for (terms, want) in [
         (empty, "0"),
         (&[(5, b"")], "5"),
-        (&[(1, b"\0"), (3, b""), (100, b"\x01\0")], "100*y*x + x + 3"),
+        (&[(1, b"x"), (3, b""), (100, b"yx")], "100*y*x + x + 3"),
     ] {
-        let f = poly(alloc, terms)?;
-        let text = poly_text(alloc, &names, &f)?;
+        let f = poly(alloc, &alphabet, terms)?;
+        let text = poly_text(alloc, names, &f)?;
         assert_eq!(rt; text.as_slice(), want.as_bytes(), "{want}");
     }
-    let s = sig(alloc, &[0, 1], 2, &[])?;
-    let text = sig_text(alloc, &names, &s)?;
+    let s = sig(alloc, &alphabet, b"xy", 2, b"")?;
+    let text = sig_text(alloc, names, &s)?;
     assert_eq!(rt; text.as_slice(), "x*y [2] 1".as_bytes());
+    Ok(())
+}
+
+#[test]
+fn settings(rt: HostRuntime) -> Result<(), Fail> {
+    let alloc = rt.alloc();
+    for (weight, want) in [
+        (1, "field 101\nletters x y\ngenerator x*x + 100*y\n"),
+        (
+            2,
+            "field 101\nletters x y\nweights 1 2\ngenerator 100*y + x*x\n",
+        ),
+    ] {
+        let s = setting(alloc, alphabet(alloc, weight)?)?;
+        let mut text = Vec::new(alloc);
+        write_setting(&mut text, &s)?;
+        assert_eq!(rt; text.as_slice(), want.as_bytes(), "{want}");
+    }
     Ok(())
 }
 
 #[test]
 fn certificates(rt: HostRuntime) -> Result<(), Fail> {
     let alloc = rt.alloc();
+    let alphabet = alphabet(alloc, 2)?;
+    let text = lines_text(alloc, alphabet.names(), &lines(alloc, &alphabet)?)?;
+    let want = "line\npart 1 1 [1] 1\nline\npart 1 x {1} 1\npart 100 1 {1} x\n";
+    assert_eq!(rt; text.as_slice(), want.as_bytes());
+
+    // Without a line the value is zero, which is the claim.
+    let certificate = Certificate {
+        setting: setting(alloc, alphabet)?,
+        claim: Poly::zero(alloc),
+        lines: Lines::empty(alloc),
+    };
     let mut text = Vec::new(alloc);
-    write_certificate(&mut text, &certificate_of_zero(alloc)?)?;
-    let want = "certificate 1\nfield 101\nletters x\nclaim 0\nend\n";
+    write_certificate(&mut text, &certificate)?;
+    let want =
+        "certificate 2\nfield 101\nletters x y\nweights 1 2\ngenerator 100*y + x*x\nclaim 0\nend\n";
     assert_eq!(rt; text.as_slice(), want.as_bytes());
     Ok(())
 }

@@ -1,7 +1,7 @@
 use Rattle.std.proofs.Common.{arith}
 use Rattle.nc_print.proofs.Writing.{written_more}
 use Rattle.nc_print.specs.Printing.{generator_line}
-use Rattle.nc_print.proofs.certificate.write_generators.Goals as goal
+use Rattle.nc_print.proofs.setting.write_generators.Goals as goal
 
 pub loop-f-preserved : goal.loop-f-preserved
 loop-f-preserved c =
