@@ -13,6 +13,6 @@ mod tests;
 pub use alphabet::{Alphabet, has_name};
 pub use certificate::Certificate;
 pub use line::{Line, Lines, MAX_LINES, Of, Part};
-pub use name::{Name, is_name_byte};
+pub use name::Name;
 pub use problem::{Bound, Problem};
 pub use setting::Setting;

@@ -25,7 +25,7 @@ impl Model for Name {
 }
 
 /// Whether a byte may stand in a name behind its first one.
-pub fn is_name_byte(byte: u8) -> bool
+fn is_name_byte(byte: u8) -> bool
     ensures { result ≡ is_name_byte byte }
 {
     byte.is_ascii_alphanumeric() || byte == b'_'
