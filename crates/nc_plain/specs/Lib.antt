@@ -5,3 +5,5 @@ pub mod Turns
 pub mod Best
 pub mod Covers
 pub mod Outcomes
+pub mod Problems
+pub mod Nexts

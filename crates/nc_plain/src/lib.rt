@@ -8,6 +8,7 @@ mod entry;
 mod monomial;
 mod outcome;
 mod place;
+mod problem;
 mod reduction;
 mod state;
 #[cfg(test)]
@@ -21,6 +22,7 @@ pub use cover::is_covered;
 pub use divisor::{Chosen, first_regular};
 pub use entry::Entry;
 pub use monomial::Monomial;
+pub use problem::{Bound, End, Problem};
 pub use outcome::{Outcome, add_outcome, handle, has_source};
 pub use reduction::{Reduced, reduce};
 pub use state::{State, Syzygy};

@@ -91,6 +91,17 @@ impl Monomial {
         self.left.weight() + weight_of(setting, self.generator) + self.right.weight()
     }
 
+    /// Compares the two monomials.
+    pub fn compare(&self, setting: &Setting, other: &Monomial) -> Ordering
+        ensures { result ≡ compare_monomials (generator_weight setting.now.setting) self.now other.now }
+    {
+        self.degree(setting)
+            .cmp(&other.degree(setting))
+            .then(self.generator.cmp(&other.generator))
+            .then(self.left.order(&other.left))
+            .then(self.right.order(&other.right))
+    }
+
     /// Compares u m v with the other monomial.
     pub fn compare_times(&self, setting: &Setting, u: &Word, v: &Word, other: &Monomial) -> Ordering
         ensures { result ≡ compare_monomials (generator_weight setting.now.setting) (times u.now self.now v.now) other.now }
