@@ -10,3 +10,5 @@ pub mod Runs
 pub mod Handling
 pub mod Tested
 pub mod Problems
+pub mod Meetings
+pub mod Nexts

@@ -6,4 +6,5 @@ pub mod Best
 pub mod Covers
 pub mod Outcomes
 pub mod Problems
+pub mod Meetings
 pub mod Nexts

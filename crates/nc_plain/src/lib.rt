@@ -2,9 +2,11 @@
 #![tactic(auto)]
 
 mod best;
+mod candidates;
 mod cover;
 mod divisor;
 mod entry;
+mod meeting;
 mod monomial;
 mod outcome;
 mod place;
@@ -18,12 +20,13 @@ mod trace;
 mod usable;
 
 pub use best::{Best, best_multiple};
+pub use candidates::next;
 pub use cover::is_covered;
 pub use divisor::{Chosen, first_regular};
 pub use entry::Entry;
 pub use monomial::Monomial;
-pub use problem::{Bound, End, Problem};
 pub use outcome::{Outcome, add_outcome, handle, has_source};
+pub use problem::{Bound, End, Problem};
 pub use reduction::{Reduced, reduce};
 pub use state::{State, Syzygy};
 pub use trace::{Origin, Start, Step, Trace};

@@ -8,6 +8,7 @@ ghost use Rattle.std.specs.Prelude.{IfOk, length, ◌+◌, ◌++◌, ◌≡◌, 
 
 use nc_module::Setting;
 use nc_words::{Letter, Word};
+use std::alloc::{AllocError, Global};
 use std::cmp::Ordering;
 use std::marker::Model;
 
@@ -111,5 +112,20 @@ impl Monomial {
             .then(self.generator.cmp(&other.generator))
             .then(compare_joined(u, &self.left, &other.left))
             .then(compare_joined(&self.right, v, &other.right))
+    }
+
+    /// u m v.
+    pub fn times(&self, alloc: Global, u: &Word, v: &Word) -> Result<Monomial, AllocError>
+        requires left { length u.now + length self.now.left ≤ 200000 }
+        requires right { length self.now.right + length v.now ≤ 200000 }
+        ensures { IfOk result (λ m. m ≡ times u.now self.now v.now) }
+    {
+        let left = Word::join(alloc, u.letters(), self.left.letters(), &[])?;
+        let right = Word::join(alloc, self.right.letters(), v.letters(), &[])?;
+        Ok(Monomial {
+            left,
+            generator: self.generator,
+            right,
+        })
     }
 }

@@ -43,6 +43,13 @@ pub enum End {
 }
 
 impl Problem {
+    /// The setting.
+    pub fn setting(&self) -> &Setting
+        ensures { result.now.setting ≡ self.now.setting }
+    {
+        &self.setting
+    }
+
     /// Whether the monomial lies within the bound.
     pub fn within(&self, m: &Monomial) -> bool
         ensures { IsTrue result ↔ IsWithin self.now m.now }
