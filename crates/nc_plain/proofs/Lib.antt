@@ -9,3 +9,4 @@ pub mod Turns
 pub mod Runs
 pub mod Handling
 pub mod Tested
+pub mod Reached

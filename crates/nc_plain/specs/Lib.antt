@@ -7,3 +7,4 @@ pub mod Covers
 pub mod Outcomes
 pub mod Problems
 pub mod Nexts
+pub mod Ends

@@ -10,6 +10,7 @@ mod outcome;
 mod place;
 mod problem;
 mod reduction;
+mod sequential;
 mod state;
 #[cfg(test)]
 mod tests;
@@ -22,8 +23,9 @@ pub use cover::is_covered;
 pub use divisor::{Chosen, first_regular};
 pub use entry::Entry;
 pub use monomial::Monomial;
-pub use problem::{Bound, End, Problem};
 pub use outcome::{Outcome, add_outcome, handle, has_source};
+pub use problem::{Bound, End, Problem};
 pub use reduction::{Reduced, reduce};
+pub use sequential::{Ended, run};
 pub use state::{State, Syzygy};
 pub use trace::{Origin, Start, Step, Trace};

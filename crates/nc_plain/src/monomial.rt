@@ -8,6 +8,7 @@ ghost use Rattle.std.specs.Prelude.{IfOk, length, ◌+◌, ◌++◌, ◌≡◌, 
 
 use nc_module::Setting;
 use nc_words::{Letter, Word};
+use std::alloc::AllocError;
 use std::cmp::Ordering;
 use std::marker::Model;
 
@@ -81,6 +82,19 @@ impl Monomial {
         ensures { result.now ≡ self.now.right }
     {
         &self.right
+    }
+
+    /// An equal monomial.
+    pub fn copy(&self) -> Result<Monomial, AllocError>
+        ensures { IfOk result (λ m. m ≡ self.now) }
+    {
+        let left = self.left.copy()?;
+        let right = self.right.copy()?;
+        Ok(Monomial {
+            left,
+            generator: self.generator,
+            right,
+        })
     }
 
     /// The words and the generator weigh this together.
