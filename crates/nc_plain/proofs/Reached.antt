@@ -5,7 +5,7 @@ use Rattle.nc_algebra.proofs.Orders.{nat_order}
 use Rattle.nc_algebra.proofs.Ranks.{AreLetters, IsLetterOf, over_letters}
 use Rattle.nc_algebra.proofs.Sums.{zero_number}
 use Rattle.nc_algebra.specs.Certificates.{IsLetterBelow, IsSetting, IsTextWord, NamedSetting, letter_at}
-use Rattle.nc_algebra.specs.Elements.{Element, IsLabelled, IsLess, IsZeroPolynomial, Setting, WordsAre, degree, generator}
+use Rattle.nc_algebra.specs.Elements.{Element, IsGenerator, IsLabelled, IsLess, IsZeroPolynomial, Setting, WordsAre, degree, generator}
 use Rattle.nc_algebra.specs.Finite.{Among, IsOver, bound_degree}
 use Rattle.nc_algebra.specs.Monomials.{Monomial, unit_monomial}
 use Rattle.nc_algebra.specs.Polynomials.{IsNormal, Polynomial}
@@ -26,9 +26,9 @@ use Rattle.nc_theory.specs.Ambiguities.{Ambiguity}
 use Rattle.nc_theory.specs.Divisors.{Multiple}
 use Rattle.nc_theory.specs.Letters.{AreOver}
 use Rattle.nc_theory.specs.Rebuilding.{Rebuilds}
-use Rattle.nc_theory.specs.Runs.{IsNext, SequentialRun}
+use Rattle.nc_theory.specs.Runs.{End, IsEnd, IsNext, SequentialRun}
 use Rattle.nc_theory.specs.States.{Entry, State}
-use Rattle.std.proofs.Common.{Contains, List, Option, Some, [], add-one, ap, arith, get_or, inl, inr, length, subst, suc, sym, zero, ℕ, ◌+◌, ◌<◌, ◌∷◌, ◌≡◌, ◌≤◌, ◌⊎◌}
+use Rattle.std.proofs.Common.{Contains, List, None, Option, Some, [], add-one, ap, arith, get_or, inl, inr, length, subst, suc, sym, zero, ℕ, ◌+◌, ◌<◌, ◌∷◌, ◌≡◌, ◌≤◌, ◌⊎◌}
 use Rattle.std.proofs.lemmas.List.Elements.{Contains-append_left, recursion_from_All}
 use Rattle.std.proofs.lemmas.List.{get_or_default, get_or_past}
 use Rattle.std.specs.List.{All, AllByRecursion}
@@ -129,31 +129,45 @@ module _ (s : NamedSetting) (setting : IsSetting s) (P : Problem) (same : P.sett
   pub run_counted : state.covered + state.settled ≤ n
   run_counted = omega (arith, counts P run)
 
-  -- what handling the next signature asks, said of the setting itself
-  module _ (found : Option Monomial) (known : IsNextOf P state last found) (τ : Monomial) (is : found ≡ Some τ) where
-    next : IsNext P state last τ
-    next = subst (IsNextOf P state last) is known
+  -- what the search for the next signature found
+  module _ (before : Option Monomial) (is_last : before ≡ last) (found : Option Monomial) (known : IsNextOf P state before found) where
+    answer : IsNextOf P state last found
+    answer = subst (λ l. IsNextOf P state l found) is_last known
 
-    pub next_entries : All (IsUsable s.setting) state.entries
-    next_entries = subst (λ (t : Setting). All (IsUsable t) state.entries) same run_usable
+    pub none_ends : n ≤ P.steps → found ≡ None → IsEnd P n state End.complete
+    none_ends h is = IsEnd.is_complete h run (subst (IsNextOf P state last) is answer)
 
-    pub next_usable : IsUsableSignature s.setting τ
-    next_usable = record {
-      limited = subst (λ (t : Setting). degree t τ ≤ 200000) same (omega (arith, limit, bounded P.setting P.bound τ next.candidate.0.1));
-      left = letters τ.left (candidate_over P field (letters_to 64) inputs state alive over τ next.candidate).0;
-      right = letters τ.right (candidate_over P field (letters_to 64) inputs state alive over τ next.candidate).1;
-    }
+    -- what handling it asks is said of the setting itself
+    module _ (τ : Monomial) (is : found ≡ Some τ) where
+      next : IsNext P state last τ
+      next = subst (IsNextOf P state last) is answer
 
-    pub next_source : ((i : ℕ) × (τ ≡ unit_monomial i)) ⊎ ((w : Word) × Multiple s.setting state.entries τ w)
-    next_source = go next.candidate.1
-      where
-        go : ((i : ℕ) × (τ ≡ unit_monomial i)) ⊎ ((w : Word) × Ambiguity P.setting state.entries τ w) → ((i : ℕ) × (τ ≡ unit_monomial i)) ⊎ ((w : Word) × Multiple s.setting state.entries τ w)
-        go (inl u) = inl u
-        go (inr (w, a)) = inr (w, subst (λ (t : Setting). Multiple t state.entries τ w) same (record { divisor = a.high; signed = a.signed }))
+      pub next_ends : n ≡ P.steps → IsEnd P n state (End.budget τ)
+      next_ends e = IsEnd.is_budget e run τ next
 
-    -- its outcome makes one step more
-    pub next_handled : (later : State) → IsHandled s.setting state τ later → SequentialRun P (n + 1) later (Some τ)
-    next_handled later h = go (subst (λ (t : Setting). IsHandled t state τ later) (sym same) h)
-      where
-        go : IsHandled P.setting state τ later → SequentialRun P (n + 1) later (Some τ)
-        go (o, k, e) = subst (λ m. SequentialRun P m later (Some τ)) (sym (add-one n)) (subst (λ t. SequentialRun P (suc n) t (Some τ)) (sym e) (SequentialRun.handled run τ next o k))
+      pub next_entries : All (IsUsable s.setting) state.entries
+      next_entries = subst (λ (t : Setting). All (IsUsable t) state.entries) same run_usable
+
+      pub next_usable : IsUsableSignature s.setting τ
+      next_usable = record {
+        limited = subst (λ (t : Setting). degree t τ ≤ 200000) same (omega (arith, limit, bounded P.setting P.bound τ next.candidate.0.1));
+        left = letters τ.left (candidate_over P field (letters_to 64) inputs state alive over τ next.candidate).0;
+        right = letters τ.right (candidate_over P field (letters_to 64) inputs state alive over τ next.candidate).1;
+      }
+
+      pub next_generator : IsGenerator s.setting τ.generator
+      next_generator = subst (λ (t : Setting). IsGenerator t τ.generator) same next.candidate.0.0
+
+      pub next_source : ((i : ℕ) × (τ ≡ unit_monomial i)) ⊎ ((w : Word) × Multiple s.setting state.entries τ w)
+      next_source = go next.candidate.1
+        where
+          go : ((i : ℕ) × (τ ≡ unit_monomial i)) ⊎ ((w : Word) × Ambiguity P.setting state.entries τ w) → ((i : ℕ) × (τ ≡ unit_monomial i)) ⊎ ((w : Word) × Multiple s.setting state.entries τ w)
+          go (inl u) = inl u
+          go (inr (w, a)) = inr (w, subst (λ (t : Setting). Multiple t state.entries τ w) same (record { divisor = a.high; signed = a.signed }))
+
+      -- its outcome makes one step more
+      pub next_handled : (later : State) → IsHandled s.setting state τ later → SequentialRun P (n + 1) later (Some τ)
+      next_handled later h = go (subst (λ (t : Setting). IsHandled t state τ later) (sym same) h)
+        where
+          go : IsHandled P.setting state τ later → SequentialRun P (n + 1) later (Some τ)
+          go (o, k, e) = subst (λ m. SequentialRun P m later (Some τ)) (sym (add-one n)) (subst (λ t. SequentialRun P (suc n) t (Some τ)) (sym e) (SequentialRun.handled run τ next o k))

@@ -56,7 +56,7 @@ pub fn run(alloc: Global, problem: &Problem) -> Result<Ended, AllocError>
     let mut state = State::new(alloc);
     let mut last = None;
     'steps: loop {
-        let Some(signature) = next(alloc, problem, &state, &last)? else {
+        let Some(signature) = next(alloc, problem, &state, last.as_ref())? else {
             let end = End::Complete;
             return Ok(Ended {
                 handled,
