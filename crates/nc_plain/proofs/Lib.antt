@@ -12,3 +12,4 @@ pub mod Tested
 pub mod Problems
 pub mod Meetings
 pub mod Nexts
+pub mod Reached

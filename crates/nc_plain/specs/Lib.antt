@@ -8,3 +8,4 @@ pub mod Outcomes
 pub mod Problems
 pub mod Meetings
 pub mod Nexts
+pub mod Ends

@@ -12,6 +12,7 @@ mod outcome;
 mod place;
 mod problem;
 mod reduction;
+mod sequential;
 mod state;
 #[cfg(test)]
 mod tests;
@@ -28,5 +29,6 @@ pub use monomial::Monomial;
 pub use outcome::{Outcome, add_outcome, handle, has_source};
 pub use problem::{Bound, End, Problem};
 pub use reduction::{Reduced, reduce};
+pub use sequential::{Ended, run};
 pub use state::{State, Syzygy};
 pub use trace::{Origin, Start, Step, Trace};

@@ -84,6 +84,19 @@ impl Monomial {
         &self.right
     }
 
+    /// An equal monomial.
+    pub fn copy(&self) -> Result<Monomial, AllocError>
+        ensures { IfOk result (λ m. m ≡ self.now) }
+    {
+        let left = self.left.copy()?;
+        let right = self.right.copy()?;
+        Ok(Monomial {
+            left,
+            generator: self.generator,
+            right,
+        })
+    }
+
     /// The words and the generator weigh this together.
     pub fn degree(&self, setting: &Setting) -> u32
         ensures degree { result ≡ degree setting.now.setting self.now }

@@ -204,16 +204,6 @@ fn step(
     Ok(out)
 }
 
-/// The state with nothing in it.
-fn opening(alloc: Global) -> State {
-    State {
-        entries: Vec::new(alloc),
-        syzygies: Vec::new(alloc),
-        covered: 0,
-        settled: 0,
-    }
-}
-
 /// Handles the signatures in turn, each with what must become of it, and then compares the numbers of entries and
 /// syzygies, and of signatures that were covered and settled.
 fn run(
@@ -223,7 +213,7 @@ fn run(
     steps: &[(&str, usize, &str, &str)],
     counts: (usize, usize, usize, usize),
 ) -> Result<(), Fail> {
-    let mut state = opening(alloc);
+    let mut state = State::new(alloc);
     for (left, generator, right, want) in steps {
         let out = step(rt, alloc, setting, &mut state, left, *generator, right)?;
         assert_eq!(rt; out.as_str(), *want);
