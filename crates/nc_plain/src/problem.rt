@@ -1,7 +1,8 @@
 //! Problems, and how a run ends.
 
+ghost use Rattle.nc_algebra.specs.Finite.{bound_degree};
 ghost use Rattle.nc_algebra.specs.Problems.{IsWithin};
-ghost use Rattle.std.specs.Prelude.{IsTrue, ◌↔◌, ◌≡◌};
+ghost use Rattle.std.specs.Prelude.{IsTrue, ◌↔◌, ◌≡◌, ◌≤◌};
 
 use crate::monomial::Monomial;
 use nc_module::Setting;
@@ -48,6 +49,16 @@ impl Problem {
         ensures { result.now.setting ≡ self.now.setting }
     {
         &self.setting
+    }
+
+    /// Whether no monomial of the bound has a degree above 100,000, as `run` asks.
+    pub fn is_low(&self) -> bool
+        ensures { IsTrue result ↔ bound_degree self.now.setting self.now.bound ≤ 100000 }
+    {
+        match &self.bound {
+            Bound::Degree(d) => *d <= 100_000,
+            Bound::Under(beta) => beta.degree(&self.setting) <= 100_000,
+        }
     }
 
     /// Whether the monomial lies within the bound.
