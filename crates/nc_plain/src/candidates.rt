@@ -9,7 +9,7 @@ ghost use Rattle.nc_algebra.specs.Polynomials.{leading};
 ghost use Rattle.std.specs.Prelude.{All, IfOk, IsTrue, length, option_copied, ◌<◌, ◌↔◌, ◌≡◌, ◌≤◌};
 
 use crate::entry::Entry;
-use crate::meeting::{lead, signature_at};
+use crate::meeting::signature_at;
 use crate::monomial::Monomial;
 use crate::problem::Problem;
 use crate::state::State;
@@ -113,7 +113,7 @@ fn of_pair(
     ensures { IfOk result (IsLeastLeft problem.now (option_copied last.entry) (MeetSomewhere problem.now.setting first.now second.now)) }
 {
     let mut best = None;
-    for at in 0..lead(first).len() {
+    for at in 0..first.lead().len() {
         let next = candidate_at(alloc, problem, last, first, second, at)?;
         best = lesser(problem.setting(), best, next);
     }

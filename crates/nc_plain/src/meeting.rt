@@ -1,11 +1,11 @@
 //! Leading words that meet.
 
 ghost use Rattle.nc_algebra.specs.Monomials.{times};
-ghost use Rattle.nc_algebra.specs.Polynomials.{IsNormal, leading};
+ghost use Rattle.nc_algebra.specs.Polynomials.{leading};
 ghost use Rattle.nc_algebra.specs.Elements.{degree};
 ghost use Rattle.nc_plain.specs.Meetings.{IsGreaterOf, IsMeeting, IsOnly, MeetAt};
 ghost use Rattle.nc_plain.specs.Usable.{IsUsable};
-ghost use Rattle.std.specs.Prelude.{IfOk, length, ℕ, ◌+◌, ◌<◌, ◌≡◌, ◌≢◌, ◌≤◌, []};
+ghost use Rattle.std.specs.Prelude.{IfOk, length, ◌+◌, ◌<◌, ◌≡◌, ◌≤◌, []};
 
 use crate::entry::Entry;
 use crate::monomial::Monomial;
@@ -20,17 +20,6 @@ pub struct Meeting {
     pub before: Word,
     pub behind_first: Word,
     pub behind_second: Word,
-}
-
-/// The entry's leading word.
-pub fn lead(entry: &Entry) -> &[Letter]
-    requires { entry.now.polynomial ≢ [] }
-    ensures { (p : ℕ) → IsNormal p entry.now.polynomial → result.now ≡ leading p entry.now.polynomial }
-{
-    let Some(term) = entry.polynomial().lead() else {
-        unreachable!()
-    };
-    term.letters()
 }
 
 /// What stands around the two words, where the second one begins so many letters behind the beginning of the first.
@@ -88,11 +77,11 @@ pub fn signature_at(
     requires within { at < length (leading setting.now.setting.prime first.now.polynomial) }
     ensures { IfOk result (IsOnly (MeetAt setting.now.setting first.now second.now at)) }
 {
-    let other = lead(second);
+    let other = second.lead();
     if at == 0 && other.is_empty() {
         return Ok(None);
     }
-    let Some(meeting) = meet(alloc, lead(first), other, at)? else {
+    let Some(meeting) = meet(alloc, first.lead(), other, at)? else {
         return Ok(None);
     };
     let front = Word::empty(alloc);

@@ -7,6 +7,7 @@ ghost use Rattle.nc_algebra.specs.Certificates.{AreTextWords, IsTextGenerator, I
 ghost use Rattle.nc_algebra.specs.Polynomials.{AreResidues};
 ghost use Rattle.std.specs.Prelude.{All, IfOk, IsTrue, length, ◌≡◌, ◌≤◌};
 
+use crate::usable::are_residues;
 use crate::{Origin, Trace};
 use nc_field::{Prime, Residue};
 use nc_module::{Name, Setting};
@@ -83,13 +84,6 @@ fn are_text_words(f: &Poly) -> bool
     ensures { IsTrue result → AreTextWords 4 f.now }
 {
     f.terms().iter().all(|t| is_text_word(t.letters()))
-}
-
-/// Whether the coefficients lie below the prime.
-fn are_residues(p: Prime, f: &Poly) -> bool
-    ensures { IsTrue result → AreResidues p f.now }
-{
-    f.terms().iter().all(|t| t.coefficient < p.number())
 }
 
 /// Whether it may be a generator.
