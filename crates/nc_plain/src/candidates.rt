@@ -59,12 +59,8 @@ fn lesser(setting: &Setting, best: Option<Monomial>, next: Option<Monomial>) -> 
 }
 
 /// The least `1 [i] 1` that is left.
-fn of_generators(
-    alloc: Global,
-    problem: &Problem,
-    last: Option<&Monomial>,
-) -> Result<Option<Monomial>, AllocError>
-    ensures { IfOk result (IsLeastLeft problem.now (option_copied last.entry) IsUnit) }
+fn of_generators(alloc: Global, problem: &Problem, last: Option<&Monomial>) -> Option<Monomial>
+    ensures { IsLeastLeft problem.now (option_copied last.entry) IsUnit result }
 {
     let mut best = None;
     for index in 0..problem.setting().generators().len() {
@@ -75,7 +71,7 @@ fn of_generators(
         };
         best = lesser(problem.setting(), best, if_left(problem, last, Some(unit)));
     }
-    Ok(best)
+    best
 }
 
 /// The signature where the two leading words meet so, if it is left.
@@ -173,7 +169,7 @@ pub fn next(
     requires short { All (λ e. degree problem.now.setting e.signature ≤ 100000) state.now.entries }
     ensures { IfOk result (IsNextOf problem.now state.now (option_copied last.entry)) }
 {
-    let generator = of_generators(alloc, problem, last)?;
+    let generator = of_generators(alloc, problem, last);
     let ambiguity = of_ambiguities(alloc, problem, last, state.entries())?;
     Ok(lesser(problem.setting(), generator, ambiguity))
 }
