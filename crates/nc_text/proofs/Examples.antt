@@ -4,13 +4,14 @@ use Rattle.nc_algebra.specs.Polynomials.{Polynomial, normal_form, with_term}
 use Rattle.nc_algebra.specs.Words.{Word}
 use Rattle.nc_text.specs.Certificates.{certificate_at, claim_line, end_line, form_line, reads_certificate, term_lines}
 use Rattle.nc_text.specs.Settings.{field_line, generator_lines, letters_line, setting_lines}
-use Rattle.nc_text.specs.Lines.{fault_at, lines, the_end, the_line, written}
-use Rattle.nc_text.specs.Printing.{certificate_text}
-use Rattle.nc_text.specs.Reading.{end_at, exponent_at, factor_at, factors_at, literal_at, name_at, poly_at, sign_at, term_at, terms_at, word_behind}
-use Rattle.nc_text.specs.Rows.{close_at, field_at, form_at, generator_at, letters_at, mono_at, multiple_at, open_at, side_at}
-use Rattle.nc_text.specs.Tokens.{pieces, tokens}
-use Rattle.nc_text.specs.declared.fault.Kind.{Kind}
-use Rattle.nc_text.specs.declared.fault.Kind.TheVariants.{BadByte, BadName, BadPrime, DoubleName, LongLiteral, LongWord, Missing, OutOfRange, Syntax, TooManyGenerators, UnknownName, WrongLine, ZeroGenerator}
+use Rattle.nc_tokens.specs.Lines.{fault_at, lines, the_end, the_line, written}
+use Rattle.nc_print.specs.Printing.{certificate_text}
+use Rattle.nc_tokens.specs.Wanted.{close_at, end_at, exponent_at, literal_at, name_at, open_at, sign_at}
+use Rattle.nc_text.specs.Reading.{factor_at, factors_at, poly_at, term_at, terms_at, word_behind}
+use Rattle.nc_text.specs.Rows.{field_at, form_at, generator_at, letters_at, mono_at, multiple_at, side_at}
+use Rattle.nc_tokens.specs.Tokens.{pieces, tokens}
+use Rattle.nc_tokens.specs.declared.fault.Kind.{Kind}
+use Rattle.nc_tokens.specs.declared.fault.Kind.TheVariants.{BadByte, BadName, BadPrime, DoubleName, LongLiteral, LongWord, Missing, OutOfRange, Syntax, TooManyGenerators, UnknownName, WrongLine, ZeroGenerator}
 use Rattle.std.proofs.Common.{Err, List, Ok, Result, [], codes, refl, ℕ, ◌∷◌, ◌≡◌}
 use Rattle.std.specs.Fmt.{digits}
 

@@ -2,11 +2,11 @@
 use Rattle.nc_algebra.specs.Certificates.{IsSetting, NamedSetting}
 use Rattle.nc_algebra.specs.Polynomials.{Polynomial}
 use Rattle.nc_text.proofs.ReadCertificates.{setting_lines_read}
-use Rattle.nc_text.proofs.Repeated.{AreLines, line_then, passed_by, taken}
-use Rattle.nc_text.specs.Lines.{End, Line, Row, Written, a_line}
+use Rattle.nc_tokens.proofs.Repeated.{AreLines, line_then, passed_by, taken}
+use Rattle.nc_tokens.specs.Lines.{End, Line, Row, Written, a_line}
 use Rattle.nc_text.specs.Rows.{generator_at}
 use Rattle.nc_text.specs.Settings.{field_line, generator_lines, letters_line, setting_lines}
-use Rattle.nc_text.specs.declared.fault.TextFault.{TextFault}
+use Rattle.nc_tokens.specs.declared.fault.TextFault.{TextFault}
 use Rattle.std.proofs.Common.{IfOk, List, None, Ok, Result, Some, [], codes, refl, subst, ℕ, ◌-◌, ◌≡◌}
 
 one_more : (p : ℕ) (names : List (List ℕ)) (room : ℕ) (w : Written) (r : Row) → a_line (codes "generator") w ≡ Some r

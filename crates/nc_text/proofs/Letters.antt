@@ -1,16 +1,16 @@
 -- Reading names one after the other, as a loop does.
 use Rattle.std.proofs.Common.{◌≡◌, ℕ, cond, nat_eq, Bor, List, [], ◌∷◌, ◌++◌, length, Result, Ok, Err, refl, sym, ap, subst, ◌∙◌}
-use Rattle.nc_text.specs.declared.fault.Kind.{Kind}
-use Rattle.nc_text.specs.declared.fault.Kind.TheVariants.{Syntax, BadName}
-use Rattle.nc_text.specs.declared.fault.LineError.{LineError}
-use Rattle.nc_text.specs.declared.token.Token as shown
-use Rattle.nc_text.specs.declared.token.Token.TheVariants as code
-use Rattle.nc_text.specs.Tokens.{Token, Name}
-use Rattle.nc_text.specs.Gives.{Fails}
-use Rattle.nc_text.specs.Reading.{◌>>=◌}
-use Rattle.nc_text.specs.Shown.{before}
+use Rattle.nc_tokens.specs.declared.fault.Kind.{Kind}
+use Rattle.nc_tokens.specs.declared.fault.Kind.TheVariants.{Syntax, BadName}
+use Rattle.nc_tokens.specs.declared.fault.LineError.{LineError}
+use Rattle.nc_tokens.specs.declared.token.Token as shown
+use Rattle.nc_tokens.specs.declared.token.Token.TheVariants as code
+use Rattle.nc_tokens.specs.Tokens.{Token, Name}
+use Rattle.nc_tokens.specs.Gives.{Fails}
+use Rattle.nc_tokens.specs.Wanted.{◌>>=◌}
+use Rattle.nc_tokens.specs.Shown.{before}
 use Rattle.nc_text.specs.Rows.{further_name, letters_at}
-use Rattle.nc_text.proofs.Takes.{bind_fails}
+use Rattle.nc_tokens.proofs.Takes.{bind_fails}
 
 abbrev Read : Type 0
 Read = Result (List (List ℕ)) Kind
@@ -44,6 +44,8 @@ wrong names code.Times rest a b = refl
 wrong names code.Power rest a b = refl
 wrong names code.Open rest a b = refl
 wrong names code.Close rest a b = refl
+wrong names code.OpenBrace rest a b = refl
+wrong names code.CloseBrace rest a b = refl
 wrong names code.Bad rest a b = refl
 wrong names code.End rest a b = absurd (a refl)
 

@@ -4,7 +4,7 @@ use Rattle.nc_algebra.specs.Certificates.{IsTextWord}
 use Rattle.nc_algebra.specs.Words.{Word, word_weight}
 use Rattle.nc_text.proofs.ReadWords.{word_reads}
 use Rattle.nc_text.specs.Reading.{word_at}
-use Rattle.nc_text.specs.Tokens.{Token}
+use Rattle.nc_tokens.specs.Tokens.{Token}
 use Rattle.std.proofs.Common.{IfOk, List, Ok, length, subst, ℕ, ◌≡◌, ◌≤◌}
 
 pub weight_of_read : (names : List (List ℕ)) (ts rest : List Token) (w : Word) → word_at names ts ≡ Ok (w, rest) → word_weight w ≤ 255

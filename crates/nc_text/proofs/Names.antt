@@ -2,12 +2,12 @@
 use Rattle.nc_algebra.specs.Certificates.{IsLetterBelow, is_name}
 use Rattle.nc_algebra.specs.Finite.{Among, IsDistinct}
 use Rattle.nc_algebra.specs.Words.{Letter}
-use Rattle.nc_text.specs.Printing.{name_of}
+use Rattle.nc_tokens.proofs.Bytes.{bytes_apart, bytes_same}
+use Rattle.nc_print.specs.Printing.{name_of}
 use Rattle.nc_text.specs.Reading.{letter_of}
-use Rattle.std.proofs.Common.{All, Bool, IsTrue, List, Ok, [], arith, bytes_eq, false, get_or, inl, inr, length, refl, subst, suc, sym, true, zero, ℕ, ◌<◌, ◌∷◌, ◌≡◌}
+use Rattle.std.proofs.Common.{All, IsTrue, List, Ok, [], arith, bytes_eq, get_or, inl, inr, length, refl, subst, suc, sym, true, zero, ℕ, ◌<◌, ◌∷◌, ◌≡◌}
 use Rattle.std.proofs.lemmas.Bool.{lt-ltb}
 use Rattle.std.proofs.lemmas.List.Sums.{position_or_len_is}
-use Rattle.std.proofs.lemmas.Slice.Eq.{bytes_eq-Decides}
 use Rattle.std.specs.List.{position_or_len}
 use Rattle.std.specs.Prelude.{nat_lt}
 
@@ -21,16 +21,6 @@ distinct_at [] d k i h less within e = omega arith
 distinct_at (x ∷ xs) d k zero h less within e = omega arith
 distinct_at (x ∷ xs) d zero (suc i) h less within e = h.0 (subst (λ y. Among y xs) (sym e) (among_at xs i d (omega arith)))
 distinct_at (x ∷ xs) d (suc k) (suc i) h less within e = distinct_at xs d k i h.1 (omega arith) (omega arith) e
-
-pub bytes_same : (xs : List ℕ) → bytes_eq xs xs ≡ true
-bytes_same xs = (bytes_eq-Decides xs xs).1 refl
-
-pub bytes_apart : (xs ys : List ℕ) → (xs ≡ ys → ⊥) → bytes_eq xs ys ≡ false
-bytes_apart xs ys h = by_test (bytes_eq xs ys) refl
-  where
-    by_test : (b : Bool) → bytes_eq xs ys ≡ b → b ≡ false
-    by_test true e = absurd (h ((bytes_eq-Decides xs ys).0 e))
-    by_test false e = refl
 
 -- names that letters may have: each is a name, and reading it gives its letter
 pub record AreNames (names : List (List ℕ)) : Type 0 where

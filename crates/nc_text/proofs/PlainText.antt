@@ -1,36 +1,13 @@
 -- The bytes of printed pieces are plain.
-use Rattle.nc_algebra.specs.Certificates.{is_name, is_name_byte}
 use Rattle.nc_algebra.specs.Monomials.{Monomial}
 use Rattle.nc_algebra.specs.Polynomials.{Polynomial}
 use Rattle.nc_algebra.specs.Words.{Word}
-use Rattle.nc_text.proofs.Digits.{decimal_is}
 use Rattle.nc_text.proofs.Names.{AreNames}
-use Rattle.nc_text.proofs.PrintedLines.{ArePlain, all_weaker, is_plain}
+use Rattle.nc_tokens.proofs.PlainBytes.{ArePlain, decimal_plain, name_plain, plain_append}
 use Rattle.nc_text.proofs.RoundTripPolynomials.{AreLetters, ArePrinted, are_letters}
 use Rattle.nc_text.proofs.RoundTripRows.{AreEachNames, IsTextMonomial}
-use Rattle.nc_text.specs.Printing.{coefficient_and_word, name_of, poly_text, sig_text, term_text, word_text}
-use Rattle.std.proofs.Common.{Bool, List, [], arith, cond, decimal, eqb, false, flat_map, length, map, refl, true, ℕ, ◌++◌, ◌<◌, ◌∙◌, ◌∷◌, ◌≡◌, ◌≤◌}
-use Rattle.std.proofs.lemmas.Bool.Decides.{nat_tests}
-use Rattle.std.proofs.lemmas.Bool.{and_from, and_parts}
-use Rattle.std.proofs.lemmas.List.Folds.{list_all-append}
-use Rattle.std.specs.Char.{is_ascii_alphabetic, is_ascii_digit}
-use Rattle.std.specs.List.{list_all}
-use Rattle.std.specs.Prelude.{nat_le, slice_index}
-
-pub plain_append : (xs ys : List ℕ) → ArePlain xs → ArePlain ys → ArePlain (xs ++ ys)
-plain_append xs ys h k = list_all-append is_plain xs ys ∙ and_from _ _ h k
-
-digit_plain : (b : ℕ) → is_ascii_digit b ≡ true → is_plain b ≡ true
-digit_plain b e = grind (arith, nat_tests)
-
-name_byte_plain : (b : ℕ) → is_name_byte b ≡ true → is_plain b ≡ true
-name_byte_plain b e = grind (arith, nat_tests)
-
-pub decimal_plain : (n : ℕ) → n < 65536 → ArePlain (decimal n)
-decimal_plain n small = all_weaker is_ascii_digit is_plain digit_plain (decimal n) (decimal_is n small).digits
-
-pub name_plain : (name : List ℕ) → is_name name ≡ true → ArePlain name
-name_plain name h = all_weaker is_name_byte is_plain name_byte_plain name (and_parts (is_ascii_alphabetic (slice_index name 0)) (list_all is_name_byte name) (and_parts (nat_le (length name) 16) _ h).1).1
+use Rattle.nc_print.specs.Printing.{coefficient_and_word, name_of, poly_text, sig_text, term_text, word_text}
+use Rattle.std.proofs.Common.{Bool, List, [], arith, cond, decimal, eqb, false, flat_map, length, map, refl, true, ℕ, ◌++◌, ◌<◌, ◌∷◌, ◌≤◌}
 
 pub names_plain : (names : List (List ℕ)) → AreEachNames names → ArePlain (flat_map (λ name. (32 ∷ []) ++ name) names)
 names_plain [] h = refl

@@ -1,19 +1,21 @@
 -- Reading a polynomial term after term, as a loop does.
 use Rattle.std.proofs.Common.{◌≡◌, ℕ, zero, suc, ◌≤◌, Bool, true, false, List, [], ◌∷◌, ◌++◌, length, Result, Ok, Err, refl, sym, ap, subst, ◌∙◌, append_assoc, arith}
 use Rattle.std.proofs.lemmas.List.{append-nil, nil_from_length}
-use Rattle.nc_text.specs.declared.fault.Kind.{Kind}
-use Rattle.nc_text.specs.declared.fault.LineError.{LineError}
-use Rattle.nc_text.specs.declared.fault.LineError.TheVariants as errors
-use Rattle.nc_text.specs.declared.token.Token as shown
-use Rattle.nc_text.specs.declared.token.Token.TheVariants as code
+use Rattle.nc_tokens.specs.declared.fault.Kind.{Kind}
+use Rattle.nc_tokens.specs.declared.fault.LineError.{LineError}
+use Rattle.nc_tokens.specs.declared.fault.LineError.TheVariants as errors
+use Rattle.nc_tokens.specs.declared.token.Token as shown
+use Rattle.nc_tokens.specs.declared.token.Token.TheVariants as code
 use Rattle.nc_algebra.specs.Polynomials.{Polynomial}
 use Rattle.nc_algebra.specs.Sums.{Term}
 use Rattle.nc_algebra.specs.Words.{Word}
-use Rattle.nc_text.specs.Gives.{Fails}
-use Rattle.nc_text.specs.Shown.{IsMisplaced, before}
-use Rattle.nc_text.specs.Tokens.{Token, Plus, Minus}
-use Rattle.nc_text.specs.Reading.{◌>>=◌, misplaced, factors_at, term_at, after_term, terms_at, sign_at, sum_at}
-use Rattle.nc_text.proofs.Takes.{bind_fails, term_shorter}
+use Rattle.nc_tokens.specs.Gives.{Fails}
+use Rattle.nc_tokens.specs.Shown.{IsMisplaced, before}
+use Rattle.nc_tokens.specs.Tokens.{Token, Plus, Minus}
+use Rattle.nc_tokens.specs.Wanted.{◌>>=◌, misplaced, sign_at}
+use Rattle.nc_text.specs.Reading.{factors_at, term_at, after_term, terms_at, sum_at}
+use Rattle.nc_tokens.proofs.Takes.{bind_fails}
+use Rattle.nc_text.proofs.Shorter.{term_shorter}
 
 abbrev Read : Type 0
 Read = Result (Polynomial) Kind
@@ -89,6 +91,8 @@ wrong further code.Times rest a b c = refl
 wrong further code.Power rest a b c = refl
 wrong further code.Open rest a b c = refl
 wrong further code.Close rest a b c = refl
+wrong further code.OpenBrace rest a b c = refl
+wrong further code.CloseBrace rest a b c = refl
 wrong further code.Bad rest a b c = refl
 wrong further code.End rest a b c = absurd (a refl)
 

@@ -3,16 +3,16 @@ use Rattle.nc_algebra.specs.Certificates.{Certificate, IsCertificate, IsSetting,
 use Rattle.nc_algebra.specs.Primes.{is_listed_prime}
 use Rattle.nc_text.proofs.ReadRows.{AreLetterNames, field_reads, generator_reads, letters_read, multiple_reads, no_names}
 use Rattle.nc_text.proofs.ReadWords.{poly_reads}
-use Rattle.nc_text.proofs.Steps.{on_any, on_bind, on_choice}
+use Rattle.nc_tokens.proofs.Steps.{on_any, on_bind, on_choice}
 use Rattle.nc_text.proofs.RoundTripCertificates.{listed_facts}
 use Rattle.nc_text.specs.Certificates.{certificate_at, claim_line, end_line, form_line, term_lines}
 use Rattle.nc_text.specs.Settings.{field_line, generator_lines, letters_line, setting_lines}
 use Rattle.nc_text.specs.Laws.{ReadsCertificates}
-use Rattle.nc_text.specs.Lines.{End, Line, Written, at_line, begins, behind, lines, the_line, written}
+use Rattle.nc_tokens.specs.Lines.{End, Line, Written, at_line, begins, behind, lines, the_line, written}
 use Rattle.nc_text.specs.Reading.{poly_at}
 use Rattle.nc_text.specs.Rows.{field_at, generator_at, letters_at, multiple_at}
-use Rattle.nc_text.specs.declared.fault.Kind.{Kind}
-use Rattle.nc_text.specs.declared.fault.TextFault.{TextFault}
+use Rattle.nc_tokens.specs.declared.fault.Kind.{Kind}
+use Rattle.nc_tokens.specs.declared.fault.TextFault.{TextFault}
 use Rattle.std.proofs.Common.{All, Err, IfOk, List, Ok, Result, [], arith, codes, length, subst, true, ℕ, ◌&&◌, ◌-◌, ◌<◌, ◌≡◌, ◌≤◌}
 use Rattle.std.proofs.lemmas.List.Elements.{All-cons, All-nil}
 

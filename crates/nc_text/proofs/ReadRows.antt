@@ -3,15 +3,16 @@ use Rattle.nc_algebra.specs.Certificates.{IsTextGenerator, IsTextPolynomial, IsT
 use Rattle.nc_algebra.specs.Finite.{Among, IsDistinct}
 use Rattle.nc_algebra.specs.Polynomials.{Polynomial}
 use Rattle.nc_algebra.specs.Primes.{is_listed_prime}
-use Rattle.nc_text.proofs.Names.{bytes_same}
+use Rattle.nc_tokens.proofs.Bytes.{bytes_same}
 use Rattle.nc_text.proofs.ReadWords.{empty_word, poly_reads, word_reads}
-use Rattle.nc_text.proofs.Steps.{on_any, on_bind, on_choice}
+use Rattle.nc_tokens.proofs.Steps.{on_any, on_bind, on_choice}
 use Rattle.nc_text.proofs.RoundTripRows.{IsTextMonomial}
-use Rattle.nc_text.specs.Reading.{end_at, literal_at, poly_at}
-use Rattle.nc_text.specs.Rows.{checked, close_at, field_at, further_name, generator_at, letters_at, mono_at, multiple_at, nonzero, open_at, side_at}
-use Rattle.nc_text.specs.Tokens.{Literal, Name, Token}
-use Rattle.nc_text.specs.declared.fault.Kind.{Kind}
-use Rattle.nc_text.specs.declared.fault.Kind.TheVariants.{OutOfRange}
+use Rattle.nc_tokens.specs.Wanted.{close_at, end_at, literal_at, open_at}
+use Rattle.nc_text.specs.Reading.{poly_at}
+use Rattle.nc_text.specs.Rows.{checked, field_at, further_name, generator_at, letters_at, mono_at, multiple_at, nonzero, side_at}
+use Rattle.nc_tokens.specs.Tokens.{Literal, Name, Token}
+use Rattle.nc_tokens.specs.declared.fault.Kind.{Kind}
+use Rattle.nc_tokens.specs.declared.fault.Kind.TheVariants.{OutOfRange}
 use Rattle.std.proofs.Common.{All, Bool, Err, IfOk, IsTrue, List, Ok, [], ap, arith, bytes_eq, eqb, false, inl, inr, length, ltb, mod-lt, refl, sym, true, true≢false, ℕ, ◌&&◌, ◌++◌, ◌+◌, ◌<◌, ◌∙◌, ◌∷◌, ◌≡◌, ◌≤◌, ◌⊎◌}
 use Rattle.std.proofs.lemmas.Bool.{and_parts, eqb-false, ltb-true, or_parts}
 use Rattle.std.proofs.lemmas.List.Elements.{All-nil, All-push}

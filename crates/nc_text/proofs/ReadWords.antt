@@ -3,11 +3,12 @@ use Rattle.nc_algebra.proofs.NormalForms.{normal_form_listed, normal_form_normal
 use Rattle.nc_algebra.specs.Certificates.{AreTextWords, IsLetterBelow, IsTextPolynomial, IsTextWord, IsWordBelow, letter_at}
 use Rattle.nc_algebra.specs.Polynomials.{Polynomial, normal_form}
 use Rattle.nc_algebra.specs.Words.{Letter, Word}
-use Rattle.nc_text.proofs.Steps.{on_any, on_bind, on_choice}
-use Rattle.nc_text.specs.Reading.{after_factor, after_term, exponent_at, factor_at, factors_at, letter_of, lengthened, name_at, poly_at, sign_at, sum_at, term_at, terms_at, word_at, word_behind}
-use Rattle.nc_text.specs.Tokens.{Literal, Minus, Plus, Times, Token}
-use Rattle.nc_text.specs.declared.fault.Kind.{Kind}
-use Rattle.nc_text.specs.declared.fault.Kind.TheVariants.{LongWord, UnknownName}
+use Rattle.nc_tokens.proofs.Steps.{on_any, on_bind, on_choice}
+use Rattle.nc_text.specs.Reading.{after_factor, after_term, factor_at, factors_at, letter_of, lengthened, poly_at, sum_at, term_at, terms_at, word_at, word_behind}
+use Rattle.nc_tokens.specs.Wanted.{exponent_at, name_at, sign_at}
+use Rattle.nc_tokens.specs.Tokens.{Literal, Minus, Plus, Times, Token}
+use Rattle.nc_tokens.specs.declared.fault.Kind.{Kind}
+use Rattle.nc_tokens.specs.declared.fault.Kind.TheVariants.{LongWord, UnknownName}
 use Rattle.std.proofs.Common.{All, Bool, Err, List, None, Ok, IfOk, Option, Result, Some, [], arith, bytes_eq, false, length, ltb, ok_or, position, refl, replicate, suc, true, zero, ℕ, ◌++◌, ◌+◌, ◌<◌, ◌∷◌, ◌≡◌}
 use Rattle.std.proofs.lemmas.Bool.{ltb-false}
 use Rattle.std.proofs.lemmas.List.Elements.{All-append, All-cons, All-from_recursion, All-nil, All-replicate, recursion_from_All}

@@ -1,63 +1,32 @@
 -- What is printed of a certificate is read again.
+use Rattle.nc_tokens.proofs.KeywordLines.{IsLineOf, keyword_line, said, spaced_line, taken}
 use Rattle.nc_algebra.specs.Certificates.{Certificate, IsSetting, IsTextGenerator, IsTextPolynomial, IsTextTerm, NamedSetting, is_name}
 use Rattle.nc_algebra.specs.Elements.{Element}
 use Rattle.nc_algebra.specs.Monomials.{Monomial}
 use Rattle.nc_algebra.specs.Polynomials.{Polynomial}
 use Rattle.nc_algebra.specs.Primes.{is_listed_prime}
 use Rattle.nc_algebra.specs.Sums.{Term}
-use Rattle.nc_text.proofs.Names.{AreNames, are_names, bytes_same}
-use Rattle.nc_text.proofs.PlainText.{decimal_plain, name_plain, names_plain, plain_append, poly_plain, sig_plain}
-use Rattle.nc_text.proofs.PrintedLines.{ArePlain, IsPrintedLine, lines_ended, written_line}
-use Rattle.nc_text.proofs.PrintedTokens.{IsBreak, name_token, nothing, space_token}
+use Rattle.nc_text.proofs.Names.{AreNames, are_names}
+use Rattle.nc_tokens.proofs.PlainBytes.{decimal_plain, plain_append}
+use Rattle.nc_text.proofs.PlainText.{names_plain, poly_plain, sig_plain}
+use Rattle.nc_tokens.proofs.PlainLines.{IsPrintedLine}
+use Rattle.nc_text.proofs.PrintedLines.{lines_ended}
+use Rattle.nc_tokens.proofs.PrintedTokens.{nothing}
 use Rattle.nc_text.proofs.RoundTripPolynomials.{poly_again, text_is_printed}
 use Rattle.nc_text.proofs.RoundTripRows.{AreEachNames, field_again, generator_again, letters_again, multiple_again, names_break, names_text, text_monomial}
 use Rattle.nc_text.specs.Certificates.{certificate_at, claim_line, end_line, form_line, reads_certificate, term_lines}
 use Rattle.nc_text.specs.Settings.{field_line, generator_lines, letters_line, setting_lines}
 use Rattle.nc_text.specs.Laws.{OneCertificate, ReadsWhatIsPrinted}
-use Rattle.nc_text.specs.Lines.{Line, Written, begins, row, the_end, the_line, written}
-use Rattle.nc_text.specs.Printing.{certificate_lines, certificate_text, generator_line, names_line, poly_text, sig_text, term_line}
-use Rattle.nc_text.specs.Reading.{end_at, literal_at}
+use Rattle.nc_tokens.specs.Lines.{Written, the_end, written}
+use Rattle.nc_print.specs.Printing.{certificate_lines, certificate_text, generator_line, names_line, poly_text, sig_text, term_line}
+use Rattle.nc_tokens.specs.Wanted.{end_at, literal_at}
 use Rattle.nc_text.specs.Rows.{form_at}
-use Rattle.nc_text.specs.Tokens.{Name, Token, is_blank, pieces, tokens}
-use Rattle.nc_text.specs.declared.fault.TextFault.{TextFault}
-use Rattle.std.proofs.Common.{List, Ok, Result, [], ap, arith, bytes_eq, codes, decimal, false, get_or, length, map, refl, sym, true, ℕ, ◌++◌, ◌+◌, ◌<◌, ◌∙◌, ◌∷◌, ◌≡◌, ◌≤◌, ◌-◌}
+use Rattle.nc_tokens.specs.Tokens.{Token, pieces, tokens}
+use Rattle.nc_tokens.specs.declared.fault.TextFault.{TextFault}
+use Rattle.std.proofs.Common.{List, Ok, Result, [], ap, arith, bytes_eq, codes, decimal, false, length, map, refl, sym, true, ℕ, ◌++◌, ◌+◌, ◌<◌, ◌∙◌, ◌∷◌, ◌≡◌, ◌≤◌, ◌-◌}
 use Rattle.std.proofs.lemmas.Bool.Decides.{nat_tests}
 use Rattle.std.proofs.lemmas.List.Elements.{recursion_from_All}
 use Rattle.std.specs.List.{AllByRecursion}
-
--- ---- the printed lines
-
--- a printed line that begins with a keyword
-pub record IsLineOf (keyword : List ℕ) (ts : List Token) (line : List ℕ) : Type 0 where
-  pub printed : IsPrintedLine line
-  pub says : tokens line ≡ Name keyword ∷ ts
-
--- a keyword: a name that begins with a letter
-pub record IsKeyword (keyword : List ℕ) : Type 0 where
-  pub name : is_name keyword ≡ true
-  pub begun : (rest : List ℕ) → is_blank (get_or (keyword ++ rest) 0 32) ≡ false
-
-keyword_line : (keyword rest : List ℕ) → IsKeyword keyword → IsBreak rest → ArePlain rest → IsLineOf keyword (tokens rest) (keyword ++ rest)
-keyword_line keyword rest is breaks plain = record {
-  printed = record { plain = plain_append keyword rest (name_plain keyword is.name) plain; begun = is.begun rest };
-  says = name_token keyword rest is.name breaks;
-}
-
-spaced_line : (keyword rest : List ℕ) → IsKeyword keyword → ArePlain rest → IsLineOf keyword (tokens rest) (keyword ++ 32 ∷ rest)
-spaced_line keyword rest is plain =
-    let line = keyword_line keyword (32 ∷ rest) is (refl, refl) plain in
-    record { printed = line.printed; says = line.says ∙ ap (λ (ts : List Token). Name keyword ∷ ts) (space_token rest) }
-
--- ---- taking them
-
-said : (keyword line : List ℕ) (ts : List Token) (n : ℕ) (ls : List (List ℕ)) → IsLineOf keyword ts line → written n (line ∷ ls) ≡ Line n true (Name keyword ∷ ts) (written (n + 1) ls)
-said keyword line ts n ls h = written_line n line ls h.printed ∙ ap (λ (all : List Token). Line n true all (written (n + 1) ls)) h.says
-
-taken : (keyword line : List ℕ) (ts : List Token) (n : ℕ) (ls : List (List ℕ)) → IsLineOf keyword ts line → the_line keyword (written n (line ∷ ls)) ≡ Ok (row n ts (written (n + 1) ls))
-unfolding the_line
-taken keyword line ts n ls h =
-    let begun : begins keyword (Name keyword ∷ ts) ≡ true = bytes_same keyword in
-    ap (the_line keyword) (said keyword line ts n ls h) ∙ rw (begun) refl
 
 -- ---- certificate, field, letters, end
 

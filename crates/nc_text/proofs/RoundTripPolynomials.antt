@@ -4,13 +4,14 @@ use Rattle.nc_algebra.specs.Certificates.{AreTextWords, IsLetterBelow, IsTextPol
 use Rattle.nc_algebra.specs.Polynomials.{AreResidues, IsDescending, Polynomial, normal_form, with_term}
 use Rattle.nc_algebra.specs.Sums.{Term}
 use Rattle.nc_algebra.specs.Words.{Letter, Word}
-use Rattle.nc_text.proofs.Digits.{decimal_is}
+use Rattle.nc_tokens.proofs.Digits.{decimal_is}
 use Rattle.nc_text.proofs.Names.{AreNames}
-use Rattle.nc_text.proofs.PrintedTokens.{IsBreak, literal_token, name_token, nothing, plus_token, times_token}
-use Rattle.nc_text.specs.Printing.{coefficient_and_word, name_of, poly_text, term_text, word_text}
-use Rattle.nc_text.specs.Reading.{after_factor, exponent_at, factor_at, factors_at, name_at, poly_at, sign_at, sum_at, term_at, terms_at, word_at, word_behind, ◌>>=◌}
-use Rattle.nc_text.specs.Tokens.{Literal, Name, Plus, Times, Token, pieces, tokens}
-use Rattle.nc_text.specs.declared.fault.Kind.{Kind}
+use Rattle.nc_tokens.proofs.PrintedTokens.{IsBreak, literal_token, name_token, nothing, plus_token, times_token}
+use Rattle.nc_print.specs.Printing.{coefficient_and_word, name_of, poly_text, term_text, word_text}
+use Rattle.nc_text.specs.Reading.{after_factor, factor_at, factors_at, poly_at, sum_at, term_at, terms_at, word_at, word_behind}
+use Rattle.nc_tokens.specs.Wanted.{exponent_at, name_at, sign_at, ◌>>=◌}
+use Rattle.nc_tokens.specs.Tokens.{Literal, Name, Plus, Times, Token, pieces, tokens}
+use Rattle.nc_tokens.specs.declared.fault.Kind.{Kind}
 use Rattle.std.proofs.Common.{Bool, List, Ok, Result, [], ap, arith, cond, decimal, eqb, false, flat_map, length, ltb, map, refl, suc, sym, true, zero, ℕ, ◌%◌, ◌++◌, ◌+◌, ◌<◌, ◌∙◌, ◌∷◌, ◌≡◌, ◌≤◌, append_assoc}
 use Rattle.std.proofs.Math.Nat.{mod-eq_of_lt}
 use Rattle.std.proofs.lemmas.Bool.{eqb-true, le-ltb}

@@ -6,15 +6,17 @@ use Rattle.nc_algebra.specs.Polynomials.{Polynomial}
 use Rattle.nc_algebra.specs.Primes.{is_listed_prime}
 use Rattle.nc_algebra.specs.Sums.{Term}
 use Rattle.nc_algebra.specs.Words.{Word}
-use Rattle.nc_text.proofs.Digits.{decimal_is, one_is}
-use Rattle.nc_text.proofs.Names.{AreNames, bytes_apart}
-use Rattle.nc_text.proofs.PrintedTokens.{IsBreak, close_token, literal_token, name_token, nothing, open_token, space_token}
+use Rattle.nc_tokens.proofs.Digits.{decimal_is, one_is}
+use Rattle.nc_text.proofs.Names.{AreNames}
+use Rattle.nc_tokens.proofs.Bytes.{bytes_apart}
+use Rattle.nc_tokens.proofs.PrintedTokens.{IsBreak, close_token, literal_token, name_token, nothing, open_token, space_token}
 use Rattle.nc_text.proofs.RoundTripPolynomials.{AreLetters, Ends, are_letters, ends_nothing, word_again, word_rest, word_tokens}
-use Rattle.nc_text.specs.Printing.{name_of, sig_text, word_text}
-use Rattle.nc_text.specs.Reading.{end_at, exponent_at, literal_at, poly_at, word_behind, ◌>>=◌}
-use Rattle.nc_text.specs.Rows.{close_at, field_at, further_name, generator_at, letters_at, mono_at, multiple_at, open_at, side_at}
-use Rattle.nc_text.specs.Tokens.{Close, Literal, Name, Open, Token, tokens}
-use Rattle.nc_text.specs.declared.fault.Kind.{Kind}
+use Rattle.nc_print.specs.Printing.{name_of, sig_text, word_text}
+use Rattle.nc_tokens.specs.Wanted.{close_at, end_at, exponent_at, literal_at, open_at, ◌>>=◌}
+use Rattle.nc_text.specs.Reading.{poly_at, word_behind}
+use Rattle.nc_text.specs.Rows.{field_at, further_name, generator_at, letters_at, mono_at, multiple_at, side_at}
+use Rattle.nc_tokens.specs.Tokens.{Close, Literal, Name, Open, Token, tokens}
+use Rattle.nc_tokens.specs.declared.fault.Kind.{Kind}
 use Rattle.std.proofs.Common.{IsTrue, List, Ok, Result, [], ap, arith, bytes_eq, decimal, eqb, false, flat_map, inl, inr, length, ltb, map, refl, sym, true, ℕ, ◌&&◌, ◌++◌, ◌+◌, ◌<◌, ◌∙◌, ◌∷◌, ◌≡◌, ◌≢◌, ◌≤◌, append_assoc, append-nil}
 use Rattle.std.proofs.Math.Nat.{mod-eq_of_lt}
 use Rattle.std.proofs.lemmas.Bool.{and_from, lt-ltb, ne_eqb, or_from}

@@ -5,12 +5,12 @@ use Rattle.nc_algebra.specs.Monomials.{Monomial, Sig}
 use Rattle.nc_algebra.specs.Polynomials.{Polynomial}
 use Rattle.nc_algebra.specs.Sums.{Term}
 use Rattle.nc_text.proofs.ReadCertificates.{certificate_reads}
-use Rattle.nc_text.proofs.Repeated.{AreLines, Read, line_then, passed_by, taken}
+use Rattle.nc_tokens.proofs.Repeated.{AreLines, Read, line_then, passed_by, taken}
 use Rattle.nc_text.specs.Certificates.{certificate_at, claim_line, end_line, form_line, term_lines}
-use Rattle.nc_text.specs.Lines.{End, Line, Row, Written, a_line}
+use Rattle.nc_tokens.specs.Lines.{End, Line, Row, Written, a_line}
 use Rattle.nc_text.specs.Rows.{multiple_at}
 use Rattle.nc_text.specs.Settings.{setting_lines}
-use Rattle.nc_text.specs.declared.fault.TextFault.{TextFault}
+use Rattle.nc_tokens.specs.declared.fault.TextFault.{TextFault}
 use Rattle.std.proofs.Common.{IfOk, List, None, Ok, Result, Some, [], ap, codes, length, refl, subst, ℕ, ◌++◌, ◌∷◌, ◌≡◌}
 
 one_more : (p : ℕ) (names : List (List ℕ)) (generators room : ℕ) (w : Written) (r : Row) → a_line (codes "term") w ≡ Some r

@@ -1,11 +1,12 @@
 -- A word read by patterns is one read factor after factor.
 use Rattle.nc_algebra.specs.Certificates.{letter_at}
 use Rattle.nc_algebra.specs.Words.{Word}
-use Rattle.nc_text.specs.declared.fault.Kind.{Kind}
+use Rattle.nc_tokens.specs.declared.fault.Kind.{Kind}
 use Rattle.nc_text.specs.Laws.{SameWords}
 use Rattle.nc_text.specs.Patterns.{powered, word_by_patterns}
-use Rattle.nc_text.specs.Reading.{after_factor, exponent_at, factor_at, factors_at, lengthened, letter_of, literal_at, misplaced, name_at, ◌>>=◌}
-use Rattle.nc_text.specs.Tokens.{Literal, Name, Power, Times, Token}
+use Rattle.nc_text.specs.Reading.{after_factor, factor_at, factors_at, lengthened, letter_of}
+use Rattle.nc_tokens.specs.Wanted.{exponent_at, literal_at, misplaced, name_at, ◌>>=◌}
+use Rattle.nc_tokens.specs.Tokens.{Literal, Name, Power, Times, Token}
 use Rattle.std.proofs.Common.{Err, List, Ok, Result, [], arith, length, refl, suc, zero, ℕ, ◌∷◌, ◌≡◌, ◌≤◌}
 
 abbrev Read : Type 0

@@ -1,13 +1,15 @@
 -- Reading a word factor after factor, as a loop does.
 use Rattle.std.proofs.Common.{◌≡◌, ℕ, zero, suc, ◌≤◌, true, false, List, [], ◌∷◌, length, Result, Ok, refl, sym, ap, subst, ◌∙◌, arith}
-use Rattle.nc_text.specs.declared.fault.Kind.{Kind}
-use Rattle.nc_text.specs.declared.fault.LineError.{LineError}
-use Rattle.nc_text.specs.Tokens.{Token, Times}
+use Rattle.nc_tokens.specs.declared.fault.Kind.{Kind}
+use Rattle.nc_tokens.specs.declared.fault.LineError.{LineError}
+use Rattle.nc_tokens.specs.Tokens.{Token, Times}
 use Rattle.nc_algebra.specs.Words.{Word}
-use Rattle.nc_text.specs.Gives.{Fails}
-use Rattle.nc_text.specs.Shown.{IsTaken}
-use Rattle.nc_text.specs.Reading.{◌>>=◌, name_at, factor_at, after_factor, factors_at, word_at}
-use Rattle.nc_text.proofs.Takes.{bind_fails, factor_shorter}
+use Rattle.nc_tokens.specs.Gives.{Fails}
+use Rattle.nc_tokens.specs.Shown.{IsTaken}
+use Rattle.nc_tokens.specs.Wanted.{◌>>=◌, name_at}
+use Rattle.nc_text.specs.Reading.{factor_at, after_factor, factors_at, word_at}
+use Rattle.nc_tokens.proofs.Takes.{bind_fails}
+use Rattle.nc_text.proofs.Shorter.{factor_shorter}
 
 abbrev Read : Type 0
 Read = Result (Word × List Token) Kind

@@ -2,9 +2,10 @@
 use Rattle.nc_algebra.specs.Certificates.{Certificate}
 use Rattle.nc_algebra.specs.Elements.{Element}
 use Rattle.nc_algebra.specs.Polynomials.{Polynomial}
-use Rattle.nc_text.specs.declared.fault.TextFault.{TextFault}
-use Rattle.nc_text.specs.Lines.{End, Line, Written, at_line, begins, behind, lines, the_end, the_line, written}
-use Rattle.nc_text.specs.Reading.{end_at, poly_at, ◌>>=◌}
+use Rattle.nc_tokens.specs.declared.fault.TextFault.{TextFault}
+use Rattle.nc_tokens.specs.Lines.{End, Line, Written, at_line, begins, behind, lines, the_end, the_line, written}
+use Rattle.nc_tokens.specs.Wanted.{end_at, ◌>>=◌}
+use Rattle.nc_text.specs.Reading.{poly_at}
 use Rattle.nc_text.specs.Rows.{form_at, multiple_at}
 use Rattle.nc_text.specs.Settings.{setting_lines}
 use Rattle.std.specs.Prelude.{List, Ok, Result, [], codes, if◌then◌else◌, length, ℕ, ◌&&◌, ◌∷◌}

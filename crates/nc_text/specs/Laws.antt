@@ -4,12 +4,12 @@ use Rattle.nc_algebra.specs.Elements.{IsGenerator}
 use Rattle.nc_algebra.specs.Monomials.{Monomial}
 use Rattle.nc_algebra.specs.Polynomials.{Polynomial}
 use Rattle.nc_text.specs.Certificates.{reads_certificate}
-use Rattle.nc_text.specs.Printing.{certificate_text, poly_text, sig_text}
+use Rattle.nc_print.specs.Printing.{certificate_text, poly_text, sig_text}
 use Rattle.nc_algebra.specs.Words.{Word}
 use Rattle.nc_text.specs.Patterns.{word_by_patterns}
 use Rattle.nc_text.specs.Reading.{factors_at, poly_at}
 use Rattle.nc_text.specs.Rows.{mono_at}
-use Rattle.nc_text.specs.Tokens.{Token, tokens}
+use Rattle.nc_tokens.specs.Tokens.{Token, tokens}
 use Rattle.std.specs.Prelude.{List, Ok, length, ℕ, ◌≡◌}
 
 -- What is printed of a certificate is read as that certificate.

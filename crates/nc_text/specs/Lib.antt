@@ -1,14 +1,6 @@
-pub mod Tokens
-pub mod Lines
 pub mod Reading
 pub mod Patterns
 pub mod Rows
 pub mod Settings
 pub mod Certificates
-pub mod Printing
 pub mod Laws
-pub mod Gives
-pub mod Shown
-pub mod Unread
-pub mod Next
-pub mod Taken

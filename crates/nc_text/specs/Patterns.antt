@@ -1,9 +1,10 @@
 -- A word told by patterns on its tokens: the same words and the same faults as factor after factor.
 use Rattle.nc_algebra.specs.Certificates.{letter_at}
 use Rattle.nc_algebra.specs.Words.{Word}
-use Rattle.nc_text.specs.declared.fault.Kind.{Kind}
-use Rattle.nc_text.specs.Reading.{lengthened, letter_of, misplaced, ◌>>=◌}
-use Rattle.nc_text.specs.Tokens.{Literal, Name, Power, Times, Token}
+use Rattle.nc_tokens.specs.declared.fault.Kind.{Kind}
+use Rattle.nc_text.specs.Reading.{lengthened, letter_of}
+use Rattle.nc_tokens.specs.Wanted.{misplaced, ◌>>=◌}
+use Rattle.nc_tokens.specs.Tokens.{Literal, Name, Power, Times, Token}
 use Rattle.std.specs.Prelude.{Err, List, Ok, Result, ℕ, ◌∷◌}
 
 -- a word with a letter, given by its name, n times behind it

@@ -3,50 +3,18 @@ use Rattle.nc_algebra.specs.Certificates.{letter_at}
 use Rattle.nc_algebra.specs.Polynomials.{Polynomial, normal_form}
 use Rattle.nc_algebra.specs.Sums.{Term}
 use Rattle.nc_algebra.specs.Words.{Letter, Word}
-use Rattle.nc_text.specs.declared.fault.Kind.{Kind}
-use Rattle.nc_text.specs.declared.fault.Kind.TheVariants.{LongLiteral, LongWord, Syntax, UnknownName}
-use Rattle.nc_text.specs.Tokens.{Literal, Long, Minus, Name, Plus, Power, Times, Token}
+use Rattle.nc_tokens.specs.declared.fault.Kind.{Kind}
+use Rattle.nc_tokens.specs.declared.fault.Kind.TheVariants.{LongWord, UnknownName}
+use Rattle.nc_tokens.specs.Wanted.{exponent_at, misplaced, name_at, sign_at, ◌>>=◌}
+use Rattle.nc_tokens.specs.Tokens.{Literal, Minus, Plus, Times, Token}
 use Rattle.std.specs.Prelude.{Bool, Err, List, Ok, Result, [], false, if◌then◌else◌, length, nat_lt, ok_or, position, replicate, suc, true, zero, ℕ, ◌%◌, ◌++◌, ◌+◌, ◌-◌, ◌∷◌}
 use Rattle.std.specs.Str.{bytes_eq}
-
-infixl 10 ◌>>=◌
--- what comes after a step that told no fault
-abbrev pub ◌>>=◌ : {A B E : Type 0} → Result A E → (A → Result B E) → Result B E
-(Ok x) >>= f = f x
-(Err e) >>= f = Err e
-
--- ---- what is wanted next: a value and the tokens after it, or the first fault
-
--- the fault of a token, or of a line's end, where the grammar wants something else
-abbrev pub misplaced : List Token → Kind
-misplaced (Long ∷ _) = LongLiteral
-misplaced _ = Syntax
-
--- a literal
-unfoldable pub literal_at : List Token → Result (ℕ × List Token) Kind
-literal_at (Literal n ∷ rest) = Ok (n, rest)
-literal_at ts = Err (misplaced ts)
-
--- a name
-unfoldable pub name_at : List Token → Result (List ℕ × List Token) Kind
-name_at (Name name ∷ rest) = Ok (name, rest)
-name_at ts = Err (misplaced ts)
-
--- the end of the line
-unfoldable pub end_at : List Token → Result (Unit {0}) Kind
-end_at [] = Ok tt
-end_at ts = Err (misplaced ts)
 
 -- ---- words
 
 -- the number of the letter that has a name
 abbrev pub letter_of : List (List ℕ) → List ℕ → Result ℕ Kind
 letter_of names name = ok_or (position (λ n. bytes_eq n name) names) UnknownName
-
--- the exponent, 1 where no `^` follows
-unfoldable pub exponent_at : List Token → Result (ℕ × List Token) Kind
-exponent_at (Power ∷ rest) = literal_at rest
-exponent_at ts = Ok (1, ts)
 
 -- a word with a letter n times behind it
 abbrev pub lengthened : Word → Letter → ℕ → Result Word Kind
@@ -111,12 +79,6 @@ terms_at (suc n) p names negative ts = do
   term ← term_at p names negative ts
   others ← after_term (terms_at n p names) term.1
   Ok (term.0 ∷ others)
-
--- the sign that may stand before the first term
-unfoldable pub sign_at : List Token → Bool × List Token
-sign_at (Plus ∷ rest) = (false, rest)
-sign_at (Minus ∷ rest) = (true, rest)
-sign_at ts = (false, ts)
 
 -- the terms of POLY as they are written, to the end of the line: no more terms than tokens
 abbrev pub sum_at : ℕ → List (List ℕ) → List Token → Result Polynomial Kind

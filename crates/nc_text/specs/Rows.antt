@@ -5,10 +5,11 @@ use Rattle.nc_algebra.specs.Polynomials.{Polynomial}
 use Rattle.nc_algebra.specs.Primes.{is_listed_prime}
 use Rattle.nc_algebra.specs.Sums.{Term}
 use Rattle.nc_algebra.specs.Words.{Word}
-use Rattle.nc_text.specs.declared.fault.Kind.{Kind}
-use Rattle.nc_text.specs.declared.fault.Kind.TheVariants.{BadName, BadPrime, DoubleName, OutOfRange, Syntax, TooManyGenerators, TooManyNames, ZeroGenerator}
-use Rattle.nc_text.specs.Reading.{end_at, literal_at, misplaced, poly_at, word_at, ◌>>=◌}
-use Rattle.nc_text.specs.Tokens.{Close, Literal, Name, Open, Token}
+use Rattle.nc_tokens.specs.declared.fault.Kind.{Kind}
+use Rattle.nc_tokens.specs.declared.fault.Kind.TheVariants.{BadName, BadPrime, DoubleName, OutOfRange, Syntax, TooManyGenerators, TooManyNames, ZeroGenerator}
+use Rattle.nc_tokens.specs.Wanted.{close_at, end_at, literal_at, open_at, ◌>>=◌}
+use Rattle.nc_text.specs.Reading.{poly_at, word_at}
+use Rattle.nc_tokens.specs.Tokens.{Literal, Name, Token}
 use Rattle.std.specs.List.{list_any}
 use Rattle.std.specs.Prelude.{Bool, Err, List, Ok, Result, [], if◌then◌else◌, length, nat_lt, ℕ, ◌%◌, ◌&&◌, ◌++◌, ◌+◌, ◌==◌, ◌∷◌}
 use Rattle.std.specs.Str.{bytes_eq}
@@ -57,16 +58,6 @@ generator_at p names room ts = if room == 0 then Err TooManyGenerators else (pol
 unfoldable pub side_at : List (List ℕ) → List Token → Result (Word × List Token) Kind
 side_at names (Literal n ∷ rest) = if n == 1 then Ok ([], rest) else Err Syntax
 side_at names ts = word_at names ts
-
--- the bracket before a generator's number
-unfoldable pub open_at : List Token → Result (List Token) Kind
-open_at (Open ∷ rest) = Ok rest
-open_at ts = Err (misplaced ts)
-
--- the bracket behind it
-unfoldable pub close_at : List Token → Result (List Token) Kind
-close_at (Close ∷ rest) = Ok rest
-close_at ts = Err (misplaced ts)
 
 -- MONO over so many generators, to the end of the line: SIDE [ literal ] SIDE
 unfoldable pub mono_at : List (List ℕ) → ℕ → List Token → Result Monomial Kind

@@ -1,10 +1,10 @@
 -- The lines `field`, `letters` and `generator`, which give the setting of a text.
 use Rattle.nc_algebra.specs.Certificates.{NamedSetting}
 use Rattle.nc_algebra.specs.Polynomials.{Polynomial}
-use Rattle.nc_text.specs.Lines.{End, Line, Written, at_line, begins, behind, the_line}
-use Rattle.nc_text.specs.Reading.{◌>>=◌}
+use Rattle.nc_tokens.specs.Lines.{End, Line, Written, at_line, begins, behind, the_line}
+use Rattle.nc_tokens.specs.Wanted.{◌>>=◌}
 use Rattle.nc_text.specs.Rows.{field_at, generator_at, letters_at}
-use Rattle.nc_text.specs.declared.fault.TextFault.{TextFault}
+use Rattle.nc_tokens.specs.declared.fault.TextFault.{TextFault}
 use Rattle.std.specs.Prelude.{List, Ok, Result, [], codes, if◌then◌else◌, ℕ, ◌&&◌, ◌-◌, ◌∷◌}
 
 -- the line `field`

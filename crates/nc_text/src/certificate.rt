@@ -2,21 +2,20 @@
 
 ghost use Rattle.nc_algebra.specs.Certificates.{HasDegree, element_of};
 ghost use Rattle.nc_text.specs.Certificates.{claim_line, end_line, form_line, reads_certificate, term_lines};
-ghost use Rattle.nc_text.specs.Gives.{GivesText};
-ghost use Rattle.nc_text.specs.Unread.{left};
+ghost use Rattle.nc_tokens.specs.Gives.{GivesText};
+ghost use Rattle.nc_tokens.specs.Unread.{left};
 ghost use Rattle.std.specs.Prelude.{All, IfOk, length};
 
-use crate::fault::{ReadFault, at};
 use crate::polynomial::poly_of;
 use crate::rows::{form_of, multiple_of};
 use crate::setting::setting_of;
-use crate::text::Text;
 use nc_module::{Certificate, ModuleTerm, ModuleTerms, Setting};
 use nc_poly::Poly;
+use nc_tokens::{ReadFault, Text, at};
 use std::alloc::Global;
 
 /// Reads the line `certificate`.
-#[tactic(auto, using(crate::proofs::At::at_gives), unfolding(crate::specs::Certificates::form_line))]
+#[tactic(auto, using(nc_tokens::proofs::Told::at_gives), unfolding(crate::specs::Certificates::form_line))]
 fn form_line(text: &mut Text<'_>) -> Result<(), ReadFault>
     ensures { GivesText (λ _. left text.new) result (form_line (left text.old)) }
 {
@@ -25,7 +24,7 @@ fn form_line(text: &mut Text<'_>) -> Result<(), ReadFault>
 }
 
 /// Reads the line `claim`.
-#[tactic(auto, using(crate::proofs::At::at_gives), unfolding(crate::specs::Certificates::claim_line))]
+#[tactic(auto, using(nc_tokens::proofs::Told::at_gives), unfolding(crate::specs::Certificates::claim_line))]
 fn claim_line(alloc: Global, setting: &Setting, text: &mut Text<'_>) -> Result<Poly, ReadFault>
     ensures { GivesText (λ f. (f, left text.new)) result (claim_line setting.now.setting.prime setting.now.names (left text.old)) }
 {
@@ -56,7 +55,7 @@ fn terms_of(
 }
 
 /// Reads the line `end`, and sees that the text ends behind it.
-#[tactic(auto, using(crate::proofs::At::at_gives), unfolding(crate::specs::Certificates::end_line))]
+#[tactic(auto, using(nc_tokens::proofs::Told::at_gives), unfolding(crate::specs::Certificates::end_line))]
 fn end_line(text: &mut Text<'_>) -> Result<(), ReadFault>
     ensures { GivesText (λ _. tt) result (end_line (left text.old)) }
 {

@@ -1,26 +1,20 @@
 //! The texts of problems and certificates: the reader of certificates, which gives the certificate or the first fault;
-//! and the tokens, lines and values that texts have, and the printed forms, as definitions with their laws.
+//! and the laws of what is read and what is printed.
 #![tactic(auto)]
 
 ghost use Rattle.nc_text.specs.Laws.{OneCertificate, ReadsCertificates, ReadsMonomials, ReadsPolynomials, ReadsWhatIsPrinted, SameWords};
 
 mod certificate;
-mod fault;
-mod line;
 mod polynomial;
 mod rows;
 mod setting;
 #[cfg(test)]
 mod tests;
-mod text;
-mod token;
-mod tokens;
 mod word;
-mod write;
 
 pub use certificate::read_certificate;
-pub use fault::{Kind, ReadFault, TextFault};
-pub use write::{write_certificate, write_poly, write_sig};
+pub use nc_print::{write_certificate, write_poly, write_sig};
+pub use nc_tokens::{Kind, ReadFault, TextFault};
 
 /// What is printed of a certificate is read as that certificate.
 pub fn reads_what_is_printed()

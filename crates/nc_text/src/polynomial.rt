@@ -1,17 +1,15 @@
 //! Polynomials of a text.
 
 ghost use Rattle.nc_algebra.specs.Polynomials.{AreResidues};
-ghost use Rattle.nc_text.specs.Gives.{Gives};
+ghost use Rattle.nc_tokens.specs.Gives.{Gives};
 ghost use Rattle.nc_text.specs.Reading.{poly_at, residue_of, sum_at, term_at, word_behind};
 ghost use Rattle.std.specs.Prelude.{IfOk, length, ◌<◌, ◌≡◌, ◌≤◌};
 
-use crate::fault::LineError;
-use crate::token::Token;
-use crate::tokens::{Tokens, misplaced};
 use crate::word::word_of;
 use nc_field::{Prime, Residue};
 use nc_module::Name;
 use nc_poly::{Poly, Term};
+use nc_tokens::{LineError, Token, Tokens, misplaced};
 use nc_words::Word;
 use std::alloc::Global;
 

@@ -3,21 +3,19 @@
 ghost use Rattle.nc_algebra.specs.Certificates.{HasDegree, monomial_of};
 ghost use Rattle.nc_algebra.specs.Primes.{is_listed_prime};
 ghost use Rattle.nc_algebra.specs.Words.{word_weight};
-ghost use Rattle.nc_text.specs.Gives.{Gives};
+ghost use Rattle.nc_tokens.specs.Gives.{Gives};
 ghost use Rattle.nc_text.specs.Rows.{field_at, form_at, further_name, generator_at, letters_at, mono_at, multiple_at, side_at};
 ghost use Rattle.std.specs.List.{list_any};
 ghost use Rattle.std.specs.Prelude.{IfOk, None, OnOk, Some, length, [], if◌then◌else◌, ◌<◌, ◌≡◌, ◌≤◌};
 ghost use Rattle.std.specs.Str.{bytes_eq};
 
-use crate::fault::{Kind, LineError};
 use crate::polynomial::poly_of;
-use crate::token::Token;
-use crate::tokens::Tokens;
 use crate::word::word_of;
 use nc_field::Prime;
 use nc_module::{ModuleTerm, Name, Setting};
 use nc_poly::Poly;
 use nc_sig::Sig;
+use nc_tokens::{Kind, LineError, Token, Tokens};
 use nc_words::Word;
 use std::alloc::Global;
 

@@ -1,23 +1,22 @@
 //! The lines `field`, `letters` and `generator`, which give the setting of a text.
 
-ghost use Rattle.nc_text.specs.Gives.{GivesText};
+ghost use Rattle.nc_tokens.specs.Gives.{GivesText};
 ghost use Rattle.nc_text.specs.Settings.{field_line, generator_lines, letters_line, setting_lines};
-ghost use Rattle.nc_text.specs.Unread.{left};
+ghost use Rattle.nc_tokens.specs.Unread.{left};
 ghost use Rattle.std.specs.Prelude.{IfOk, length, ◌≤◌};
 
-use crate::fault::{ReadFault, at};
 use crate::rows::{field_of, generator_of, letters_of};
-use crate::text::Text;
 use nc_field::Prime;
 use nc_module::{Name, Setting};
 use nc_poly::Poly;
+use nc_tokens::{ReadFault, Text, at};
 use std::alloc::Global;
 
 /// The most generators.
 const MAX_GENERATORS: usize = 1000;
 
 /// Reads the line `field`.
-#[tactic(auto, using(crate::proofs::At::at_gives), unfolding(crate::specs::Settings::field_line))]
+#[tactic(auto, using(nc_tokens::proofs::Told::at_gives), unfolding(crate::specs::Settings::field_line))]
 fn field_line(text: &mut Text<'_>) -> Result<Prime, ReadFault>
     ensures { GivesText (λ p. (p, left text.new)) result (field_line (left text.old)) }
 {
@@ -27,7 +26,7 @@ fn field_line(text: &mut Text<'_>) -> Result<Prime, ReadFault>
 }
 
 /// Reads the line `letters`.
-#[tactic(auto, using(crate::proofs::At::at_gives), unfolding(crate::specs::Settings::letters_line))]
+#[tactic(auto, using(nc_tokens::proofs::Told::at_gives), unfolding(crate::specs::Settings::letters_line))]
 fn letters_line(alloc: Global, text: &mut Text<'_>) -> Result<Vec<Name>, ReadFault>
     ensures reads { GivesText (λ ns. (ns.items, left text.new)) result (letters_line (left text.old)) }
     ensures few { IfOk result (λ ns. length ns.items ≤ 64) }

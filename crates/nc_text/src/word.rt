@@ -2,14 +2,13 @@
 
 ghost use Rattle.nc_algebra.specs.Certificates.{letter_at};
 ghost use Rattle.nc_algebra.specs.Words.{word_weight};
-ghost use Rattle.nc_text.specs.Gives.{Gives};
+ghost use Rattle.nc_tokens.specs.Gives.{Gives};
 ghost use Rattle.nc_text.specs.Reading.{factor_at, lengthened, letter_of, word_at};
 ghost use Rattle.std.specs.Prelude.{IfOk, IfSome, OnOk, length, position, ◌<◌, ◌≡◌, ◌≤◌};
 ghost use Rattle.std.specs.Str.{bytes_eq};
 
-use crate::fault::{Kind, LineError};
-use crate::tokens::Tokens;
 use nc_module::Name;
+use nc_tokens::{Kind, LineError, Tokens};
 use nc_words::{Letter, Word};
 use std::alloc::Global;
 

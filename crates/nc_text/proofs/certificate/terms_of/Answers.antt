@@ -1,8 +1,8 @@
 use Rattle.nc_algebra.specs.Certificates.{HasDegree, element_of, monomial_of}
 use Rattle.nc_algebra.specs.Monomials.{Monomial, Sig}
 use Rattle.nc_algebra.specs.Sums.{Term}
-use Rattle.nc_text.proofs.At.{at_gives, at_holds}
-use Rattle.nc_text.proofs.Repeated.{begin, ends, fails, fewer, goes_on}
+use Rattle.nc_tokens.proofs.Told.{at_gives, at_holds}
+use Rattle.nc_tokens.proofs.Repeated.{begin, ends, fails, fewer, goes_on}
 use Rattle.nc_text.proofs.Terms.{all_terms, are_lines, element_push}
 use Rattle.nc_text.proofs.certificate.terms_of.Goals as goal
 use Rattle.std.proofs.Common.{Ok, ap, length, sym, ◌∙◌}

@@ -1,9 +1,9 @@
 use Rattle.nc_algebra.specs.Certificates.{HasDegree, element_of}
-use Rattle.nc_text.proofs.Repeated.{IsOnTheWay, lines_left}
+use Rattle.nc_tokens.proofs.Repeated.{IsOnTheWay, lines_left}
 use Rattle.nc_text.proofs.Terms.{all_terms}
 use Rattle.nc_text.proofs.certificate.terms_of.Given as goal
 use Rattle.nc_text.specs.Certificates.{term_lines}
-use Rattle.nc_text.specs.Unread.{left}
+use Rattle.nc_tokens.specs.Unread.{left}
 use Rattle.std.proofs.Common.{All, length}
 
 abbrev pub invariant-terms : goal.invariant-terms

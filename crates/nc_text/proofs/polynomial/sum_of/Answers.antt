@@ -2,7 +2,7 @@ use Rattle.std.proofs.Common.{ap, arith, length, ◌<◌}
 use Rattle.std.proofs.lemmas.List.Elements.{All-nil, All-push}
 use Rattle.std.proofs.lemmas.Result.{err_from_is_err_and}
 use Rattle.nc_text.proofs.Polynomials.{begins, goes_on, goes_on_less, ends, is_wrong, term_fails}
-use Rattle.nc_text.proofs.Takes.{term_shorter}
+use Rattle.nc_text.proofs.Shorter.{term_shorter}
 use Rattle.nc_text.proofs.polynomial.sum_of.Goals as goal
 
 pub terms-init : goal.terms-init

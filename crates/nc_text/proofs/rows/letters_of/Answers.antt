@@ -1,7 +1,7 @@
 use Rattle.std.proofs.Common.{◌≡◌, ℕ, ◌∷◌, [], length, Bool, true, false, cond, nat_eq, Ok, Err, vec_len, ap, ◌∙◌, sym, arith}
 use Rattle.std.proofs.lemmas.List.{length-append}
 use Rattle.std.proofs.lemmas.Result.{err_from_is_err_and}
-use Rattle.nc_text.specs.declared.fault.Kind.TheVariants.{Syntax}
+use Rattle.nc_tokens.specs.declared.fault.Kind.TheVariants.{Syntax}
 use Rattle.nc_text.proofs.Letters.{goes_on, name_fails, ends, is_wrong}
 use Rattle.nc_text.proofs.rows.letters_of.Goals as goal
 

@@ -1,7 +1,7 @@
 use Rattle.nc_algebra.specs.Polynomials.{Polynomial}
-use Rattle.nc_text.proofs.At.{at_gives}
+use Rattle.nc_tokens.proofs.Told.{at_gives}
 use Rattle.nc_text.proofs.Generators.{are_lines}
-use Rattle.nc_text.proofs.Repeated.{begin, ends, fails, fewer, goes_on}
+use Rattle.nc_tokens.proofs.Repeated.{begin, ends, fails, fewer, goes_on}
 use Rattle.nc_text.proofs.setting.generators_of.Goals as goal
 use Rattle.std.proofs.Common.{Ok, ap, sym, ◌∙◌}
 use Rattle.std.proofs.lemmas.Result.{err_from_is_err_and}

@@ -1,7 +1,7 @@
-use Rattle.nc_text.proofs.Repeated.{IsOnTheWay, lines_left}
+use Rattle.nc_tokens.proofs.Repeated.{IsOnTheWay, lines_left}
 use Rattle.nc_text.proofs.setting.generators_of.Given as goal
 use Rattle.nc_text.specs.Settings.{generator_lines}
-use Rattle.nc_text.specs.Unread.{left}
+use Rattle.nc_tokens.specs.Unread.{left}
 
 abbrev pub invariant-generators : goal.invariant-generators
 invariant-generators l = IsOnTheWay (generator_lines l.prime l.names) l.generators.items l.room (left l.text) (generator_lines l.prime l.names 1000 (left l.fn.text))

@@ -1,7 +1,7 @@
 use Rattle.std.proofs.Common.{length, ap, arith}
 use Rattle.std.proofs.lemmas.Result.{err_from_is_err_and}
 use Rattle.nc_text.proofs.Words.{first_factor, first_fails, next_factor, next_fails, last_factor}
-use Rattle.nc_text.proofs.Takes.{factor_shorter}
+use Rattle.nc_text.proofs.Shorter.{factor_shorter}
 use Rattle.nc_text.proofs.word.letters_of_word.Goals as goal
 
 pub returns-in_err-factor-clause-reads : goal.returns-in_err-factor-clause-reads

@@ -1,0 +1,12 @@
+//! The printed forms of polynomials, monomials and certificates.
+#![tactic(auto)]
+
+mod certificate;
+mod monomial;
+mod polynomial;
+#[cfg(test)]
+mod tests;
+
+pub use certificate::write_certificate;
+pub use monomial::write_sig;
+pub use polynomial::write_poly;

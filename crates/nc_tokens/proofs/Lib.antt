@@ -1,0 +1,13 @@
+pub mod Pieces
+pub mod Digits
+pub mod Values
+pub mod Lines
+pub mod Bytes
+pub mod PlainBytes
+pub mod PlainLines
+pub mod PrintedTokens
+pub mod KeywordLines
+pub mod Told
+pub mod Steps
+pub mod Takes
+pub mod Repeated

@@ -1,0 +1,9 @@
+pub mod Tokens
+pub mod Lines
+pub mod Wanted
+pub mod Kinds
+pub mod Gives
+pub mod Shown
+pub mod Unread
+pub mod Next
+pub mod Taken
