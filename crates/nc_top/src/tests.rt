@@ -191,9 +191,14 @@ fn letters_and_generators_are_counted(rt: HostRuntime) -> Result<(), Fail> {
 /// The status of `check` over so many line feeds, and whether it wrote this report.
 fn line_feeds(alloc: Global, count: usize, report: &str) -> Result<(Status, bool), Fail> {
     let words = words_of(alloc, "check")?;
-    let mut source = source_of(alloc, &[], &[])?;
-    source.bytes = vec![in alloc; b'\n'; count]?;
-    source.step = 5000;
+    let mut source = MemorySource {
+        bytes: vec![in alloc; b'\n'; count]?,
+        at: 0,
+        step: 5000,
+        calls: 0,
+        failing: Vec::new(alloc),
+        faults: 0,
+    };
     let mut sink = MemorySink::of(alloc, 1000, 5, Vec::new(alloc))?;
     let status = run_alone(alloc, &words, &mut source, &mut sink);
     Ok((status, sink.bytes.as_slice() == report.as_bytes()))
