@@ -9,3 +9,7 @@ pub mod Turns
 pub mod Runs
 pub mod Handling
 pub mod Tested
+pub mod Problems
+pub mod Meetings
+pub mod Nexts
+pub mod Reached

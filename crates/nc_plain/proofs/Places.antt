@@ -1,20 +1,17 @@
 -- Places of a word in a word, by how many letters stand before them.
-use Rattle.nc_algebra.proofs.Leading.{leading-normal}
 use Rattle.nc_algebra.proofs.Orders.{nat_order}
 use Rattle.nc_algebra.proofs.Words.{word_laws}
 use Rattle.nc_algebra.specs.Elements.{IsLess, Setting}
 use Rattle.nc_algebra.specs.Monomials.{Monomial, times}
-use Rattle.nc_algebra.specs.Polynomials.{IsNormal, Polynomial, leading}
-use Rattle.nc_algebra.specs.Sums.{Term}
+use Rattle.nc_algebra.specs.Polynomials.{leading}
 use Rattle.nc_algebra.specs.Words.{Word, compare_words}
 use Rattle.nc_plain.specs.declared.place.Around.{Around}
 use Rattle.nc_plain.specs.declared.divisor.Chosen.{Chosen}
 use Rattle.nc_plain.specs.Places.{IsChoice, IsFirstPlace, IsRegularPlace}
-use Rattle.nc_plain.specs.Usable.{IsUsable}
 use Rattle.nc_theory.proofs.Determinism.{fronts_same, listed_same}
 use Rattle.nc_theory.specs.Divisors.{Divisor, signature_at}
 use Rattle.nc_theory.specs.States.{Entry}
-use Rattle.std.proofs.Common.{Bool, List, None, Ordering, Some, ap, ap₂, arith, drop, get_or, inl, inr, length, length-append, refl, subst, sym, take, true, ℕ, ◌+◌, ◌++◌, ◌<◌, ◌∙◌, ◌∷◌, ◌≡◌, ◌≤◌, ◌⊎◌}
+use Rattle.std.proofs.Common.{Bool, List, None, Ordering, Some, ap, ap₂, arith, drop, get_or, inl, inr, length, length-append, refl, subst, sym, take, true, ℕ, ◌+◌, ◌++◌, ◌<◌, ◌∙◌, ◌≡◌, ◌≤◌, ◌⊎◌}
 use Rattle.std.proofs.lemmas.List.{append_cancel_left, drop-drop, drop_at, take-append-drop, take_at}
 use Rattle.std.specs.Ordering.{is_eq}
 
@@ -107,7 +104,3 @@ module _ (s : Setting) (entries : List Entry) (τ : Monomial) (w : Word) where
 
   pub nobody_found : (n : ℕ) → length entries ≤ n → NoneOf n → IsChoice s entries τ w None
   nobody_found n h before r = before r.divisor (omega (arith, h, r.divisor.listed.1)) r.below
-
--- the first word of an entry
-pub leads_entry : (s : Setting) (e : Entry) (t : Term Word) (f : Polynomial) → IsUsable s e → e.polynomial ≡ t ∷ f → leading s.prime e.polynomial ≡ t.key
-leads_entry s e t f u i = ap (leading s.prime) i ∙ leading-normal s.prime t f (subst (IsNormal s.prime) i u.normal)

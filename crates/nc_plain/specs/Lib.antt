@@ -5,3 +5,7 @@ pub mod Turns
 pub mod Best
 pub mod Covers
 pub mod Outcomes
+pub mod Problems
+pub mod Meetings
+pub mod Nexts
+pub mod Ends

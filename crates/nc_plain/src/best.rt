@@ -34,14 +34,11 @@ pub fn multiple_of(
     ensures { IfOk result (IsAt setting.now.setting entries.now signature.now index) }
 {
     let entry = &entries[index];
-    let Some(lead) = entry.polynomial().lead() else {
-        unreachable!()
-    };
     let Some(found) = divide(alloc, entry.signature(), signature)? else {
         return Ok(None);
     };
     let Around { left, right } = found;
-    let word = Word::join(alloc, left.letters(), lead.letters(), right.letters())?;
+    let word = Word::join(alloc, left.letters(), entry.lead(), right.letters())?;
     Ok(Some(Best {
         word,
         left,

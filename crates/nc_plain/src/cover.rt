@@ -74,14 +74,11 @@ fn entry_apart(
     requires usable { IsUsable setting.now.setting entry.now }
     ensures { IfOk result (λ b. MatchBool b (IsApart setting.now.setting entry.now.signature (leading setting.now.setting.prime entry.now.polynomial) signature.now multiple.now.word (length multiple.now.left) (length multiple.now.word - length multiple.now.right)) (¬ IsApart setting.now.setting entry.now.signature (leading setting.now.setting.prime entry.now.polynomial) signature.now multiple.now.word (length multiple.now.left) (length multiple.now.word - length multiple.now.right))) }
 {
-    let Some(lead) = entry.polynomial().lead() else {
-        unreachable!()
-    };
     place_apart(
         alloc,
         setting,
         entry.signature(),
-        lead.letters(),
+        entry.lead(),
         signature,
         multiple,
     )

@@ -33,17 +33,7 @@ fn entry_place(
     requires usable { IsUsable setting.now.setting entry.now }
     ensures { IfOk result (IsFirstPlace setting.now.setting entry.now.signature (leading setting.now.setting.prime entry.now.polynomial) below.now word.now) }
 {
-    let Some(lead) = entry.polynomial().lead() else {
-        unreachable!()
-    };
-    first_place(
-        alloc,
-        setting,
-        entry.signature(),
-        lead.letters(),
-        below,
-        word,
-    )
+    first_place(alloc, setting, entry.signature(), entry.lead(), below, word)
 }
 
 /// The divisor of the word that a reduction at this signature takes: that of the earliest entry, and of its places the

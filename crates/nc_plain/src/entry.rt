@@ -1,10 +1,12 @@
 //! Entries.
 
-ghost use Rattle.std.specs.Prelude.{◌≡◌};
+ghost use Rattle.nc_algebra.specs.Polynomials.{IsNormal, leading};
+ghost use Rattle.std.specs.Prelude.{ℕ, ◌≡◌, ◌≢◌, []};
 
 use crate::monomial::Monomial;
 use crate::trace::Trace;
 use nc_poly::Poly;
+use nc_words::Letter;
 use std::marker::Model;
 
 /// A signature with its polynomial, and how it was found.
@@ -36,5 +38,16 @@ impl Entry {
         ensures { result.now ≡ self.now.polynomial }
     {
         &self.polynomial
+    }
+
+    /// The leading word.
+    pub fn lead(&self) -> &[Letter]
+        requires { self.now.polynomial ≢ [] }
+        ensures { (p : ℕ) → IsNormal p self.now.polynomial → result.now ≡ leading p self.now.polynomial }
+    {
+        let Some(term) = self.polynomial().lead() else {
+            unreachable!()
+        };
+        term.letters()
     }
 }

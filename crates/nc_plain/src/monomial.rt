@@ -8,6 +8,7 @@ ghost use Rattle.std.specs.Prelude.{IfOk, length, ◌+◌, ◌++◌, ◌≡◌, 
 
 use nc_module::Setting;
 use nc_words::{Letter, Word};
+use std::alloc::{AllocError, Global};
 use std::cmp::Ordering;
 use std::marker::Model;
 
@@ -83,12 +84,36 @@ impl Monomial {
         &self.right
     }
 
+    /// An equal monomial.
+    pub fn copy(&self) -> Result<Monomial, AllocError>
+        ensures { IfOk result (λ m. m ≡ self.now) }
+    {
+        let left = self.left.copy()?;
+        let right = self.right.copy()?;
+        Ok(Monomial {
+            left,
+            generator: self.generator,
+            right,
+        })
+    }
+
     /// The words and the generator weigh this together.
     pub fn degree(&self, setting: &Setting) -> u32
         ensures degree { result ≡ degree setting.now.setting self.now }
         ensures few { result ≤ 40000255 }
     {
         self.left.weight() + weight_of(setting, self.generator) + self.right.weight()
+    }
+
+    /// Compares the two monomials.
+    pub fn compare(&self, setting: &Setting, other: &Monomial) -> Ordering
+        ensures { result ≡ compare_monomials (generator_weight setting.now.setting) self.now other.now }
+    {
+        self.degree(setting)
+            .cmp(&other.degree(setting))
+            .then(self.generator.cmp(&other.generator))
+            .then(self.left.order(&other.left))
+            .then(self.right.order(&other.right))
     }
 
     /// Compares u m v with the other monomial.
@@ -100,5 +125,20 @@ impl Monomial {
             .then(self.generator.cmp(&other.generator))
             .then(compare_joined(u, &self.left, &other.left))
             .then(compare_joined(&self.right, v, &other.right))
+    }
+
+    /// u m v.
+    pub fn times(&self, alloc: Global, u: &Word, v: &Word) -> Result<Monomial, AllocError>
+        requires left { length u.now + length self.now.left ≤ 200000 }
+        requires right { length self.now.right + length v.now ≤ 200000 }
+        ensures { IfOk result (λ m. m ≡ times u.now self.now v.now) }
+    {
+        let left = Word::join(alloc, u.letters(), self.left.letters(), &[])?;
+        let right = Word::join(alloc, self.right.letters(), v.letters(), &[])?;
+        Ok(Monomial {
+            left,
+            generator: self.generator,
+            right,
+        })
     }
 }

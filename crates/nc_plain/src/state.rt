@@ -3,6 +3,7 @@
 use crate::entry::Entry;
 use crate::monomial::Monomial;
 use crate::trace::Trace;
+use std::alloc::Global;
 use std::marker::Model;
 
 /// A signature whose polynomial was reduced to zero, and how.
@@ -49,7 +50,20 @@ impl Model for State {
 }
 
 impl State {
+    ghost use Rattle.nc_theory.specs.Runs.{opening};
     ghost use Rattle.std.specs.Prelude.{◌≡◌};
+
+    /// The state with nothing in it.
+    pub fn new(alloc: Global) -> State
+        ensures { result ≡ opening }
+    {
+        State {
+            entries: Vec::new(alloc),
+            syzygies: Vec::new(alloc),
+            covered: 0,
+            settled: 0,
+        }
+    }
 
     /// The entries.
     pub fn entries(&self) -> &[Entry]

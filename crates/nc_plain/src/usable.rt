@@ -42,7 +42,7 @@ fn all_light(f: &Poly, most: u32) -> bool
 }
 
 /// Whether the coefficients lie below the prime.
-fn are_residues(p: Prime, f: &Poly) -> bool
+pub fn are_residues(p: Prime, f: &Poly) -> bool
     ensures { IsTrue result → AreResidues p f.now }
 {
     f.terms().iter().all(|t| t.coefficient < p.number())

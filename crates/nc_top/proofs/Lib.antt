@@ -1,4 +1,3 @@
 pub mod Products
 pub mod Letters
-pub mod Reports
-pub mod CommandWords
+pub mod Answers

@@ -1,5 +1,5 @@
 pub mod Checking
-pub mod Plain
 pub mod Statuses
+pub mod Reports
 pub mod Run
 pub mod Laws

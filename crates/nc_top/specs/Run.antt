@@ -1,55 +1,71 @@
 -- What a run of the program answers.
---   IsCheck      the words are the one word `check`
+--   IsCheck      the words are those of `check`
 --   IsAnswer     status and report for the bytes that were read
 --   IsReported   the report was written, or a fault of the sink stopped it
+--   IsRefused    the words are no command that runs
 --   IsAnswered   the source was read, and status and report are those of its bytes
 --   Ran          what a run of `check` may end with, each with its cause
 use Rattle.nc_algebra.specs.Certificates.{Certificate, rest_of}
 use Rattle.nc_io.specs.Adds.{Adds, AddsFront}
 use Rattle.nc_io.specs.Causes.{Rose}
 use Rattle.nc_io.specs.Pieces.{TakesWhole}
-use Rattle.nc_print.specs.Printing.{poly_text}
+use Rattle.nc_options.specs.Options.{options_of}
+use Rattle.nc_options.specs.declared.options.Options.TheVariants.{Check}
+use Rattle.nc_text.specs.Certificates.{reads_certificate}
+use Rattle.nc_tokens.specs.Kinds.{number_of}
+use Rattle.nc_tokens.specs.declared.fault.TextFault.{TextFault}
 use Rattle.nc_top.specs.Checking.{IsValidCertificate}
-use Rattle.nc_top.specs.Plain.{IsNotPlain, IsPlain}
+use Rattle.nc_top.specs.Reports.{bad_text_report, invalid_report}
 use Rattle.nc_top.specs.declared.status.Status.{Status}
-use Rattle.nc_top.specs.declared.status.Status.TheVariants.{Done, Invalid, NotYet, OutOfMemory, ReadFault, Usage, WriteFault}
-use Rattle.std.specs.Prelude.{List, [], codes, ℕ, ◌++◌, ◌∷◌, ◌≡◌, ◌⊎◌}
+use Rattle.nc_top.specs.declared.status.Status.TheVariants.{BadText, Done, Invalid, OutOfMemory, ReadFault, TooLarge, Usage, WriteFault}
+use Rattle.std.specs.Prelude.{Err, List, Ok, Some, [], codes, length, ℕ, ◌<◌, ◌≡◌, ◌≤◌, ◌⊎◌}
 use Rattle.std.specs.declared.option.Option.{Option}
 
--- the words are the one word `check`
+-- the words are those of `check`, which has no options
 abbrev pub IsCheck : List (List ℕ) → Type 0
-IsCheck words = words ≡ codes "check" ∷ []
+IsCheck words = options_of words ≡ Some Check
 
 -- ---- status and report
 
--- the line `invalid`, and the rest of the claim
-abbrev pub invalid_report : Certificate → List ℕ
-invalid_report c = codes "invalid\nrest " ++ (poly_text c.setting.names (rest_of c.setting.setting c.claim c.terms) ++ codes "\n")
+-- the bytes are a text of this certificate, and are not too many
+pub record IsText (bytes : List ℕ) (c : Certificate) : Type 0 where
+  pub small : length bytes ≤ 16777216
+  pub read : reads_certificate bytes ≡ Ok c
 
--- the bytes are a plain certificate that is valid
+-- the bytes are a text of a certificate that is valid
 pub record IsDone (bytes report : List ℕ) : Type 0 where
   pub certificate : Certificate
-  pub plain : IsPlain bytes certificate
+  pub text : IsText bytes certificate
   pub valid : IsValidCertificate certificate
   pub written : report ≡ codes "valid\n"
 
--- the bytes are a plain certificate that is not valid
+-- the bytes are a text of a certificate that is not valid
 pub record IsInvalid (bytes report : List ℕ) : Type 0 where
   pub certificate : Certificate
-  pub plain : IsPlain bytes certificate
+  pub text : IsText bytes certificate
   pub invalid : ¬ IsValidCertificate certificate
-  pub written : report ≡ invalid_report certificate
+  pub written : report ≡ invalid_report certificate.setting.names (rest_of certificate.setting.setting certificate.claim certificate.terms)
 
--- the bytes are no plain certificate
-pub record IsNotYet (bytes report : List ℕ) : Type 0 where
-  pub not_plain : IsNotPlain bytes
-  pub written : report ≡ codes "not yet\n"
+-- the bytes are no text of a certificate, and are not too many: the first fault
+pub record IsBadText (bytes : List ℕ) (line kind : ℕ) (report : List ℕ) : Type 0 where
+  pub fault : TextFault
+  pub small : length bytes ≤ 16777216
+  pub read : reads_certificate bytes ≡ Err fault
+  pub at_line : line ≡ fault.line
+  pub of_kind : kind ≡ number_of fault.kind
+  pub written : report ≡ bad_text_report line kind
 
--- status and report for the bytes of a certificate
+-- the bytes are too many, whatever they are
+pub record IsTooLarge (bytes report : List ℕ) : Type 0 where
+  pub large : 16777216 < length bytes
+  pub written : report ≡ codes "too large\n"
+
+-- status and report for the bytes of an input
 abbrev pub IsAnswer : List ℕ → Status → List ℕ → Type 0
 IsAnswer bytes Done report = IsDone bytes report
 IsAnswer bytes Invalid report = IsInvalid bytes report
-IsAnswer bytes NotYet report = IsNotYet bytes report
+IsAnswer bytes (BadText line kind) report = IsBadText bytes line kind report
+IsAnswer bytes TooLarge report = IsTooLarge bytes report
 IsAnswer bytes Usage report = ⊥
 IsAnswer bytes ReadFault report = ⊥
 IsAnswer bytes WriteFault report = ⊥
@@ -61,6 +77,11 @@ IsAnswer bytes OutOfMemory report = ⊥
 abbrev pub IsReported : Option (List ℕ) → Option (List ℕ) → ℕ → ℕ → List ℕ → Status → Status → Type 0
 IsReported old new before now report status result =
     ((result ≡ status) × Adds old new report) ⊎ ((result ≡ WriteFault) × Rose before now × AddsFront old new report)
+
+-- `usage` was reported, or memory ran out while the words were read, with nothing written
+abbrev pub IsRefused : Option (List ℕ) → Option (List ℕ) → ℕ → ℕ → Status → Type 0
+IsRefused old new before now result =
+    ((result ≡ OutOfMemory) × Adds old new []) ⊎ IsReported old new before now (codes "usage\n") Usage result
 
 -- the source was read to its end, or as far as 16,777,217 bytes, and status and report are those of its bytes
 pub record IsAnswered (left_before left_after written_before written_after : Option (List ℕ)) (before now : ℕ) (result : Status) : Type 0 where

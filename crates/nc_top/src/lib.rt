@@ -1,22 +1,26 @@
 //! The commands of the program: the check of a certificate, and the run over a source and a sink.
 #![tactic(auto)]
 
-ghost use Rattle.nc_top.specs.Laws.{OneAnswer};
+ghost use Rattle.nc_top.specs.Laws.{FaultlessRuns, OneAnswer};
 
 mod certificates;
-mod plain;
 mod run;
 mod status;
 
 pub use certificates::{Verdict, check};
-pub use plain::{MAX_BYTES, read_plain};
-pub use run::run_alone;
+pub use run::{MAX_BYTES, run_alone};
 pub use status::{Status, code_of};
 
 /// The bytes that are read determine the status and the report.
-#[tactic(auto, using(crate::proofs::Reports::one_answer))]
+#[tactic(auto, using(crate::proofs::Answers::one_answer))]
 pub fn one_answer()
     ensures { OneAnswer }
+{}
+
+/// A run in which nothing fails answers for all bytes of its source.
+#[tactic(auto, using(crate::proofs::Answers::faultless_runs))]
+pub fn faultless_runs()
+    ensures { FaultlessRuns }
 {}
 
 #[cfg(test)]

@@ -2,17 +2,26 @@
 
 ghost use Rattle.nc_algebra.specs.Certificates.{rest_of};
 ghost use Rattle.nc_io.specs.Pieces.{TakesFront};
-ghost use Rattle.nc_top.specs.Run.{IsAnswer, IsCheck, IsReported, Ran, invalid_report};
-ghost use Rattle.std.specs.Prelude.{IfOk, IsTrue, codes, map, string_bytes, ◌≡◌, ◌↔◌};
+ghost use Rattle.nc_text.specs.Certificates.{reads_certificate};
+ghost use Rattle.nc_top.specs.Reports.{bad_text_report, invalid_report};
+ghost use Rattle.nc_top.specs.Run.{IsAnswer, IsCheck, IsRefused, IsReported, Ran};
+ghost use Rattle.std.specs.Prelude.{Err, IfOk, Ok, codes, length, map, string_bytes, ◌≡◌, ◌≤◌};
 
 use crate::certificates::{Verdict, check};
-use crate::plain::{MAX_BYTES, read_plain};
 use crate::status::Status;
+use itoa::Buffer;
 use nc_io::{Fault, Sink, Source, put_whole, take_whole};
 use nc_module::Certificate;
+use nc_options::{Options, OptionsError, read_options};
 use nc_poly::Poly;
-use nc_text::write_poly;
+use nc_text::{ReadFault, TextFault, read_certificate, write_poly};
 use std::alloc::{AllocError, Global};
+
+/// The most bytes of a text.
+pub const MAX_BYTES: usize = 16_777_216;
+
+/// A status, and the report that goes with it.
+type Answer = (Status, Vec<u8>);
 
 /// The report on a certificate that is not valid.
 fn invalid_report(
@@ -21,7 +30,7 @@ fn invalid_report(
     rest: &Poly,
 ) -> Result<Vec<u8>, AllocError>
     requires { rest.now ≡ rest_of certificate.now.setting.setting certificate.now.claim certificate.now.terms }
-    ensures { IfOk result (λ report. report.items ≡ invalid_report certificate.now) }
+    ensures { IfOk result (λ report. report.items ≡ invalid_report certificate.now.setting.names rest.now) }
 {
     let mut report = Vec::from_slice(alloc, b"invalid\nrest ")?;
     write_poly(&mut report, certificate.setting.names(), rest)?;
@@ -29,19 +38,58 @@ fn invalid_report(
     Ok(report)
 }
 
-/// Status and report for the bytes of a certificate.
-fn answer(alloc: Global, bytes: &[u8]) -> Result<(Status, Vec<u8>), AllocError>
+/// The report on a text that is no certificate.
+fn bad_text_report(alloc: Global, line: u64, kind: u8) -> Result<Vec<u8>, AllocError>
+    ensures { IfOk result (λ report. report.items ≡ bad_text_report line kind) }
+{
+    let mut numbers = Buffer::new();
+    let mut report = Vec::from_slice(alloc, b"bad text line ")?;
+    report.extend_from_slice(numbers.format(line).as_bytes())?;
+    report.extend_from_slice(b" kind ")?;
+    report.extend_from_slice(numbers.format(kind).as_bytes())?;
+    report.extend_from_slice(b"\n")?;
+    Ok(report)
+}
+
+/// Status and report for a text that is no certificate.
+fn answer_fault(alloc: Global, bytes: &[u8], fault: TextFault) -> Result<Answer, AllocError>
+    requires small { length bytes.now ≤ 16777216 }
+    requires fault { reads_certificate bytes.now ≡ Err fault }
     ensures { IfOk result (λ r. IsAnswer bytes.now r.0 r.1.items) }
 {
-    let Some(certificate) = read_plain(alloc, bytes)? else {
-        return Ok((Status::NotYet, Vec::from_slice(alloc, b"not yet\n")?));
-    };
-    match check(alloc, &certificate)? {
+    let line = fault.line;
+    let kind = fault.kind.number();
+    let report = bad_text_report(alloc, line, kind)?;
+    Ok((Status::BadText { line, kind }, report))
+}
+
+/// Status and report for a text of a certificate.
+fn answer_certificate(
+    alloc: Global,
+    bytes: &[u8],
+    certificate: &Certificate,
+) -> Result<Answer, AllocError>
+    requires small { length bytes.now ≤ 16777216 }
+    requires certificate { reads_certificate bytes.now ≡ Ok certificate.now }
+    ensures { IfOk result (λ r. IsAnswer bytes.now r.0 r.1.items) }
+{
+    match check(alloc, certificate)? {
         Verdict::Valid => Ok((Status::Done, Vec::from_slice(alloc, b"valid\n")?)),
-        Verdict::Invalid(rest) => Ok((
-            Status::Invalid,
-            invalid_report(alloc, &certificate, &rest)?,
-        )),
+        Verdict::Invalid(rest) => Ok((Status::Invalid, invalid_report(alloc, certificate, &rest)?)),
+    }
+}
+
+/// Status and report for the bytes of an input.
+fn answer(alloc: Global, bytes: &[u8]) -> Result<Answer, AllocError>
+    ensures { IfOk result (λ r. IsAnswer bytes.now r.0 r.1.items) }
+{
+    if bytes.len() > MAX_BYTES {
+        return Ok((Status::TooLarge, Vec::from_slice(alloc, b"too large\n")?));
+    }
+    match read_certificate(alloc, bytes) {
+        Ok(certificate) => answer_certificate(alloc, bytes, &certificate),
+        Err(ReadFault::Text(fault)) => answer_fault(alloc, bytes, fault),
+        Err(ReadFault::OutOfMemory) => Err(AllocError),
     }
 }
 
@@ -55,13 +103,25 @@ fn report<K: Sink>(sink: &mut K, status: Status, text: &[u8]) -> Status
     }
 }
 
-/// Whether the words are the one word `check`.
-fn is_check(words: &[String]) -> bool
-    ensures { IsTrue result ↔ IsCheck (map string_bytes words.now) }
+/// Reports that the words are no command that runs.
+fn refuse<K: Sink>(sink: &mut K) -> Status
+    ensures { IsReported (K.written sink.old) (K.written sink.new) (K.faults sink.old) (K.faults sink.new) (codes "usage\n") Status.Usage result }
 {
-    match words {
-        [word] => word.as_str() == "check",
-        _ => false,
+    report(sink, Status::Usage, b"usage\n")
+}
+
+/// Reads the source, and writes the report of `check`.
+fn run_check<S: Source, K: Sink>(alloc: Global, source: &mut S, sink: &mut K) -> Status
+    ensures ran { Ran (S.left source.old) (S.left source.new) (K.written sink.old) (K.written sink.new) (S.faults source.old) (S.faults source.new) (K.faults sink.old) (K.faults sink.new) result }
+    ensures limit { TakesFront (S.left source.old) (S.left source.new) 16777217 }
+{
+    match take_whole(alloc, source, MAX_BYTES + 1) {
+        Err(Fault::Read) => Status::ReadFault,
+        Err(Fault::Memory) => Status::OutOfMemory,
+        Ok(bytes) => match answer(alloc, &bytes) {
+            Err(_) => Status::OutOfMemory,
+            Ok((status, text)) => report(sink, status, &text),
+        },
     }
 }
 
@@ -74,19 +134,16 @@ pub fn run_alone<S: Source, K: Sink>(
     sink: &mut K,
 ) -> Status
     ensures unread { ¬ IsCheck (map string_bytes words.now) → source.new ≡ source.old }
-    ensures usage { ¬ IsCheck (map string_bytes words.now) → IsReported (K.written sink.old) (K.written sink.new) (K.faults sink.old) (K.faults sink.new) (codes "usage\n") Status.Usage result }
+    ensures usage { ¬ IsCheck (map string_bytes words.now) → IsRefused (K.written sink.old) (K.written sink.new) (K.faults sink.old) (K.faults sink.new) result }
     ensures check { IsCheck (map string_bytes words.now) → Ran (S.left source.old) (S.left source.new) (K.written sink.old) (K.written sink.new) (S.faults source.old) (S.faults source.new) (K.faults sink.old) (K.faults sink.new) result }
     ensures limit { TakesFront (S.left source.old) (S.left source.new) 16777217 }
 {
-    if !is_check(words) {
-        return report(sink, Status::Usage, b"usage\n");
-    }
-    match take_whole(alloc, source, MAX_BYTES + 1) {
-        Err(Fault::Read) => Status::ReadFault,
-        Err(Fault::Memory) => Status::OutOfMemory,
-        Ok(bytes) => match answer(alloc, &bytes) {
-            Err(_) => Status::OutOfMemory,
-            Ok((status, text)) => report(sink, status, &text),
-        },
+    match read_options(alloc, words) {
+        Ok(Options::Check) => run_check(alloc, source, sink),
+        Ok(Options::Basis(_)) => refuse(sink),
+        Ok(Options::Member(_)) => refuse(sink),
+        Ok(Options::Demo(_)) => refuse(sink),
+        Err(OptionsError::Usage) => refuse(sink),
+        Err(OptionsError::Memory(_)) => Status::OutOfMemory,
     }
 }

@@ -12,8 +12,10 @@ pub enum Status {
     Invalid,
     /// The words are no command; nothing was read.
     Usage,
-    /// The bytes are no plain certificate.
-    NotYet,
+    /// The bytes are no text of a certificate: the line of the first fault, and the number of its kind.
+    BadText { line: u64, kind: u8 },
+    /// The source has more bytes than a text may have.
+    TooLarge,
     /// The source failed; nothing was written.
     ReadFault,
     /// The sink failed; a front of the report was written.
@@ -30,7 +32,7 @@ pub fn code_of(status: Status) -> u8
         Status::Done => 0,
         Status::Invalid => 1,
         Status::Usage => 2,
-        Status::NotYet => 3,
+        Status::BadText { .. } | Status::TooLarge => 3,
         Status::ReadFault => 5,
         Status::WriteFault => 6,
         Status::OutOfMemory => 7,

@@ -8,24 +8,19 @@ const HEAD: &str = "certificate 1\nfield 101\nletters x y\ngenerator x\ngenerato
 
 const TERMS: &str = "claim y\nterm 1 1 [2] y\nterm 100 1 [1] y\nend\n";
 
-/// A source of a text, and the words of a command.
-fn source_of(
-    alloc: Global,
-    text: &str,
-    step: usize,
-    failing: &[u64],
-) -> Result<MemorySource, Fail> {
-    let step = step.max(1);
+/// A source of bytes that gives seven at a time, and fails at the calls that are listed.
+fn source_of(alloc: Global, bytes: &[u8], failing: &[u64]) -> Result<MemorySource, Fail> {
     Ok(MemorySource {
-        bytes: Vec::from_slice(alloc, text.as_bytes())?,
+        bytes: Vec::from_slice(alloc, bytes)?,
         at: 0,
-        step,
+        step: 7,
         calls: 0,
         failing: Vec::from_slice(alloc, failing)?,
         faults: 0,
     })
 }
 
+/// The words of a line.
 fn words_of(alloc: Global, line: &str) -> Result<Vec<String>, Fail> {
     let mut words = Vec::new(alloc);
     for word in line.split_whitespace() {
@@ -37,7 +32,7 @@ fn words_of(alloc: Global, line: &str) -> Result<Vec<String>, Fail> {
 /// The status of a run with these words over a text, and whether it wrote this report.
 fn reports(alloc: Global, line: &str, text: &str, report: &str) -> Result<(Status, bool), Fail> {
     let words = words_of(alloc, line)?;
-    let mut source = source_of(alloc, text, 7, &[])?;
+    let mut source = source_of(alloc, text.as_bytes(), &[])?;
     let mut sink = MemorySink::of(alloc, 1000, 5, Vec::new(alloc))?;
     let status = run_alone(alloc, &words, &mut source, &mut sink);
     Ok((status, sink.bytes.as_slice() == report.as_bytes()))
@@ -47,6 +42,12 @@ fn reports(alloc: Global, line: &str, text: &str, report: &str) -> Result<(Statu
 fn checks(alloc: Global, lines: &str, report: &str) -> Result<(Status, bool), Fail> {
     let text = format!(in alloc; "{HEAD}{lines}")?;
     reports(alloc, "check", &text, report)
+}
+
+/// The same of a text that is no certificate, for which this line and kind are told.
+fn faults(alloc: Global, text: &str, line: u64, kind: u8) -> Result<bool, Fail> {
+    let report = format!(in alloc; "bad text line {line} kind {kind}\n")?;
+    Ok(reports(alloc, "check", text, &report)? == (Status::BadText { line, kind }, true))
 }
 
 #[test]
@@ -71,6 +72,22 @@ fn certificates_are_checked(rt: HostRuntime) -> Result<(), Fail> {
             Status::Done,
             "valid\n",
         ),
+        // Not in printed form.
+        (
+            "claim x ^ 2 * y-3\nend\n",
+            Status::Invalid,
+            "invalid\nrest x*x*y + 98\n",
+        ),
+        (
+            "claim -y + 2*y\r\n\r\nterm 102 1 [02] x^0*y # the first\n\t\nterm 302 01 [1]y\nend",
+            Status::Done,
+            "valid\n",
+        ),
+        (
+            "generator x^255\nclaim 3*x^254*x\nterm 3 1 [3] 1\nend # no line feed",
+            Status::Done,
+            "valid\n",
+        ),
     ] {
         assert_eq!(rt; checks(alloc, lines, report)?, (status, true), "at {lines}");
     }
@@ -78,78 +95,155 @@ fn certificates_are_checked(rt: HostRuntime) -> Result<(), Fail> {
 }
 
 #[test]
-fn other_texts_are_not_yet_read(rt: HostRuntime) -> Result<(), Fail> {
+fn every_field_is_read(rt: HostRuntime) -> Result<(), Fail> {
     let alloc = rt.alloc();
-    for lines in [
-        "",
-        "claim y\nterm 01 1 [2] y\nend\n",
-        "claim  y\nend\n",
-        "claim y\r\nend\n",
-        "claim y # a comment\nend\n",
-        "claim z\nend\n",
-        "claim y\n",
-        "claim y\nend",
-        "claim y\nend\nend\n",
-        "claim y\nend\n\n",
-        "claim x + y\nend\n",
-        "claim 1*y\nend\n",
-        "claim y\nterm 101 1 [2] y\nend\n",
-        "claim y\nterm 1 1 [3] y\nend\n",
-        "claim y^2\nend\n",
-        "generator 0\nclaim y\nend\n",
+    for (prime, last, status, report) in [
+        (2, 1, Status::Done, "valid\n"),
+        (3, 2, Status::Done, "valid\n"),
+        (3, 1, Status::Invalid, "invalid\nrest x*y\n"),
+        (5, 4, Status::Done, "valid\n"),
+        (5, 1, Status::Invalid, "invalid\nrest 3*x*y\n"),
+        (7, 6, Status::Done, "valid\n"),
+        (7, 1, Status::Invalid, "invalid\nrest 5*x*y\n"),
+        (101, 1, Status::Invalid, "invalid\nrest 99*x*y\n"),
+        (251, 250, Status::Done, "valid\n"),
+        (251, 1, Status::Invalid, "invalid\nrest 249*x*y\n"),
+        (32003, 32002, Status::Done, "valid\n"),
+        (32003, 1, Status::Invalid, "invalid\nrest 32001*x*y\n"),
+        (65521, 65520, Status::Done, "valid\n"),
+        (65521, 1, Status::Invalid, "invalid\nrest 65519*x*y\n"),
     ] {
+        let text = format!(in alloc;
+            "certificate 1\nfield {prime}\nletters x y\ngenerator x\ngenerator x + 1\nclaim y\nterm 1 1 [2] y\nterm {last} 1 [1] y\nend\n"
+        )?;
         assert_eq!(rt;
-            checks(alloc, lines, "not yet\n")?,
-            (Status::NotYet, true),
-            "at {lines}"
-        );
-    }
-    for text in [
-        "",
-        "certificate 1\nfield 7\nletters x\nclaim 0\nend\n",
-        "certificate 1\nfield 101\nletters x x\nclaim 0\nend\n",
-        "certificate 1\nfield 101\nletters\nclaim 0\nend\n",
-        "certificate 2\nfield 101\nletters x\nclaim 0\nend\n",
-    ] {
-        assert_eq!(rt;
-            reports(alloc, "check", text, "not yet\n")?,
-            (Status::NotYet, true),
-            "at {text}"
+            reports(alloc, "check", &text, report)?,
+            (status, true),
+            "{text}"
         );
     }
     Ok(())
 }
 
-/// The status of `check` on a claim that is a word of so many letters.
-fn long_claim(alloc: Global, letters: usize) -> Result<Status, Fail> {
-    let mut lines = String::from_str(alloc, "claim x")?;
-    for _ in 1..letters {
-        lines.push_str("*x")?;
+#[test]
+fn texts_have_faults(rt: HostRuntime) -> Result<(), Fail> {
+    let alloc = rt.alloc();
+    for (text, line, kind) in [
+        ("", 1, 3),
+        ("claim y\nend\n", 1, 2),
+        ("certificate 2\n", 1, 13),
+        ("certificate 1\nfield 4\n", 2, 6),
+        ("certificate 1\nfield 101\nletters x x\n", 3, 8),
+        ("certificate 1\nfield 101\nletters x 1\n", 3, 7),
+        (
+            "certificate 1\nfield 101\nletters x abcdefghijklmnopq\n",
+            3,
+            7,
+        ),
+    ] {
+        assert!(rt; faults(alloc, text, line, kind)?, "at {text}");
     }
-    lines.push_str("\nend\n")?;
-    Ok(checks(alloc, &lines, "")?.0)
+    for (lines, line, kind) in [
+        ("generator x - x\n", 6, 12),
+        ("\n# blank lines count\ngenerator 101*x\n", 8, 12),
+        ("claim y\u{7}\n", 6, 1),
+        ("claim 2x\n", 6, 4),
+        ("claim 1000000000000000000\n", 6, 5),
+        ("claim y*z\n", 6, 10),
+        ("claim x^256\n", 6, 11),
+        ("claim y\n", 7, 3),
+        ("claim y\nterm 1 1 [3] y\nend\n", 7, 13),
+        ("claim y\nterm 1 1 [0] y\nend\n", 7, 13),
+        ("claim y\nend\nend\n", 8, 2),
+    ] {
+        let text = format!(in alloc; "{HEAD}{lines}")?;
+        assert!(rt; faults(alloc, &text, line, kind)?, "at {lines}");
+    }
+    Ok(())
+}
+
+/// A text with so many letters, and so many generators.
+fn text_with(alloc: Global, letters: u32, generators: u32) -> Result<String, Fail> {
+    let mut text = String::from_str(alloc, "certificate 1\nfield 7\nletters")?;
+    for letter in 0..letters {
+        text.push_str(format!(in alloc; " x{letter}")?.as_str())?;
+    }
+    for _ in 0..generators {
+        text.push_str("\ngenerator x0")?;
+    }
+    text.push_str("\nclaim 0\nend\n")?;
+    Ok(text)
 }
 
 #[test]
-fn words_have_at_most_255_letters(rt: HostRuntime) -> Result<(), Fail> {
+fn letters_and_generators_are_counted(rt: HostRuntime) -> Result<(), Fail> {
     let alloc = rt.alloc();
-    assert_eq!(rt; long_claim(alloc, 255)?, Status::Invalid);
-    assert_eq!(rt; long_claim(alloc, 256)?, Status::NotYet);
+    let most = text_with(alloc, 64, 1000)?;
+    assert_eq!(rt;
+        reports(alloc, "check", &most, "valid\n")?,
+        (Status::Done, true)
+    );
+    assert!(rt; faults(alloc, &text_with(alloc, 65, 1)?, 3, 9)?);
+    assert!(rt; faults(alloc, &text_with(alloc, 1, 1001)?, 1004, 14)?);
+    Ok(())
+}
+
+/// The status of `check` over so many line feeds, and whether it wrote this report.
+fn line_feeds(alloc: Global, count: usize, report: &str) -> Result<(Status, bool), Fail> {
+    let words = words_of(alloc, "check")?;
+    let mut source = MemorySource {
+        bytes: vec![in alloc; b'\n'; count]?,
+        at: 0,
+        step: 5000,
+        calls: 0,
+        failing: Vec::new(alloc),
+        faults: 0,
+    };
+    let mut sink = MemorySink::of(alloc, 1000, 5, Vec::new(alloc))?;
+    let status = run_alone(alloc, &words, &mut source, &mut sink);
+    Ok((status, sink.bytes.as_slice() == report.as_bytes()))
+}
+
+#[test]
+fn texts_have_at_most_16_mebibytes(rt: HostRuntime) -> Result<(), Fail> {
+    let alloc = rt.alloc();
+    let missing = Status::BadText {
+        line: 16_777_217,
+        kind: 3,
+    };
+    assert_eq!(rt;
+        line_feeds(alloc, 16_777_216, "bad text line 16777217 kind 3\n")?,
+        (missing, true)
+    );
+    assert_eq!(rt;
+        line_feeds(alloc, 16_777_217, "too large\n")?,
+        (Status::TooLarge, true)
+    );
     Ok(())
 }
 
 #[test]
 fn other_words_are_usage(rt: HostRuntime) -> Result<(), Fail> {
     let alloc = rt.alloc();
-    for line in ["", "chuck", "check check", "Check", "check -", "basis"] {
+    for line in [
+        "",
+        "check x",
+        "check --help",
+        "check --",
+        "Check",
+        "basis",
+        "member",
+        "demo 1",
+        "unknown",
+    ] {
         assert_eq!(rt;
             reports(alloc, line, TERMS, "usage\n")?,
             (Status::Usage, true),
             "at {line}"
         );
     }
-    let words = words_of(alloc, "chuck")?;
-    let mut source = source_of(alloc, TERMS, 7, &[1])?;
+    let words = words_of(alloc, "check x")?;
+    let mut source = source_of(alloc, TERMS.as_bytes(), &[1])?;
     let mut sink = MemorySink::of(alloc, 1000, 5, Vec::new(alloc))?;
     assert_eq!(rt;
         run_alone(alloc, &words, &mut source, &mut sink),
@@ -163,9 +257,9 @@ fn other_words_are_usage(rt: HostRuntime) -> Result<(), Fail> {
 fn faults_end_a_run(rt: HostRuntime) -> Result<(), Fail> {
     let alloc = rt.alloc();
     let words = words_of(alloc, "check")?;
-    let text = format!(in alloc; "{HEAD}{TERMS}")?;
+    let text = format!(in alloc; "{HEAD}claim 0\nterm 100 1 [1] y\nend\n")?;
 
-    let mut source = source_of(alloc, &text, 7, &[2])?;
+    let mut source = source_of(alloc, text.as_bytes(), &[2])?;
     let mut sink = MemorySink::of(alloc, 1000, 5, Vec::new(alloc))?;
     assert_eq!(rt;
         run_alone(alloc, &words, &mut source, &mut sink),
@@ -173,21 +267,21 @@ fn faults_end_a_run(rt: HostRuntime) -> Result<(), Fail> {
     );
     assert_eq!(rt; (source.at, source.faults, sink.bytes.len()), (7, 1, 0));
 
-    let mut source = source_of(alloc, &text, 7, &[])?;
-    let mut sink = MemorySink::of(alloc, 1000, 5, Vec::from_slice(alloc, &[2])?)?;
+    let mut source = source_of(alloc, text.as_bytes(), &[])?;
+    let mut sink = MemorySink::of(alloc, 1000, 5, Vec::from_slice(alloc, &[3])?)?;
     assert_eq!(rt;
         run_alone(alloc, &words, &mut source, &mut sink),
         Status::WriteFault
     );
-    assert_eq!(rt; sink.bytes.as_slice(), b"valid".as_slice());
+    assert_eq!(rt; sink.bytes.as_slice(), b"invalid\nre".as_slice());
 
-    let mut source = source_of(alloc, &text, 7, &[])?;
+    let mut source = source_of(alloc, text.as_bytes(), &[])?;
     let mut sink = MemorySink::of(alloc, 3, 5, Vec::new(alloc))?;
     assert_eq!(rt;
         run_alone(alloc, &words, &mut source, &mut sink),
         Status::WriteFault
     );
-    assert_eq!(rt; sink.bytes.as_slice(), b"val".as_slice());
+    assert_eq!(rt; sink.bytes.as_slice(), b"inv".as_slice());
     Ok(())
 }
 
@@ -210,7 +304,8 @@ fn statuses_have_their_codes(rt: HostRuntime) {
         (Status::Done, 0),
         (Status::Invalid, 1),
         (Status::Usage, 2),
-        (Status::NotYet, 3),
+        (Status::BadText { line: 7, kind: 2 }, 3),
+        (Status::TooLarge, 3),
         (Status::ReadFault, 5),
         (Status::WriteFault, 6),
         (Status::OutOfMemory, 7),

@@ -1,8 +1,5 @@
-use Rattle.nc_plain.proofs.Places.{leads_entry}
-use Rattle.std.proofs.Common.{sym, ◌∙◌}
+use Rattle.std.proofs.Common.{sym}
 use Rattle.nc_plain.proofs.cover.entry_apart.Goals as goal
 
 pub returns : goal.returns
-returns c =
-    rw (leads_entry c.args.setting.now.setting c.args.entry.now c.in-Some.lead.now c.in-Some.ensures.some.0 c.requires.usable (sym c.polynomial.ensures ∙ c.in-Some.ensures.some.1), ← c.letters.ensures.letters, ← c.signature.ensures)
-    c.place_apart.ensures
+returns c = rw (sym (c.lead.ensures c.args.setting.now.setting.prime c.requires.usable.normal), ← c.signature.ensures) c.place_apart.ensures

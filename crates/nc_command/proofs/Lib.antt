@@ -1,0 +1,12 @@
+pub mod Tables
+pub mod Rows
+pub mod Distinct
+pub mod Pieces
+pub mod Turns
+pub mod Walks
+pub mod Parses
+pub mod Fit
+pub mod Commands
+pub mod Caller
+pub mod Orders
+pub mod Spellings

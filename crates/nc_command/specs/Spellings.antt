@@ -1,0 +1,44 @@
+-- Uses as words: what may stand behind the command word.
+--   IsPlain     a word does not begin with a hyphen
+--   IsSpelled   words are one use: `--name=value`, `--name value`, or the number
+--   AreSpelled  words are uses, one behind another
+use Rattle.std.specs.Prelude.{◌≡◌, ◌++◌, ◌⊎◌, Bool, true, List, [], ◌∷◌, None, codes}
+use Rattle.nc_command.specs.Pieces.{Text, after_hyphen, is_among}
+use Rattle.nc_command.specs.Uses.{Use, number_id}
+
+abbrev pub IsPlain : Text → Type 0
+IsPlain word = after_hyphen word ≡ None
+
+-- `--name`
+abbrev pub option_word : Text → Text
+option_word name = codes "--" ++ name
+
+-- `--name=value`
+abbrev pub joined_word : Text → Text → Text
+joined_word name value = option_word name ++ (codes "=" ++ value)
+
+-- `--name=value`, of one of the names; the value may be any text
+pub record IsJoined (names : List Text) (u : Use) (words : List Text) : Type 0 where
+  pub option : is_among names u.0 ≡ true
+  pub words_are : words ≡ joined_word u.0 u.1 ∷ []
+
+-- `--name` and `value`, of one of the names; the value is a plain word
+pub record IsParted (names : List Text) (u : Use) (words : List Text) : Type 0 where
+  pub option : is_among names u.0 ≡ true
+  pub value : IsPlain u.1
+  pub words_are : words ≡ option_word u.0 ∷ u.1 ∷ []
+
+-- the number alone, a plain word, of a command that takes one
+pub record IsNumber (takes_number : Bool) (u : Use) (words : List Text) : Type 0 where
+  pub taken : takes_number ≡ true
+  pub name : u.0 ≡ number_id
+  pub value : IsPlain u.1
+  pub words_are : words ≡ u.1 ∷ []
+
+abbrev pub IsSpelled : List Text → Bool → Use → List Text → Type 0
+IsSpelled names takes_number u words = IsJoined names u words ⊎ (IsParted names u words ⊎ IsNumber takes_number u words)
+
+abbrev pub AreSpelled : List Text → Bool → List Use → List Text → Type 0
+AreSpelled names takes_number [] words = words ≡ []
+AreSpelled names takes_number (u ∷ uses) words =
+    (first : List Text) × (rest : List Text) × (words ≡ first ++ rest) × IsSpelled names takes_number u first × AreSpelled names takes_number uses rest

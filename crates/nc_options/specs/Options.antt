@@ -1,0 +1,72 @@
+-- The options that the words of a command line give.
+--   basis_of, member_of, demo_of            the options of a command, by the texts that were given under each name
+--   basis_after, member_after, check_after,
+--   demo_after                              the options that the words behind the command word give
+--   options_of                              the options that all words give, the command word first
+use Rattle.std.specs.Prelude.{ℕ, true, false, List, [], ◌∷◌, Option, Some, None, codes, if◌then◌else◌, option_and_then, option_map}
+use Rattle.std.specs.Str.{bytes_eq}
+use Rattle.nc_command.specs.Pieces.{Text}
+use Rattle.nc_command.specs.Uses.{uses_of, value_of}
+use Rattle.nc_options.specs.Values.{workers_of, window_of, limit_of, cofactors_of, form_of, number_of, degree_of}
+use Rattle.nc_options.specs.declared.options.Cofactors.{Cofactors}
+use Rattle.nc_options.specs.declared.options.BasisOptions.{BasisOptions}
+use Rattle.nc_options.specs.declared.options.MemberOptions.{MemberOptions}
+use Rattle.nc_options.specs.declared.options.DemoOptions.{DemoOptions}
+use Rattle.nc_options.specs.declared.options.Options.{Options}
+use Rattle.nc_options.specs.declared.options.Options.TheVariants.{Basis, Member, Check, Demo}
+
+-- options where each value is one
+abbrev pub basis_with : Option ℕ → Option ℕ → Option ℕ → Option Cofactors → Option BasisOptions
+basis_with (Some workers) (Some window) (Some limit) (Some cofactors) =
+    Some (record { workers = workers; window = window; limit = limit; cofactors = cofactors })
+basis_with _ _ _ _ = None
+
+abbrev pub member_with : Option ℕ → Option ℕ → Option ℕ → Option ℕ → Option MemberOptions
+member_with (Some workers) (Some window) (Some limit) (Some form) =
+    Some (record { workers = workers; window = window; limit = limit; form = form })
+member_with _ _ _ _ = None
+
+abbrev pub demo_with : Option ℕ → Option ℕ → Option ℕ → Option ℕ → Option DemoOptions
+demo_with (Some number) (Some degree) (Some workers) (Some window) =
+    Some (record { number = number; degree = degree; workers = workers; window = window })
+demo_with _ _ _ _ = None
+
+abbrev pub basis_of : (Text → Option Text) → Option BasisOptions
+basis_of given = basis_with (workers_of given) (window_of given) (limit_of given) (cofactors_of given)
+
+abbrev pub member_of : (Text → Option Text) → Option MemberOptions
+member_of given = member_with (workers_of given) (window_of given) (limit_of given) (form_of given)
+
+abbrev pub demo_of : (Text → Option Text) → Option DemoOptions
+demo_of given = demo_with (number_of given) (degree_of given) (workers_of given) (window_of given)
+
+abbrev pub basis_names : List Text
+basis_names = codes "workers" ∷ codes "window" ∷ codes "limit" ∷ codes "cofactors" ∷ []
+
+abbrev pub member_names : List Text
+member_names = codes "workers" ∷ codes "window" ∷ codes "limit" ∷ codes "form" ∷ []
+
+abbrev pub demo_names : List Text
+demo_names = codes "degree" ∷ codes "workers" ∷ codes "window" ∷ []
+
+-- the words are uses, and their values are options
+abbrev pub basis_after : List Text → Option Options
+basis_after words = option_and_then (λ uses. option_map Basis (basis_of (λ name. value_of name uses))) (uses_of basis_names false words)
+
+abbrev pub member_after : List Text → Option Options
+member_after words = option_and_then (λ uses. option_map Member (member_of (λ name. value_of name uses))) (uses_of member_names false words)
+
+abbrev pub demo_after : List Text → Option Options
+demo_after words = option_and_then (λ uses. option_map Demo (demo_of (λ name. value_of name uses))) (uses_of demo_names true words)
+
+-- `check` has no options and no number, so that no word may follow
+abbrev pub check_after : List Text → Option Options
+check_after words = option_map (λ uses. Check) (uses_of [] false words)
+
+-- the first word is the command
+abbrev pub options_of : List Text → Option Options
+options_of [] = None
+options_of (command ∷ words) = if bytes_eq command (codes "basis") then basis_after words
+    else (if bytes_eq command (codes "member") then member_after words
+    else (if bytes_eq command (codes "check") then check_after words
+    else (if bytes_eq command (codes "demo") then demo_after words else None)))

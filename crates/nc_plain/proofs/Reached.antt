@@ -1,0 +1,173 @@
+-- What a run over a program's setting reaches: entries that can be used, and signatures that can be handled.
+use Rattle.nc_algebra.proofs.Degrees.{degrees, labelled_limited}
+use Rattle.nc_algebra.proofs.Finite.{among_contains, contains_among}
+use Rattle.nc_algebra.proofs.Orders.{nat_order}
+use Rattle.nc_algebra.proofs.Ranks.{AreLetters, IsLetterOf, over_letters}
+use Rattle.nc_algebra.proofs.Sums.{zero_number}
+use Rattle.nc_algebra.specs.Certificates.{IsLetterBelow, IsSetting, IsTextWord, NamedSetting, letter_at}
+use Rattle.nc_algebra.specs.Elements.{Element, IsGenerator, IsLabelled, IsLess, IsZeroPolynomial, Setting, WordsAre, degree, generator}
+use Rattle.nc_algebra.specs.Finite.{Among, IsOver, bound_degree}
+use Rattle.nc_algebra.specs.Monomials.{Monomial, unit_monomial}
+use Rattle.nc_algebra.specs.Polynomials.{IsNormal, Polynomial}
+use Rattle.nc_algebra.specs.Primes.{IsField}
+use Rattle.nc_algebra.specs.Problems.{Bound, IsInBound, Problem}
+use Rattle.nc_algebra.specs.Words.{Letter, Word}
+use Rattle.nc_plain.proofs.Runs.{setting_field}
+use Rattle.nc_plain.specs.Ends.{IsHandled}
+use Rattle.nc_plain.specs.Nexts.{IsNextOf}
+use Rattle.nc_plain.specs.Usable.{IsUsable, IsUsableSignature}
+use Rattle.nc_theory.proofs.Completeness.{invariant}
+use Rattle.nc_theory.proofs.Counting.{counts}
+use Rattle.nc_theory.proofs.Normal.{kept_normal}
+use Rattle.nc_theory.proofs.Properties.{more_are}
+use Rattle.nc_theory.proofs.Rebuilding.{rebuilt}
+use Rattle.nc_theory.proofs.Steps.{candidate_over, run_over}
+use Rattle.nc_theory.specs.Ambiguities.{Ambiguity}
+use Rattle.nc_theory.specs.Divisors.{Multiple}
+use Rattle.nc_theory.specs.Letters.{AreOver}
+use Rattle.nc_theory.specs.Rebuilding.{Rebuilds}
+use Rattle.nc_theory.specs.Runs.{End, IsEnd, IsNext, SequentialRun}
+use Rattle.nc_theory.specs.States.{Entry, State}
+use Rattle.std.proofs.Common.{Contains, List, None, Option, Some, [], add-one, ap, arith, get_or, inl, inr, length, subst, suc, sym, zero, ℕ, ◌+◌, ◌<◌, ◌∷◌, ◌≡◌, ◌≤◌, ◌⊎◌}
+use Rattle.std.proofs.lemmas.List.Elements.{Contains-append_left, recursion_from_All}
+use Rattle.std.proofs.lemmas.List.{get_or_default, get_or_past}
+use Rattle.std.specs.List.{All, AllByRecursion}
+
+-- ---- the letters of a program's words
+
+-- the first n letters, each of weight 1
+letters_to : ℕ → List Letter
+letters_to zero = []
+letters_to (suc n) = letter_at n ∷ letters_to n
+
+letter_among : (n : ℕ) (x : Letter) → x.index < n → x.extra ≡ 0 → Among x (letters_to n)
+unfolding letters_to
+letter_among zero x h e = absurd (omega (arith, h))
+letter_among (suc n) x h e = go (nat_order x.index n) (λ l. letter_among n x l e)
+  where
+    go : (x.index < n) ⊎ ((x.index ≡ n) ⊎ (n < x.index)) → (x.index < n → Among x (letters_to n)) → (x ≡ letter_at n) ⊎ Among x (letters_to n)
+    go (inl l) below = inr (below l)
+    go (inr (inl i)) below = inl (λ k. record { index = i k; extra = e k })
+    go (inr (inr l)) below = absurd (omega (arith, h, l))
+
+letter_of : (n : ℕ) (x : Letter) → n ≤ 64 → Among x (letters_to n) → IsLetterOf 64 100 x
+unfolding letters_to
+letter_of zero x h a = absurd a
+letter_of (suc n) x h (inl e) = (let i : x.index ≡ n = ap (λ y. y.index) e in omega (arith, h, i), let i : x.extra ≡ 0 = ap (λ y. y.extra) e in omega (arith, i))
+letter_of (suc n) x h (inr a) = letter_of n x (omega (arith, h)) a
+
+text_over : (n : ℕ) (w : Word) → n ≤ 64 → AllByRecursion (IsLetterBelow n) w → IsOver (letters_to 64) w
+text_over n [] h a = tt
+text_over n (x ∷ w) h a = (among_contains x (letters_to 64) (letter_among 64 x (omega (arith, h, a.0.0)) a.0.1), text_over n w h a.1)
+
+words_over : (s : Setting) (n : ℕ) (f : Polynomial) → n ≤ 64 → AllByRecursion (λ t. IsTextWord n t.key) f → WordsAre s (IsOver (letters_to 64)) f
+words_over s n [] h a = λ w m. absurd (m (zero_number s.prime))
+words_over s n (t ∷ f) h a = more_are s (IsOver (letters_to 64)) t.coefficient t.key f (text_over n t.key h (recursion_from_All (IsLetterBelow n) t.key a.0.letters)) (words_over s n f h a.1)
+
+generator_over : (s : NamedSetting) → IsSetting s → (i : ℕ) → WordsAre s.setting (IsOver (letters_to 64)) (generator s.setting i)
+unfolding generator
+generator_over s setting zero = λ w m. absurd (m (zero_number s.setting.prime))
+generator_over s setting (suc i) = go (nat_order i (length s.setting.generators))
+  where
+    listed : i < length s.setting.generators → WordsAre s.setting (IsOver (letters_to 64)) (get_or s.setting.generators i [])
+    listed l = words_over s.setting (length s.names) (get_or s.setting.generators i []) setting.few (recursion_from_All (λ t. IsTextWord (length s.names) t.key) (get_or s.setting.generators i []) (setting.each i [] l).polynomial.words)
+
+    past : length s.setting.generators ≤ i → WordsAre s.setting (IsOver (letters_to 64)) (get_or s.setting.generators i [])
+    past l = subst (WordsAre s.setting (IsOver (letters_to 64))) (sym (get_or_past s.setting.generators i [] l)) (λ w m. absurd (m (zero_number s.setting.prime)))
+
+    go : (i < length s.setting.generators) ⊎ ((i ≡ length s.setting.generators) ⊎ (length s.setting.generators < i)) → WordsAre s.setting (IsOver (letters_to 64)) (get_or s.setting.generators i [])
+    go (inl l) = listed l
+    go (inr (inl e)) = past (omega (arith, e))
+    go (inr (inr l)) = past (omega (arith, l))
+
+-- ---- a run
+
+-- within the bound the degree is no greater than that of the bound
+bounded : (s : Setting) (b : Bound) (σ : Monomial) → IsInBound s b σ → degree s σ ≤ bound_degree s b
+bounded s (Bound.to_degree d) σ h = h
+bounded s (Bound.under β) σ h = degrees s σ β (inr h)
+
+module _ (s : NamedSetting) (setting : IsSetting s) (P : Problem) (same : P.setting ≡ s.setting) (limit : bound_degree P.setting P.bound ≤ 100000) {n : ℕ} {state : State} {last : Option Monomial} (run : SequentialRun P n state last) where
+  field : IsField P.setting.prime
+  field = subst (λ (t : Setting). IsField t.prime) (sym same) (setting_field s setting)
+
+  inputs : (i : ℕ) → WordsAre P.setting (IsOver (letters_to 64)) (generator P.setting i)
+  inputs i = subst (λ (t : Setting). WordsAre t (IsOver (letters_to 64)) (generator t i)) (sym same) (generator_over s setting i)
+
+  over : AreOver P.setting (letters_to 64) state.entries
+  over = run_over P field (letters_to 64) inputs run
+
+  alive : (e : Entry) → Contains state.entries e → ¬ IsZeroPolynomial P.setting e.polynomial
+  alive = (invariant P field run).sound.nonzero
+
+  letters : (w : Word) → IsOver (letters_to 64) w → AreLetters 64 100 w
+  letters w o = over_letters 64 100 (letters_to 64) (λ x k. letter_of 64 x (omega arith) (contains_among x (letters_to 64) k)) w o
+
+  entry_normal : (e : Entry) → Contains state.entries e → IsNormal P.setting.prime e.polynomial
+  entry_normal e k = go ((rebuilt P field run).entries e k)
+    where
+      go : Rebuilds P.setting state.entries e.signature e.trace e.polynomial → IsNormal P.setting.prime e.polynomial
+      go r = kept_normal P.setting field r.first (λ d c. alive d (subst (λ (es : List Entry). Contains es d) (sym r.splits) (Contains-append_left r.first r.rest d c))) (λ σ. IsLess P.setting σ e.signature) r.reduces
+
+  entry_usable : (e : Entry) → Contains state.entries e → IsUsable P.setting e
+  entry_usable e k = record {
+    normal = entry_normal e k;
+    some = λ i. alive e k (subst (IsZeroPolynomial P.setting) (sym i) (λ w. zero_number P.setting.prime));
+    letters = λ w m. letters w (over.words e k w m);
+    light = (let l : (α : Element) × IsLabelled P.setting e.signature e.polynomial α = (invariant P field run).sound.entries e k in labelled_limited P.setting e.signature e.polynomial l.0 l.1);
+  }
+
+  listed : (k : ℕ) (e : Entry) → k < length state.entries → Contains state.entries (get_or state.entries k e)
+  listed k e l = (k, l, get_or_default state.entries k (get_or state.entries k e) e l)
+
+  pub run_usable : All (IsUsable P.setting) state.entries
+  run_usable k e l = entry_usable (get_or state.entries k e) (listed k e l)
+
+  pub run_short : All (λ e. degree P.setting e.signature ≤ 100000) state.entries
+  run_short k e l = omega (arith, limit, bounded P.setting P.bound (get_or state.entries k e).signature ((invariant P field run).within (get_or state.entries k e) (listed k e l)).1)
+
+  pub run_counted : state.covered + state.settled ≤ n
+  run_counted = omega (arith, counts P run)
+
+  -- what the search for the next signature found
+  module _ (before : Option Monomial) (is_last : before ≡ last) (found : Option Monomial) (known : IsNextOf P state before found) where
+    answer : IsNextOf P state last found
+    answer = subst (λ l. IsNextOf P state l found) is_last known
+
+    pub none_ends : n ≤ P.steps → found ≡ None → IsEnd P n state End.complete
+    none_ends h is = IsEnd.is_complete h run (subst (IsNextOf P state last) is answer)
+
+    -- what handling it asks is said of the setting itself
+    module _ (τ : Monomial) (is : found ≡ Some τ) where
+      next : IsNext P state last τ
+      next = subst (IsNextOf P state last) is answer
+
+      pub next_ends : n ≡ P.steps → IsEnd P n state (End.budget τ)
+      next_ends e = IsEnd.is_budget e run τ next
+
+      pub next_entries : All (IsUsable s.setting) state.entries
+      next_entries = subst (λ (t : Setting). All (IsUsable t) state.entries) same run_usable
+
+      pub next_usable : IsUsableSignature s.setting τ
+      next_usable = record {
+        limited = subst (λ (t : Setting). degree t τ ≤ 200000) same (omega (arith, limit, bounded P.setting P.bound τ next.candidate.0.1));
+        left = letters τ.left (candidate_over P field (letters_to 64) inputs state alive over τ next.candidate).0;
+        right = letters τ.right (candidate_over P field (letters_to 64) inputs state alive over τ next.candidate).1;
+      }
+
+      pub next_generator : IsGenerator s.setting τ.generator
+      next_generator = subst (λ (t : Setting). IsGenerator t τ.generator) same next.candidate.0.0
+
+      pub next_source : ((i : ℕ) × (τ ≡ unit_monomial i)) ⊎ ((w : Word) × Multiple s.setting state.entries τ w)
+      next_source = go next.candidate.1
+        where
+          go : ((i : ℕ) × (τ ≡ unit_monomial i)) ⊎ ((w : Word) × Ambiguity P.setting state.entries τ w) → ((i : ℕ) × (τ ≡ unit_monomial i)) ⊎ ((w : Word) × Multiple s.setting state.entries τ w)
+          go (inl u) = inl u
+          go (inr (w, a)) = inr (w, subst (λ (t : Setting). Multiple t state.entries τ w) same (record { divisor = a.high; signed = a.signed }))
+
+      -- its outcome makes one step more
+      pub next_handled : (later : State) → IsHandled s.setting state τ later → SequentialRun P (n + 1) later (Some τ)
+      next_handled later h = go (subst (λ (t : Setting). IsHandled t state τ later) (sym same) h)
+        where
+          go : IsHandled P.setting state τ later → SequentialRun P (n + 1) later (Some τ)
+          go (o, k, e) = subst (λ m. SequentialRun P m later (Some τ)) (sym (add-one n)) (subst (λ t. SequentialRun P (suc n) t (Some τ)) (sym e) (SequentialRun.handled run τ next o k))

@@ -1,0 +1,139 @@
+-- The answer of a run by its bytes.
+use Rattle.nc_algebra.specs.Certificates.{Certificate, IsCertificate, rest_of}
+use Rattle.nc_algebra.specs.Polynomials.{Polynomial}
+use Rattle.nc_io.specs.Adds.{Adds}
+use Rattle.nc_io.specs.Causes.{Rose}
+use Rattle.nc_io.specs.Pieces.{TakesWhole}
+use Rattle.nc_text.proofs.ReadCertificates.{reads_certificates}
+use Rattle.nc_text.specs.Certificates.{reads_certificate}
+use Rattle.nc_tokens.specs.Kinds.{number_of}
+use Rattle.nc_tokens.specs.declared.fault.TextFault.{TextFault}
+use Rattle.nc_top.proofs.Products.{nothing_from_valid, valid_from_nothing}
+use Rattle.nc_top.specs.Checking.{IsValidCertificate}
+use Rattle.nc_top.specs.Laws.{FaultlessRuns, OneAnswer}
+use Rattle.nc_top.specs.Reports.{bad_text_report, invalid_report, report_of, report_of_rest, report_of_text}
+use Rattle.nc_top.specs.Run.{IsAnswer, IsReported, IsText}
+use Rattle.nc_top.specs.Statuses.{status_of, status_of_rest, status_of_text}
+use Rattle.nc_top.specs.declared.status.Status.{Status}
+use Rattle.nc_top.specs.declared.status.Status.TheVariants.{BadText, Done, Invalid, OutOfMemory, ReadFault, TooLarge, Usage, WriteFault}
+use Rattle.std.proofs.Common.{Bool, Err, List, None, Ok, Some, [], ap, ap₂, append-nil, arith, codes, false, if◌then◌else◌, inl, inr, length, length-append, nat_lt, refl, subst, sym, true, ℕ, ◌+◌, ◌++◌, ◌∙◌, ◌∷◌, ◌<◌, ◌≡◌, ◌≤◌, ◌⊎◌}
+use Rattle.std.proofs.lemmas.Bool.{cases_lt, le-ltb, lt-ltb}
+use Rattle.std.specs.declared.option.Option.{Option}
+use Rattle.std.specs.declared.result.Result.{Result}
+
+-- status and report by functions are these two
+abbrev Told : List ℕ → Status → List ℕ → Type 0
+Told bytes status report = (status ≡ status_of bytes) × (report ≡ report_of bytes)
+
+-- ---- few bytes, or too many
+
+few_told : (bytes : List ℕ) (r : Result Certificate TextFault) (status : Status) (report : List ℕ) → length bytes ≤ 16777216 → reads_certificate bytes ≡ r → status ≡ status_of_text r → report ≡ report_of_text r → Told bytes status report
+few_told bytes r status report small read told written =
+    let few : nat_lt 16777216 (length bytes) ≡ false = le-ltb 16777216 (length bytes) small in (
+      told ∙ (ap status_of_text (sym read) ∙ ap (λ (b : Bool). if b then TooLarge else status_of_text (reads_certificate bytes)) (sym few)),
+      written ∙ (ap report_of_text (sym read) ∙ ap (λ (b : Bool). if b then codes "too large\n" else report_of_text (reads_certificate bytes)) (sym few)),
+    )
+
+many_told : (bytes : List ℕ) (status : Status) (report : List ℕ) → 16777216 < length bytes → status ≡ TooLarge → report ≡ codes "too large\n" → Told bytes status report
+many_told bytes status report large told written =
+    let many : nat_lt 16777216 (length bytes) ≡ true = lt-ltb 16777216 (length bytes) large in (
+      told ∙ ap (λ (b : Bool). if b then TooLarge else status_of_text (reads_certificate bytes)) (sym many),
+      written ∙ ap (λ (b : Bool). if b then codes "too large\n" else report_of_text (reads_certificate bytes)) (sym many),
+    )
+
+-- ---- valid, or not
+
+done_told : (bytes : List ℕ) (report : List ℕ) → IsAnswer bytes Done report → Told bytes Done report
+done_told bytes report h =
+    let c : Certificate = h.certificate in
+    let nothing : rest_of c.setting.setting c.claim c.terms ≡ [] = nothing_from_valid c (rest_of c.setting.setting c.claim c.terms) (reads_certificates bytes c h.text.read) refl h.valid in
+    few_told bytes (Ok c) Done report h.text.small h.text.read (ap status_of_rest (sym nothing)) (h.written ∙ ap (report_of_rest c.setting.names) (sym nothing))
+
+something : (c : Certificate) (f : Polynomial) (report : List ℕ) → ¬ (f ≡ []) → report ≡ invalid_report c.setting.names f → (Invalid ≡ status_of_rest f) × (report ≡ report_of_rest c.setting.names f)
+something c [] report h e = absurd (h refl)
+something c (t ∷ f) report h e = (refl, e)
+
+invalid_told : (bytes : List ℕ) (report : List ℕ) → IsAnswer bytes Invalid report → Told bytes Invalid report
+invalid_told bytes report h =
+    let c : Certificate = h.certificate in
+    let f : Polynomial = rest_of c.setting.setting c.claim c.terms in
+    let some = something c f report (λ e. h.invalid (valid_from_nothing c f (reads_certificates bytes c h.text.read) refl e)) h.written in
+    few_told bytes (Ok c) Invalid report h.text.small h.text.read some.0 some.1
+
+bad_text_told : (bytes : List ℕ) (line kind : ℕ) (report : List ℕ) → IsAnswer bytes (BadText line kind) report → Told bytes (BadText line kind) report
+bad_text_told bytes line kind report h = few_told bytes (Err h.fault) (BadText line kind) report h.small h.read (ap₂ BadText h.at_line h.of_kind) (h.written ∙ ap₂ bad_text_report h.at_line h.of_kind)
+
+told_by_functions : (bytes : List ℕ) (status : Status) (report : List ℕ) → IsAnswer bytes status report → Told bytes status report
+told_by_functions bytes Done report h = done_told bytes report h
+told_by_functions bytes Invalid report h = invalid_told bytes report h
+told_by_functions bytes (BadText line kind) report h = bad_text_told bytes line kind report h
+told_by_functions bytes TooLarge report h = many_told bytes TooLarge report h.large refl h.written
+told_by_functions bytes Usage report h = absurd h
+told_by_functions bytes ReadFault report h = absurd h
+told_by_functions bytes WriteFault report h = absurd h
+told_by_functions bytes OutOfMemory report h = absurd h
+
+-- ---- each input has an answer
+
+by_rest : (bytes : List ℕ) (c : Certificate) (f : Polynomial) → IsText bytes c → f ≡ rest_of c.setting.setting c.claim c.terms → IsAnswer bytes (status_of_rest f) (report_of_rest c.setting.names f)
+by_rest bytes c [] text is = record { certificate = c; text = text; valid = valid_from_nothing c [] (reads_certificates bytes c text.read) is refl; written = refl }
+by_rest bytes c (t ∷ f) text is = record { certificate = c; text = text; invalid = λ valid. none t f (nothing_from_valid c (t ∷ f) (reads_certificates bytes c text.read) is valid); written = ap (invalid_report c.setting.names) is }
+  where
+    none : {A : Type 0} (t : A) (f : List A) → t ∷ f ≡ [] → ⊥
+    none t f e = absurd cc
+
+by_text : (bytes : List ℕ) (r : Result Certificate TextFault) → length bytes ≤ 16777216 → reads_certificate bytes ≡ r → IsAnswer bytes (status_of_text r) (report_of_text r)
+by_text bytes (Ok c) small read = by_rest bytes c (rest_of c.setting.setting c.claim c.terms) record { small = small; read = read } refl
+by_text bytes (Err fault) small read = record { fault = fault; small = small; read = read; at_line = refl; of_kind = refl; written = refl }
+
+by_size : (bytes : List ℕ) → (16777216 < length bytes) ⊎ (length bytes ≤ 16777216) → IsAnswer bytes (status_of bytes) (report_of bytes)
+by_size bytes (inr small) =
+    let told = few_told bytes (reads_certificate bytes) (status_of_text (reads_certificate bytes)) (report_of_text (reads_certificate bytes)) small refl refl refl in
+    subst (IsAnswer bytes (status_of bytes)) told.1 (subst (λ (s : Status). IsAnswer bytes s (report_of_text (reads_certificate bytes))) told.0 (by_text bytes (reads_certificate bytes) small refl))
+by_size bytes (inl large) =
+    let told = many_told bytes TooLarge (codes "too large\n") large refl refl in
+    subst (IsAnswer bytes (status_of bytes)) told.1 (subst (λ (s : Status). IsAnswer bytes s (codes "too large\n")) told.0 record { large = large; written = refl })
+
+pub one_answer : OneAnswer
+one_answer bytes status report = (
+  told_by_functions bytes status report,
+  λ told. subst (IsAnswer bytes status) (sym told.1) (subst (λ (s : Status). IsAnswer bytes s (report_of bytes)) (sym told.0) (by_size bytes (cases_lt 16777216 (length bytes)))),
+)
+
+-- ---- runs in which nothing fails
+
+-- the first 16,777,217 bytes have the answer of all bytes
+same_answer : (bytes taken : List ℕ) (left : Option (List ℕ)) → TakesWhole (Some bytes) left taken 16777217 → (status_of taken ≡ status_of bytes) × (report_of taken ≡ report_of bytes)
+same_answer bytes taken None h = absurd h.taken
+same_answer bytes taken (Some ys) h = by_end (cases_lt (length taken) 16777217)
+  where
+    split : bytes ≡ taken ++ ys
+    split = h.taken
+
+    by_end : (length taken < 16777217) ⊎ (16777217 ≤ length taken) → (status_of taken ≡ status_of bytes) × (report_of taken ≡ report_of bytes)
+    by_end (inl short) =
+        let whole : bytes ≡ taken = split ∙ (ap (λ (l : List ℕ). taken ++ l) (h.whole short) ∙ append-nil taken) in
+        (ap status_of (sym whole), ap report_of (sym whole))
+    by_end (inr long) =
+        let all : length bytes ≡ length taken + length ys = ap length split ∙ length-append taken ys in
+        let one = many_told taken TooLarge (codes "too large\n") (omega (arith, long)) refl refl in
+        let other = many_told bytes TooLarge (codes "too large\n") (omega (arith, all, long)) refl refl in
+        (sym one.0 ∙ other.0, sym one.1 ∙ other.1)
+
+not_risen : (n : ℕ) → Rose n n → ⊥
+not_risen n rose = absurd (omega (arith, rose))
+
+pub faultless_runs : FaultlessRuns
+faultless_runs bytes left_after written_before written_after source sink result (inl (told, rose, nothing)) = absurd (not_risen source rose)
+faultless_runs bytes left_after written_before written_after source sink result (inr (inl memory)) = inl memory
+faultless_runs bytes left_after written_before written_after source sink result (inr (inr h)) = by_report h.reported
+  where
+    told : Told h.bytes h.status h.report
+    told = told_by_functions h.bytes h.status h.report h.answer
+
+    same : (status_of h.bytes ≡ status_of bytes) × (report_of h.bytes ≡ report_of bytes)
+    same = same_answer bytes h.bytes left_after h.taken
+
+    by_report : IsReported written_before written_after sink sink h.report h.status result → ((result ≡ OutOfMemory) × Adds written_before written_after []) ⊎ ((result ≡ status_of bytes) × Adds written_before written_after (report_of bytes))
+    by_report (inl (is, adds)) = inr (is ∙ (told.0 ∙ same.0), subst (Adds written_before written_after) (told.1 ∙ same.1) adds)
+    by_report (inr (is, rose, front)) = absurd (not_risen sink rose)
