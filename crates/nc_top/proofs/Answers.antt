@@ -8,8 +8,8 @@ use Rattle.nc_text.proofs.ReadCertificates.{reads_certificates}
 use Rattle.nc_text.specs.Certificates.{reads_certificate}
 use Rattle.nc_tokens.specs.Kinds.{number_of}
 use Rattle.nc_tokens.specs.declared.fault.TextFault.{TextFault}
-use Rattle.nc_top.proofs.Products.{nothing_from_valid, valid_from_nothing}
-use Rattle.nc_top.specs.Checking.{IsValidCertificate}
+use Rattle.nc_cert.proofs.Rests.{nothing_from_valid, valid_from_nothing}
+use Rattle.nc_cert.specs.Checking.{IsValidCertificate}
 use Rattle.nc_top.specs.Laws.{FaultlessRuns, OneAnswer}
 use Rattle.nc_top.specs.Reports.{bad_text_report, invalid_report, report_of, report_of_rest, report_of_text}
 use Rattle.nc_top.specs.Run.{IsAnswer, IsReported, IsText}
@@ -46,18 +46,18 @@ many_told bytes status report large told written =
 done_told : (bytes : List ℕ) (report : List ℕ) → IsAnswer bytes Done report → Told bytes Done report
 done_told bytes report h =
     let c : Certificate = h.certificate in
-    let nothing : rest_of c.setting.setting c.claim c.terms ≡ [] = nothing_from_valid c (rest_of c.setting.setting c.claim c.terms) (reads_certificates bytes c h.text.read) refl h.valid in
-    few_told bytes (Ok c) Done report h.text.small h.text.read (ap status_of_rest (sym nothing)) (h.written ∙ ap (report_of_rest c.setting.names) (sym nothing))
+    let nothing : rest_of c.setting.setting c.claim c.lines ≡ [] = nothing_from_valid c (rest_of c.setting.setting c.claim c.lines) (reads_certificates bytes c h.text.read).certificate refl h.valid in
+    few_told bytes (Ok c) Done report h.text.small h.text.read (ap status_of_rest (sym nothing)) (h.written ∙ ap (report_of_rest c.setting.alphabet.names) (sym nothing))
 
-something : (c : Certificate) (f : Polynomial) (report : List ℕ) → ¬ (f ≡ []) → report ≡ invalid_report c.setting.names f → (Invalid ≡ status_of_rest f) × (report ≡ report_of_rest c.setting.names f)
+something : (c : Certificate) (f : Polynomial) (report : List ℕ) → ¬ (f ≡ []) → report ≡ invalid_report c.setting.alphabet.names f → (Invalid ≡ status_of_rest f) × (report ≡ report_of_rest c.setting.alphabet.names f)
 something c [] report h e = absurd (h refl)
 something c (t ∷ f) report h e = (refl, e)
 
 invalid_told : (bytes : List ℕ) (report : List ℕ) → IsAnswer bytes Invalid report → Told bytes Invalid report
 invalid_told bytes report h =
     let c : Certificate = h.certificate in
-    let f : Polynomial = rest_of c.setting.setting c.claim c.terms in
-    let some = something c f report (λ e. h.invalid (valid_from_nothing c f (reads_certificates bytes c h.text.read) refl e)) h.written in
+    let f : Polynomial = rest_of c.setting.setting c.claim c.lines in
+    let some = something c f report (λ e. h.invalid (valid_from_nothing c f (reads_certificates bytes c h.text.read).certificate refl e)) h.written in
     few_told bytes (Ok c) Invalid report h.text.small h.text.read some.0 some.1
 
 bad_text_told : (bytes : List ℕ) (line kind : ℕ) (report : List ℕ) → IsAnswer bytes (BadText line kind) report → Told bytes (BadText line kind) report
@@ -75,15 +75,15 @@ told_by_functions bytes OutOfMemory report h = absurd h
 
 -- ---- each input has an answer
 
-by_rest : (bytes : List ℕ) (c : Certificate) (f : Polynomial) → IsText bytes c → f ≡ rest_of c.setting.setting c.claim c.terms → IsAnswer bytes (status_of_rest f) (report_of_rest c.setting.names f)
-by_rest bytes c [] text is = record { certificate = c; text = text; valid = valid_from_nothing c [] (reads_certificates bytes c text.read) is refl; written = refl }
-by_rest bytes c (t ∷ f) text is = record { certificate = c; text = text; invalid = λ valid. none t f (nothing_from_valid c (t ∷ f) (reads_certificates bytes c text.read) is valid); written = ap (invalid_report c.setting.names) is }
+by_rest : (bytes : List ℕ) (c : Certificate) (f : Polynomial) → IsText bytes c → f ≡ rest_of c.setting.setting c.claim c.lines → IsAnswer bytes (status_of_rest f) (report_of_rest c.setting.alphabet.names f)
+by_rest bytes c [] text is = record { certificate = c; text = text; valid = valid_from_nothing c [] (reads_certificates bytes c text.read).certificate is refl; written = refl }
+by_rest bytes c (t ∷ f) text is = record { certificate = c; text = text; invalid = λ valid. none t f (nothing_from_valid c (t ∷ f) (reads_certificates bytes c text.read).certificate is valid); written = ap (invalid_report c.setting.alphabet.names) is }
   where
     none : {A : Type 0} (t : A) (f : List A) → t ∷ f ≡ [] → ⊥
     none t f e = absurd cc
 
 by_text : (bytes : List ℕ) (r : Result Certificate TextFault) → length bytes ≤ 16777216 → reads_certificate bytes ≡ r → IsAnswer bytes (status_of_text r) (report_of_text r)
-by_text bytes (Ok c) small read = by_rest bytes c (rest_of c.setting.setting c.claim c.terms) record { small = small; read = read } refl
+by_text bytes (Ok c) small read = by_rest bytes c (rest_of c.setting.setting c.claim c.lines) record { small = small; read = read } refl
 by_text bytes (Err fault) small read = record { fault = fault; small = small; read = read; at_line = refl; of_kind = refl; written = refl }
 
 by_size : (bytes : List ℕ) → (16777216 < length bytes) ⊎ (length bytes ≤ 16777216) → IsAnswer bytes (status_of bytes) (report_of bytes)

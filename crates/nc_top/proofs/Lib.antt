@@ -1,3 +1,1 @@
-pub mod Products
-pub mod Letters
 pub mod Answers

@@ -1,4 +1,3 @@
-pub mod Checking
 pub mod Statuses
 pub mod Reports
 pub mod Run

@@ -25,7 +25,7 @@ report_of_rest names [] = codes "valid\n"
 report_of_rest names (t ∷ f) = invalid_report names (t ∷ f)
 
 abbrev pub report_of_text : Result Certificate TextFault → List ℕ
-report_of_text (Ok c) = report_of_rest c.setting.names (rest_of c.setting.setting c.claim c.terms)
+report_of_text (Ok c) = report_of_rest c.setting.alphabet.names (rest_of c.setting.setting c.claim c.lines)
 report_of_text (Err fault) = bad_text_report fault.line (number_of fault.kind)
 
 abbrev pub report_of : List ℕ → List ℕ

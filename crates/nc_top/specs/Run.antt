@@ -14,7 +14,7 @@ use Rattle.nc_options.specs.declared.options.Options.TheVariants.{Check}
 use Rattle.nc_text.specs.Certificates.{reads_certificate}
 use Rattle.nc_tokens.specs.Kinds.{number_of}
 use Rattle.nc_tokens.specs.declared.fault.TextFault.{TextFault}
-use Rattle.nc_top.specs.Checking.{IsValidCertificate}
+use Rattle.nc_cert.specs.Checking.{IsValidCertificate}
 use Rattle.nc_top.specs.Reports.{bad_text_report, invalid_report}
 use Rattle.nc_top.specs.declared.status.Status.{Status}
 use Rattle.nc_top.specs.declared.status.Status.TheVariants.{BadText, Done, Invalid, OutOfMemory, ReadFault, TooLarge, Usage, WriteFault}
@@ -44,7 +44,7 @@ pub record IsInvalid (bytes report : List ℕ) : Type 0 where
   pub certificate : Certificate
   pub text : IsText bytes certificate
   pub invalid : ¬ IsValidCertificate certificate
-  pub written : report ≡ invalid_report certificate.setting.names (rest_of certificate.setting.setting certificate.claim certificate.terms)
+  pub written : report ≡ invalid_report certificate.setting.alphabet.names (rest_of certificate.setting.setting certificate.claim certificate.lines)
 
 -- the bytes are no text of a certificate, and are not too many: the first fault
 pub record IsBadText (bytes : List ℕ) (line kind : ℕ) (report : List ℕ) : Type 0 where

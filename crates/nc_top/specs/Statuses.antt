@@ -28,7 +28,7 @@ status_of_rest (t ∷ f) = Invalid
 
 -- what is left of the claim of a certificate, or the fault of a text that is none
 abbrev pub status_of_text : Result Certificate TextFault → Status
-status_of_text (Ok c) = status_of_rest (rest_of c.setting.setting c.claim c.terms)
+status_of_text (Ok c) = status_of_rest (rest_of c.setting.setting c.claim c.lines)
 status_of_text (Err fault) = BadText fault.line (number_of fault.kind)
 
 -- the size is told before the text is looked at

@@ -3,12 +3,10 @@
 
 ghost use Rattle.nc_top.specs.Laws.{FaultlessRuns, OneAnswer};
 
-mod certificates;
 mod run;
 mod status;
 
-pub use certificates::{Verdict, check};
-pub use run::{MAX_BYTES, run_alone};
+pub use run::run_alone;
 pub use status::{Status, code_of};
 
 /// The bytes that are read determine the status and the report.

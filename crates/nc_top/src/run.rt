@@ -7,18 +7,15 @@ ghost use Rattle.nc_top.specs.Reports.{bad_text_report, invalid_report};
 ghost use Rattle.nc_top.specs.Run.{IsAnswer, IsCheck, IsRefused, IsReported, Ran};
 ghost use Rattle.std.specs.Prelude.{Err, IfOk, Ok, codes, length, map, string_bytes, ◌≡◌, ◌≤◌};
 
-use crate::certificates::{Verdict, check};
 use crate::status::Status;
 use itoa::Buffer;
+use nc_cert::{Verdict, check};
 use nc_io::{Fault, Sink, Source, put_whole, take_whole};
 use nc_module::Certificate;
 use nc_options::{Options, OptionsError, read_options};
 use nc_poly::Poly;
-use nc_text::{ReadFault, TextFault, read_certificate, write_poly};
+use nc_text::{MAX_BYTES, ReadFault, TextFault, read_certificate, write_poly};
 use std::alloc::{AllocError, Global};
-
-/// The most bytes of a text.
-pub const MAX_BYTES: usize = 16_777_216;
 
 /// A status, and the report that goes with it.
 type Answer = (Status, Vec<u8>);
@@ -29,11 +26,11 @@ fn invalid_report(
     certificate: &Certificate,
     rest: &Poly,
 ) -> Result<Vec<u8>, AllocError>
-    requires { rest.now ≡ rest_of certificate.now.setting.setting certificate.now.claim certificate.now.terms }
-    ensures { IfOk result (λ report. report.items ≡ invalid_report certificate.now.setting.names rest.now) }
+    requires { rest.now ≡ rest_of certificate.now.setting.setting certificate.now.claim certificate.now.lines }
+    ensures { IfOk result (λ report. report.items ≡ invalid_report certificate.now.setting.alphabet.names rest.now) }
 {
     let mut report = Vec::from_slice(alloc, b"invalid\nrest ")?;
-    write_poly(&mut report, certificate.setting.names(), rest)?;
+    write_poly(&mut report, certificate.setting.alphabet.names(), rest)?;
     report.extend_from_slice(b"\n")?;
     Ok(report)
 }
