@@ -1,15 +1,13 @@
 -- The answer of a run by its bytes.
-use Rattle.nc_algebra.specs.Certificates.{Certificate, IsCertificate, rest_of}
+use Rattle.nc_algebra.specs.Certificates.{Certificate, rest_of}
 use Rattle.nc_algebra.specs.Polynomials.{Polynomial}
 use Rattle.nc_io.specs.Adds.{Adds}
 use Rattle.nc_io.specs.Causes.{Rose}
 use Rattle.nc_io.specs.Pieces.{TakesWhole}
 use Rattle.nc_text.proofs.ReadCertificates.{reads_certificates}
 use Rattle.nc_text.specs.Certificates.{reads_certificate}
-use Rattle.nc_tokens.specs.Kinds.{number_of}
 use Rattle.nc_tokens.specs.declared.fault.TextFault.{TextFault}
 use Rattle.nc_cert.proofs.Rests.{nothing_from_valid, valid_from_nothing}
-use Rattle.nc_cert.specs.Checking.{IsValidCertificate}
 use Rattle.nc_top.specs.Laws.{FaultlessRuns, OneAnswer}
 use Rattle.nc_top.specs.Reports.{bad_text_report, invalid_report, report_of, report_of_rest, report_of_text}
 use Rattle.nc_top.specs.Run.{IsAnswer, IsReported, IsText}

@@ -16,7 +16,6 @@ pub fn one_answer()
 {}
 
 /// A run in which nothing fails answers for all bytes of its source.
-#[tactic(auto, using(crate::proofs::Answers::faultless_runs))]
 pub fn faultless_runs()
     ensures { FaultlessRuns }
 {}
