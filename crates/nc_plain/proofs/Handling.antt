@@ -1,10 +1,11 @@
 -- What becomes of a signature, from what the steps of its handling found.
-use Rattle.nc_algebra.proofs.Certificates.{text_word_light}
+use Rattle.nc_algebra.proofs.Alphabets.{letter_light, text_word_light}
 use Rattle.nc_algebra.proofs.NormalForms.{normal_form_same}
-use Rattle.nc_algebra.proofs.Ranks.{AreLetters}
+use Rattle.nc_algebra.specs.Finite.{AreLetters}
 use Rattle.nc_algebra.proofs.Sums.{coefficient-minus, same_from_zero, zero_mul_left, zero_number}
 use Rattle.nc_algebra.proofs.Words.{weight-append, word_laws}
-use Rattle.nc_algebra.specs.Certificates.{IsLetterBelow, IsSetting, IsTextGenerator, IsTextWord, NamedSetting}
+use Rattle.nc_algebra.specs.Alphabets.{Alphabet, IsAlphabet, IsLetterIn, IsTextGenerator, IsTextWord}
+use Rattle.nc_algebra.specs.Settings.{IsSetting, NamedSetting}
 use Rattle.nc_algebra.specs.Elements.{IsGenerator, IsLess, Setting, generator}
 use Rattle.nc_algebra.specs.Monomials.{Monomial, times, unit_monomial}
 use Rattle.nc_algebra.specs.Polynomials.{IsNormal, Polynomial, coefficient, leading, normal_form, polynomial_times}
@@ -50,16 +51,17 @@ shifted_same p c g m one is e = record { at = λ x. ap (λ h. coefficient h x % 
 
 -- ---- words of generators
 
-letters_below : (n : ℕ) (w : Word) → n ≤ 64 → AllByRecursion (IsLetterBelow n) w → AreLetters 64 100 w
-letters_below n [] h a = tt
-letters_below n (x ∷ w) h a = ((omega (arith, h, a.0.0), omega (arith, a.0.1)), letters_below n w h a.1)
+module _ (a : Alphabet) (is : IsAlphabet a) where
+  letters_small : (w : Word) → AllByRecursion (IsLetterIn a) w → AreLetters 64 100 w
+  letters_small [] l = tt
+  letters_small (x ∷ w) l = ((omega (arith, is.few, l.0.0), letter_light a is x l.0), letters_small w l.1)
 
-text_small : (n : ℕ) (w : Word) → n ≤ 64 → IsTextWord n w → IsSmall w
-text_small n w h t = (omega (arith, text_word_light n w t), letters_below n w h (recursion_from_All (IsLetterBelow n) w t.letters))
+  text_small : (w : Word) → IsTextWord a w → IsSmall w
+  text_small w t = (omega (arith, text_word_light a is w t), letters_small w (recursion_from_All (IsLetterIn a) w t.letters))
 
-pub text_words : (s : Setting) (n : ℕ) (f : Polynomial) → n ≤ 64 → AllByRecursion (λ t. IsTextWord n t.key) f → HasSmallWords s f
-text_words s n [] h a = λ w m. absurd (m (zero_number s.prime))
-text_words s n (t ∷ f) h a = more_are s IsSmall t.coefficient t.key f (text_small n t.key h a.0) (text_words s n f h a.1)
+  pub text_words : (s : Setting) (f : Polynomial) → AllByRecursion (λ t. IsTextWord a t.key) f → HasSmallWords s f
+  text_words s [] l = λ w m. absurd (m (zero_number s.prime))
+  text_words s (t ∷ f) l = more_are s IsSmall t.coefficient t.key f (text_small t.key l.0) (text_words s f l.1)
 
 generator_at : (s : Setting) (i : ℕ) → 1 ≤ i → get_or s.generators (i - 1) [] ≡ generator s i
 unfolding generator
@@ -70,14 +72,14 @@ module _ (s : NamedSetting) (setting : IsSetting s) (i : ℕ) (valid : IsGenerat
   pub generator_is : f ≡ generator s.setting i
   generator_is = get_or_read s.setting.generators (i - 1) f (omega (arith, valid.0, valid.1)) read [] ∙ generator_at s.setting i valid.0
 
-  text : IsTextGenerator (length s.names) s.setting.prime f
-  text = subst (IsTextGenerator (length s.names) s.setting.prime) (sym read) (setting.each (i - 1) f (omega (arith, valid.0, valid.1)))
+  text : IsTextGenerator s.alphabet s.setting.prime f
+  text = subst (IsTextGenerator s.alphabet s.setting.prime) (sym read) (setting.each (i - 1) f (omega (arith, valid.0, valid.1)))
 
   pub generator_normal : IsNormal s.setting.prime f
   generator_normal = text.polynomial.normal
 
   pub generator_small : HasSmallWords s.setting f
-  generator_small = text_words s.setting (length s.names) f setting.few (recursion_from_All (λ t. IsTextWord (length s.names) t.key) f text.polynomial.words)
+  generator_small = text_words s.alphabet setting.alphabet s.setting f (recursion_from_All (λ t. IsTextWord s.alphabet t.key) f text.polynomial.words)
 
 -- ---- outcomes
 

@@ -2,7 +2,7 @@
 use Rattle.nc_algebra.proofs.NormalForms.{normal_form-normal}
 use Rattle.nc_algebra.proofs.Primes.{field_from_prime}
 use Rattle.nc_algebra.proofs.Sums.{zero_number}
-use Rattle.nc_algebra.specs.Certificates.{IsSetting, NamedSetting}
+use Rattle.nc_algebra.specs.Settings.{IsSetting, NamedSetting}
 use Rattle.nc_algebra.specs.Elements.{IsLess, Setting}
 use Rattle.nc_algebra.specs.Monomials.{Monomial}
 use Rattle.nc_algebra.specs.Polynomials.{IsNormal, Polynomial, coefficient, normal_form}

@@ -2,7 +2,7 @@
 use Rattle.nc_algebra.proofs.Leading.{lead_leads}
 use Rattle.nc_algebra.proofs.NormalForms.{normal_leads}
 use Rattle.nc_algebra.proofs.Orders.{Decided, nat_order}
-use Rattle.nc_algebra.proofs.Ranks.{AreLetters, IsLetterOf}
+use Rattle.nc_algebra.specs.Finite.{AreLetters, IsLetterOf}
 use Rattle.nc_algebra.proofs.Sums.{below_lead}
 use Rattle.nc_algebra.proofs.Words.{length_at_most, less_weighs, weight-append, word_laws}
 use Rattle.nc_algebra.specs.Elements.{IsLeadingWord, IsZeroPolynomial, Setting, WordsAre}

@@ -1,5 +1,5 @@
 -- What tests of the terms of a polynomial say of its words.
-use Rattle.nc_algebra.proofs.Ranks.{AreLetters, IsLetterOf}
+use Rattle.nc_algebra.specs.Finite.{AreLetters, IsLetterOf}
 use Rattle.nc_algebra.proofs.Sums.{zero_number}
 use Rattle.nc_algebra.specs.Elements.{Setting, WordsAre, degree}
 use Rattle.nc_algebra.specs.Polynomials.{AreResidues, IsDescending, Polynomial}

@@ -1,5 +1,5 @@
 -- What a run has: words that are not too long, over letters of limited number and weight, and entries that are not zero.
-use Rattle.nc_algebra.proofs.Ranks.{AreLetters}
+use Rattle.nc_algebra.specs.Finite.{AreLetters}
 use Rattle.nc_algebra.specs.Elements.{Setting, WeighsAtMost, WordsAre, degree}
 use Rattle.nc_algebra.specs.Monomials.{Monomial}
 use Rattle.nc_algebra.specs.Polynomials.{IsNormal, Polynomial}

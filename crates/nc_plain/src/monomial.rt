@@ -33,7 +33,7 @@ impl Model for Monomial {
 /// What the generator with this number weighs: nothing, where there is none.
 fn weight_of(setting: &Setting, i: usize) -> u32
     ensures weight { result ≡ generator_weight setting.now.setting i }
-    ensures few { result ≤ 255 }
+    ensures few { result ≤ 25500 }
 {
     if i == 0 || i > setting.generators().len() {
         return 0;
@@ -100,7 +100,7 @@ impl Monomial {
     /// The words and the generator weigh this together.
     pub fn degree(&self, setting: &Setting) -> u32
         ensures degree { result ≡ degree setting.now.setting self.now }
-        ensures few { result ≤ 40000255 }
+        ensures few { result ≤ 40025500 }
     {
         self.left.weight() + weight_of(setting, self.generator) + self.right.weight()
     }

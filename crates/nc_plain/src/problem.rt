@@ -1,6 +1,6 @@
 //! Problems, and how a run ends.
 
-ghost use Rattle.nc_algebra.specs.Finite.{bound_degree};
+ghost use Rattle.nc_algebra.specs.Problems.{bound_degree};
 ghost use Rattle.nc_algebra.specs.Problems.{IsWithin};
 ghost use Rattle.std.specs.Prelude.{IsTrue, ◌↔◌, ◌≡◌, ◌≤◌};
 

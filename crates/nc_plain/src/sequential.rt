@@ -1,7 +1,7 @@
 //! The sequential run.
 
 ghost use Rattle.nc_algebra.specs.Elements.{IsGenerator};
-ghost use Rattle.nc_algebra.specs.Finite.{bound_degree};
+ghost use Rattle.nc_algebra.specs.Problems.{bound_degree};
 ghost use Rattle.nc_algebra.specs.Monomials.{unit_monomial};
 ghost use Rattle.nc_algebra.specs.Words.{Word as WordValue};
 ghost use Rattle.nc_plain.specs.Ends.{IsHandled};

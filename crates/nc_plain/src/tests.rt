@@ -3,14 +3,12 @@
 mod runs;
 mod steps;
 
-ghost use Rattle.nc_algebra.specs.Certificates.{AreTextWords, IsTextGenerator, IsTextWord};
 ghost use Rattle.nc_algebra.specs.Polynomials.{AreResidues};
-ghost use Rattle.std.specs.Prelude.{All, IfOk, IsTrue, length, ◌≡◌, ◌≤◌};
+ghost use Rattle.std.specs.Prelude.{IfOk, length, ◌≡◌, ◌≤◌};
 
-use crate::usable::are_residues;
 use crate::{Origin, Trace};
 use nc_field::{Prime, Residue};
-use nc_module::{Name, Setting};
+use nc_module::{Alphabet, Name, Setting};
 use nc_poly::{Poly, Term};
 use nc_words::{Letter, Word};
 use std::alloc::Global;
@@ -72,47 +70,19 @@ fn poly(alloc: Global, p: Prime, terms: &[(Residue, &str)]) -> Result<Poly, Fail
     Ok(Poly::of_terms(p, list))
 }
 
-/// Whether the letters are a word of the four letters that may stand in a text.
-fn is_text_word(letters: &[Letter]) -> bool
-    ensures { IsTrue result → IsTextWord 4 letters.now }
-{
-    letters.len() <= 255 && letters.iter().all(|l| l.index() < 4 && l.weight() == 1)
-}
-
-/// Whether the words are such.
-fn are_text_words(f: &Poly) -> bool
-    ensures { IsTrue result → AreTextWords 4 f.now }
-{
-    f.terms().iter().all(|t| is_text_word(t.letters()))
-}
-
-/// Whether it may be a generator.
-fn is_generator(p: Prime, f: &Poly) -> bool
-    ensures { IsTrue result → IsTextGenerator 4 p f.now }
-{
-    let _terms = f.terms();
-    !f.is_zero() && are_residues(p, f) && are_text_words(f)
-}
-
-/// Whether all may be generators.
-fn are_generators(p: Prime, generators: &[Poly]) -> bool
-    ensures { IsTrue result → All (IsTextGenerator 4 p) generators.now }
-{
-    generators.iter().all(|f| is_generator(p, f))
-}
-
-/// The setting with these generators.
+/// The setting with these generators, over letters that weigh 1.
 fn setting(
     rt: &impl Abort,
     alloc: Global,
     p: Prime,
     generators: Vec<Poly>,
 ) -> Result<Setting, Fail> {
-    let _ = p.number();
-    assert!(rt; generators.len() <= 1000);
-    assert!(rt; are_generators(p, generators.as_slice()));
     let names = vec![in alloc; name(b"a")?, name(b"b")?, name(b"x")?, name(b"y")?]?;
-    Ok(Setting::of(p, names, generators))
+    let weights = vec![in alloc; 1, 1, 1, 1]?;
+    assert!(rt; Alphabet::takes(&names, &weights));
+    let alphabet = Alphabet::of(names, weights);
+    assert!(rt; Setting::takes(p, &alphabet, &generators));
+    Ok(Setting::of(p, alphabet, generators))
 }
 
 /// Appends a word.

@@ -1,6 +1,6 @@
 //! Tests of what the calls ask of entries and signatures.
 
-ghost use Rattle.nc_algebra.proofs.Ranks.{IsLetterOf};
+ghost use Rattle.nc_algebra.specs.Finite.{IsLetterOf};
 ghost use Rattle.nc_algebra.specs.Polynomials.{AreResidues};
 ghost use Rattle.nc_algebra.specs.Words.{word_weight};
 ghost use Rattle.nc_plain.specs.Usable.{IsUsable, IsUsableSignature};

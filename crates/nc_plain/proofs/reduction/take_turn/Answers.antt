@@ -14,6 +14,11 @@ returns-in_default c =
           (subst (IsChoice c.args.setting.now.setting c.args.entries.now c.args.below.now c.letters.result.now) none c.in_ok-chosen.ensures) rest;
     }
 
+pub take_off-requires-clause-residue : goal.take_off-requires-clause-residue
+take_off-requires-clause-residue c =
+    let first = c.in_ok-first.ensures in
+    subst (λ p. c.in_ok-first.first.coefficient < p) (sym c.prime-p.ensures.prime) (lead_residue c.args.setting.now.setting c.args.entries.now c.requires.usable c.args.below.now c.args.rest.now c.in_ok-first.first first.0 first.1 c.requires.normal)
+
 pub lead_quotient-coefficient-requires-clause-first :
     goal.lead_quotient-coefficient-requires-clause-first
 lead_quotient-coefficient-requires-clause-first c =

@@ -1,4 +1,4 @@
-use Rattle.nc_algebra.proofs.Ranks.{IsLetterOf}
+use Rattle.nc_algebra.specs.Finite.{IsLetterOf}
 use Rattle.nc_algebra.specs.Elements.{degree}
 use Rattle.nc_algebra.specs.Polynomials.{AreResidues, IsDescending, Polynomial}
 use Rattle.nc_algebra.specs.Words.{word_weight}

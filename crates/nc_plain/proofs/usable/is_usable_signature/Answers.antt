@@ -1,4 +1,4 @@
-use Rattle.nc_algebra.proofs.Ranks.{IsLetterOf}
+use Rattle.nc_algebra.specs.Finite.{IsLetterOf}
 use Rattle.nc_algebra.specs.Words.{Word}
 use Rattle.nc_plain.proofs.Tested.{are_letters}
 use Rattle.std.proofs.Common.{arith, subst, ◌∙◌}
