@@ -20,6 +20,8 @@ pub mod RoundTripPolynomials
 pub mod RoundTripRows
 pub mod PrintedLines
 pub mod PlainText
+pub mod RoundTripSettings
+pub mod RoundTripLines
 pub mod RoundTripCertificates
 pub mod RoundTripParts
 pub mod Examples
