@@ -27,7 +27,7 @@ are_lines p a = record { more = one_more p a; none = no_more p a }
 abbrev setting_of : ℕ → Alphabet → List Polynomial → NamedSetting
 setting_of p a generators = record { alphabet = a; setting = record { prime = p; generators = generators } }
 
-setting_is : (p : ℕ) (a : Alphabet) (generators : List Polynomial) (w one two three : Written) → field_line w ≡ Ok (p, one) → alphabet_lines one ≡ Ok (a, two) → generator_lines p a 1000 two ≡ Ok (generators, three)
+pub setting_is : (p : ℕ) (a : Alphabet) (generators : List Polynomial) (w one two three : Written) → field_line w ≡ Ok (p, one) → alphabet_lines one ≡ Ok (a, two) → generator_lines p a 1000 two ≡ Ok (generators, three)
     → setting_lines w ≡ Ok (setting_of p a generators, three)
 unfolding setting_lines
 setting_is p a generators w one two three e f g = rw e (rw f (rw g refl))
@@ -37,7 +37,7 @@ pub is_setting : (p : ℕ) (a : Alphabet) (generators : List Polynomial) (w one 
 is_setting p a generators w one two three e f g =
     subst (λ (r : Result (NamedSetting × Written) TextFault). IfOk r (λ x. IsSetting x.0)) (setting_is p a generators w one two three e f g) (setting_lines_read w)
 
-alphabet_is : (names : List (List ℕ)) (weights : List ℕ) (w one two : Written) → letters_line w ≡ Ok (names, one) → weights_line (length names) one ≡ Ok (weights, two) → alphabet_lines w ≡ Ok (record { names = names; weights = weights }, two)
+pub alphabet_is : (names : List (List ℕ)) (weights : List ℕ) (w one two : Written) → letters_line w ≡ Ok (names, one) → weights_line (length names) one ≡ Ok (weights, two) → alphabet_lines w ≡ Ok (record { names = names; weights = weights }, two)
 unfolding alphabet_lines
 alphabet_is names weights w one two e f = rw e (rw f refl)
 

@@ -14,11 +14,14 @@ pub mod PartLines
 pub mod Weights
 pub mod LinesLeft
 pub mod ReadProblems
+pub mod Numbers
 pub mod Names
 pub mod RoundTripPolynomials
 pub mod RoundTripRows
 pub mod PrintedLines
 pub mod PlainText
+pub mod RoundTripSettings
+pub mod RoundTripLines
 pub mod RoundTripCertificates
 pub mod RoundTripParts
 pub mod Examples

@@ -1,5 +1,5 @@
 -- The names of a setting's letters: each is a name, and is told from the others.
-use Rattle.nc_algebra.specs.Certificates.{IsLetterBelow, is_name}
+use Rattle.nc_algebra.specs.Alphabets.{Alphabet, IsAlphabet, IsLetterIn, is_name}
 use Rattle.nc_algebra.specs.Lists.{Among, IsDistinct}
 use Rattle.nc_algebra.specs.Words.{Letter}
 use Rattle.nc_tokens.proofs.Bytes.{bytes_apart, bytes_same}
@@ -22,17 +22,17 @@ distinct_at (x ∷ xs) d k zero h less within e = omega arith
 distinct_at (x ∷ xs) d zero (suc i) h less within e = h.0 (subst (λ y. Among y xs) (sym e) (among_at xs i d (omega arith)))
 distinct_at (x ∷ xs) d (suc k) (suc i) h less within e = distinct_at xs d k i h.1 (omega arith) (omega arith) e
 
--- names that letters may have: each is a name, and reading it gives its letter
-pub record AreNames (names : List (List ℕ)) : Type 0 where
-  pub each : (x : Letter) → IsLetterBelow (length names) x → is_name (name_of names x) ≡ true
-  pub apart : (x : Letter) → IsLetterBelow (length names) x → letter_of names (name_of names x) ≡ Ok x.index
+-- an alphabet whose letters have names: each is a name, and reading it gives its letter's number
+pub record AreNames (a : Alphabet) : Type 0 where
+  pub each : (x : Letter) → IsLetterIn a x → is_name (name_of a.names x) ≡ true
+  pub apart : (x : Letter) → IsLetterIn a x → letter_of a.names (name_of a.names x) ≡ Ok x.index
 
-pub are_names : (names : List (List ℕ)) → All (λ name. IsTrue (is_name name)) names → IsDistinct names → AreNames names
-are_names names named distinct = record { each = λ x below. named x.index [] below.0; apart = λ x below. apart x.index below.0 }
+pub are_names : (a : Alphabet) → IsAlphabet a → AreNames a
+are_names a is = record { each = λ x inside. is.named x.index [] inside.0; apart = λ x inside. apart x.index inside.0 }
   where
-    apart : (i : ℕ) → i < length names → letter_of names (get_or names i []) ≡ Ok i
+    apart : (i : ℕ) → i < length a.names → letter_of a.names (get_or a.names i []) ≡ Ok i
     apart i within =
-        let at : position_or_len (λ n. bytes_eq n (get_or names i [])) names ≡ i = position_or_len_is (λ n. bytes_eq n (get_or names i [])) names i [] (omega arith)
-        (λ k less. bytes_apart _ _ (distinct_at names [] k i distinct less within)) (λ _. bytes_same (get_or names i [])) in
-        let inside : nat_lt i (length names) ≡ true = lt-ltb _ _ within in
+        let at : position_or_len (λ n. bytes_eq n (get_or a.names i [])) a.names ≡ i = position_or_len_is (λ n. bytes_eq n (get_or a.names i [])) a.names i [] (omega arith)
+        (λ k less. bytes_apart _ _ (distinct_at a.names [] k i is.apart less within)) (λ _. bytes_same (get_or a.names i [])) in
+        let inside : nat_lt i (length a.names) ≡ true = lt-ltb _ _ within in
         rw (at, inside) refl

@@ -14,13 +14,13 @@ use Rattle.std.proofs.Common.{List, None, Ok, Result, Some, [], ap, codes, refl,
 
 module _ (s : NamedSetting) where
   -- what follows a line `part`, a line `line`, and another line
-  part_next : (reaches : List ℕ) (parts : List Part) (w : Written) (r : Row) → a_line (codes "part") w ≡ Some r
+  pub part_next : (reaches : List ℕ) (parts : List Part) (w : Written) (r : Row) → a_line (codes "part") w ≡ Some r
       → part_lines s reaches parts w ≡ (at_line r.number (part_at s reaches r.tokens) >>= λ part. part_lines s reaches (parts ++ part ∷ []) r.after)
   unfolding a_line part_lines
   part_next reaches parts (End n) r e = absurd cc
   part_next reaches parts (Line n clean ts after) r e = taken (codes "part") n clean ts after r (λ r. at_line r.number (part_at s reaches r.tokens) >>= λ part. part_lines s reaches (parts ++ part ∷ []) r.after) _ e
 
-  line_next : (reaches : List ℕ) (parts : List Part) (w : Written) (r : Row) → a_line (codes "part") w ≡ None → a_line (codes "line") w ≡ Some r
+  pub line_next : (reaches : List ℕ) (parts : List Part) (w : Written) (r : Row) → a_line (codes "part") w ≡ None → a_line (codes "line") w ≡ Some r
       → part_lines s reaches parts w ≡ (at_line r.number (end_at r.tokens) >>= λ _. with_first (part_lines s (reaches ++ line_reach s.setting reaches parts ∷ []) [] r.after) parts)
   unfolding a_line part_lines
   line_next reaches parts (End n) r d e = absurd cc
@@ -28,7 +28,7 @@ module _ (s : NamedSetting) where
       passed_by (codes "part") n clean ts after _ _ d
       ∙ taken (codes "line") n clean ts after r (λ r. at_line r.number (end_at r.tokens) >>= λ _. with_first (part_lines s (reaches ++ line_reach s.setting reaches parts ∷ []) [] r.after) parts) _ e
 
-  other_next : (reaches : List ℕ) (parts : List Part) (w : Written) → a_line (codes "part") w ≡ None → a_line (codes "line") w ≡ None → part_lines s reaches parts w ≡ Ok (parts ∷ [], w)
+  pub other_next : (reaches : List ℕ) (parts : List Part) (w : Written) → a_line (codes "part") w ≡ None → a_line (codes "line") w ≡ None → part_lines s reaches parts w ≡ Ok (parts ∷ [], w)
   unfolding a_line part_lines
   other_next reaches parts (End n) d e = refl
   other_next reaches parts (Line n clean ts after) d e = passed_by (codes "part") n clean ts after _ _ d ∙ passed_by (codes "line") n clean ts after _ (Ok (parts ∷ [], Line n clean ts after)) e

@@ -12,11 +12,12 @@ use Rattle.nc_text.specs.Patterns.{word_by_patterns}
 use Rattle.nc_text.specs.Reading.{factors_at, poly_at}
 use Rattle.nc_text.specs.Rows.{mono_at}
 use Rattle.nc_tokens.specs.Tokens.{Token, tokens}
-use Rattle.std.specs.Prelude.{List, Ok, length, ℕ, ◌≡◌}
+use Rattle.std.specs.Prelude.{List, Ok, length, ℕ, ◌≡◌, ◌≤◌}
 
 -- What is printed of a certificate is read as that certificate.
+-- A line's number is read where it has at most 18 digits; so the lines are no more than those that the code keeps.
 abbrev pub ReadsWhatIsPrinted : Type 0
-ReadsWhatIsPrinted = (c : Certificate) → IsTextCertificate c → reads_certificate (certificate_text c) ≡ Ok c
+ReadsWhatIsPrinted = (c : Certificate) → IsTextCertificate c → length c.lines ≤ 4000000000 → reads_certificate (certificate_text c) ≡ Ok c
 
 -- What is printed of a claim and terms is read as the certificate with one line of those terms, and without a line where there is none.
 abbrev pub ReadsTerms : Type 0
@@ -33,7 +34,7 @@ ReadsMonomials = (s : NamedSetting) (σ : Monomial) → IsSetting s → IsGenera
 
 -- Two certificates with the same text are the same.
 abbrev pub OneCertificate : Type 0
-OneCertificate = (c d : Certificate) → IsTextCertificate c → IsTextCertificate d → certificate_text c ≡ certificate_text d → c ≡ d
+OneCertificate = (c d : Certificate) → IsTextCertificate c → IsTextCertificate d → length c.lines ≤ 4000000000 → length d.lines ≤ 4000000000 → certificate_text c ≡ certificate_text d → c ≡ d
 
 -- What is read is a certificate.
 abbrev pub ReadsCertificates : Type 0
