@@ -30,7 +30,7 @@ fn invalid_report(
     ensures { IfOk result (λ report. report.items ≡ invalid_report certificate.now.setting.alphabet.names rest.now) }
 {
     let mut report = Vec::from_slice(alloc, b"invalid\nrest ")?;
-    write_poly(&mut report, certificate.setting.alphabet.names(), rest)?;
+    write_poly(&mut report, certificate.setting.names(), rest)?;
     report.extend_from_slice(b"\n")?;
     Ok(report)
 }
