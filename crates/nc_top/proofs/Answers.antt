@@ -7,13 +7,18 @@ use Rattle.nc_io.specs.Pieces.{TakesWhole}
 use Rattle.nc_text.proofs.ReadCertificates.{reads_certificates}
 use Rattle.nc_text.specs.Certificates.{reads_certificate}
 use Rattle.nc_tokens.specs.declared.fault.TextFault.{TextFault}
+use Rattle.nc_cert.proofs.Beyond.{much_found, within_none}
+use Rattle.nc_cert.proofs.Limits.{limit_law}
 use Rattle.nc_cert.proofs.Rests.{nothing_from_valid, valid_from_nothing}
+use Rattle.nc_cert.specs.Beyond.{first_beyond}
+use Rattle.nc_cert.specs.Charges.{Charge, IsTooMuch}
+use Rattle.nc_cert.specs.Checking.{certificate_charges}
 use Rattle.nc_top.specs.Laws.{FaultlessRuns, OneAnswer}
-use Rattle.nc_top.specs.Reports.{bad_text_report, invalid_report, report_of, report_of_rest, report_of_text}
-use Rattle.nc_top.specs.Run.{IsAnswer, IsReported, IsText}
-use Rattle.nc_top.specs.Statuses.{status_of, status_of_rest, status_of_text}
+use Rattle.nc_top.specs.Reports.{bad_text_report, invalid_report, report_of, report_of_rest, report_of_text, report_of_work}
+use Rattle.nc_top.specs.Run.{IsAnswer, IsReported, IsText, IsWithinWork}
+use Rattle.nc_top.specs.Statuses.{status_of, status_of_rest, status_of_text, status_of_work}
 use Rattle.nc_top.specs.declared.status.Status.{Status}
-use Rattle.nc_top.specs.declared.status.Status.TheVariants.{BadText, Done, Invalid, OutOfMemory, ReadFault, TooLarge, Usage, WriteFault}
+use Rattle.nc_top.specs.declared.status.Status.TheVariants.{BadText, Done, Invalid, OutOfMemory, ReadFault, TooLarge, TooMuch, Usage, WriteFault}
 use Rattle.std.proofs.Common.{Bool, Err, List, None, Ok, Some, [], ap, ap₂, append-nil, arith, codes, false, if◌then◌else◌, inl, inr, length, length-append, nat_lt, refl, subst, sym, true, ℕ, ◌+◌, ◌++◌, ◌∙◌, ◌∷◌, ◌<◌, ◌≡◌, ◌≤◌, ◌⊎◌}
 use Rattle.std.proofs.lemmas.Bool.{cases_lt, le-ltb, lt-ltb}
 use Rattle.std.specs.declared.option.Option.{Option}
@@ -39,13 +44,36 @@ many_told bytes status report large told written =
       written ∙ ap (λ (b : Bool). if b then codes "too large\n" else report_of_text (reads_certificate bytes)) (sym many),
     )
 
+-- ---- work within the limit, or too much
+
+-- the charges of the parts of a certificate
+abbrev Charges : Certificate → List Charge
+Charges c = certificate_charges c
+
+abbrev beyond : Certificate → Option Charge
+beyond c = first_beyond 100000000 0 (Charges c)
+
+within_told : (bytes : List ℕ) (c : Certificate) (status : Status) (report : List ℕ) → IsText bytes c → IsWithinWork c → status ≡ status_of_rest (rest_of c.setting.setting c.claim c.lines)
+    → report ≡ report_of_rest c.setting.alphabet.names (rest_of c.setting.setting c.claim c.lines) → Told bytes status report
+within_told bytes c status report text within told written =
+    let f : Polynomial = rest_of c.setting.setting c.claim c.lines in
+    let none : beyond c ≡ None = within_none 100000000 (Charges c) within in
+    few_told bytes (Ok c) status report text.small text.read (told ∙ ap (λ (o : Option Charge). status_of_work o f) (sym none)) (written ∙ ap (λ (o : Option Charge). report_of_work c.setting.alphabet.names o f) (sym none))
+
+much_told : (bytes : List ℕ) (line charge : ℕ) (report : List ℕ) → IsAnswer bytes (TooMuch line charge) report → Told bytes (TooMuch line charge) report
+much_told bytes line charge report h =
+    let c : Certificate = h.certificate in
+    let f : Polynomial = rest_of c.setting.setting c.claim c.lines in
+    let found : beyond c ≡ Some (record { line = line; amount = charge }) = much_found 100000000 (Charges c) line charge h.much in
+    few_told bytes (Ok c) (TooMuch line charge) report h.text.small h.text.read (ap (λ (o : Option Charge). status_of_work o f) (sym found)) (h.written ∙ ap (λ (o : Option Charge). report_of_work c.setting.alphabet.names o f) (sym found))
+
 -- ---- valid, or not
 
 done_told : (bytes : List ℕ) (report : List ℕ) → IsAnswer bytes Done report → Told bytes Done report
 done_told bytes report h =
     let c : Certificate = h.certificate in
     let nothing : rest_of c.setting.setting c.claim c.lines ≡ [] = nothing_from_valid c (rest_of c.setting.setting c.claim c.lines) (reads_certificates bytes c h.text.read).certificate refl h.valid in
-    few_told bytes (Ok c) Done report h.text.small h.text.read (ap status_of_rest (sym nothing)) (h.written ∙ ap (report_of_rest c.setting.alphabet.names) (sym nothing))
+    within_told bytes c Done report h.text h.within (ap status_of_rest (sym nothing)) (h.written ∙ ap (report_of_rest c.setting.alphabet.names) (sym nothing))
 
 something : (c : Certificate) (f : Polynomial) (report : List ℕ) → ¬ (f ≡ []) → report ≡ invalid_report c.setting.alphabet.names f → (Invalid ≡ status_of_rest f) × (report ≡ report_of_rest c.setting.alphabet.names f)
 something c [] report h e = absurd (h refl)
@@ -56,7 +84,7 @@ invalid_told bytes report h =
     let c : Certificate = h.certificate in
     let f : Polynomial = rest_of c.setting.setting c.claim c.lines in
     let some = something c f report (λ e. h.invalid (valid_from_nothing c f (reads_certificates bytes c h.text.read).certificate refl e)) h.written in
-    few_told bytes (Ok c) Invalid report h.text.small h.text.read some.0 some.1
+    within_told bytes c Invalid report h.text h.within some.0 some.1
 
 bad_text_told : (bytes : List ℕ) (line kind : ℕ) (report : List ℕ) → IsAnswer bytes (BadText line kind) report → Told bytes (BadText line kind) report
 bad_text_told bytes line kind report h = few_told bytes (Err h.fault) (BadText line kind) report h.small h.read (ap₂ BadText h.at_line h.of_kind) (h.written ∙ ap₂ bad_text_report h.at_line h.of_kind)
@@ -66,6 +94,7 @@ told_by_functions bytes Done report h = done_told bytes report h
 told_by_functions bytes Invalid report h = invalid_told bytes report h
 told_by_functions bytes (BadText line kind) report h = bad_text_told bytes line kind report h
 told_by_functions bytes TooLarge report h = many_told bytes TooLarge report h.large refl h.written
+told_by_functions bytes (TooMuch line charge) report h = much_told bytes line charge report h
 told_by_functions bytes Usage report h = absurd h
 told_by_functions bytes ReadFault report h = absurd h
 told_by_functions bytes WriteFault report h = absurd h
@@ -73,15 +102,24 @@ told_by_functions bytes OutOfMemory report h = absurd h
 
 -- ---- each input has an answer
 
-by_rest : (bytes : List ℕ) (c : Certificate) (f : Polynomial) → IsText bytes c → f ≡ rest_of c.setting.setting c.claim c.lines → IsAnswer bytes (status_of_rest f) (report_of_rest c.setting.alphabet.names f)
-by_rest bytes c [] text is = record { certificate = c; text = text; valid = valid_from_nothing c [] (reads_certificates bytes c text.read).certificate is refl; written = refl }
-by_rest bytes c (t ∷ f) text is = record { certificate = c; text = text; invalid = λ valid. none t f (nothing_from_valid c (t ∷ f) (reads_certificates bytes c text.read).certificate is valid); written = ap (invalid_report c.setting.alphabet.names) is }
+by_rest : (bytes : List ℕ) (c : Certificate) (f : Polynomial) → IsText bytes c → IsWithinWork c → f ≡ rest_of c.setting.setting c.claim c.lines → IsAnswer bytes (status_of_rest f) (report_of_rest c.setting.alphabet.names f)
+by_rest bytes c [] text within is = record { certificate = c; text = text; within = within; valid = valid_from_nothing c [] (reads_certificates bytes c text.read).certificate is refl; written = refl }
+by_rest bytes c (t ∷ f) text within is = record { certificate = c; text = text; within = within; invalid = λ valid. none t f (nothing_from_valid c (t ∷ f) (reads_certificates bytes c text.read).certificate is valid); written = ap (invalid_report c.setting.alphabet.names) is }
   where
     none : {A : Type 0} (t : A) (f : List A) → t ∷ f ≡ [] → ⊥
     none t f e = absurd cc
 
+by_work : (bytes : List ℕ) (c : Certificate) → IsText bytes c → IsWithinWork c ⊎ ((k : ℕ) × (t : ℕ) × IsTooMuch 100000000 (Charges c) k t)
+    → IsAnswer bytes (status_of_work (beyond c) (rest_of c.setting.setting c.claim c.lines)) (report_of_work c.setting.alphabet.names (beyond c) (rest_of c.setting.setting c.claim c.lines))
+by_work bytes c text (inl within) =
+    let f : Polynomial = rest_of c.setting.setting c.claim c.lines in
+    subst (λ (o : Option Charge). IsAnswer bytes (status_of_work o f) (report_of_work c.setting.alphabet.names o f)) (sym (within_none 100000000 (Charges c) within)) (by_rest bytes c f text within refl)
+by_work bytes c text (inr (k, t, much)) =
+    let f : Polynomial = rest_of c.setting.setting c.claim c.lines in
+    subst (λ (o : Option Charge). IsAnswer bytes (status_of_work o f) (report_of_work c.setting.alphabet.names o f)) (sym (much_found 100000000 (Charges c) k t much)) (record { certificate = c; text = text; much = much; written = refl })
+
 by_text : (bytes : List ℕ) (r : Result Certificate TextFault) → length bytes ≤ 16777216 → reads_certificate bytes ≡ r → IsAnswer bytes (status_of_text r) (report_of_text r)
-by_text bytes (Ok c) small read = by_rest bytes c (rest_of c.setting.setting c.claim c.lines) record { small = small; read = read } refl
+by_text bytes (Ok c) small read = by_work bytes c record { small = small; read = read } (limit_law 100000000 (Charges c)).either
 by_text bytes (Err fault) small read = record { fault = fault; small = small; read = read; at_line = refl; of_kind = refl; written = refl }
 
 by_size : (bytes : List ℕ) → (16777216 < length bytes) ⊎ (length bytes ≤ 16777216) → IsAnswer bytes (status_of bytes) (report_of bytes)

@@ -14,10 +14,11 @@ use Rattle.nc_options.specs.declared.options.Options.TheVariants.{Check}
 use Rattle.nc_text.specs.Certificates.{reads_certificate}
 use Rattle.nc_tokens.specs.Kinds.{number_of}
 use Rattle.nc_tokens.specs.declared.fault.TextFault.{TextFault}
-use Rattle.nc_cert.specs.Checking.{IsValidCertificate}
-use Rattle.nc_top.specs.Reports.{bad_text_report, invalid_report}
+use Rattle.nc_cert.specs.Charges.{IsTooMuch, IsWithinLimit}
+use Rattle.nc_cert.specs.Checking.{IsValidCertificate, certificate_charges}
+use Rattle.nc_top.specs.Reports.{bad_text_report, invalid_report, too_much_report}
 use Rattle.nc_top.specs.declared.status.Status.{Status}
-use Rattle.nc_top.specs.declared.status.Status.TheVariants.{BadText, Done, Invalid, OutOfMemory, ReadFault, TooLarge, Usage, WriteFault}
+use Rattle.nc_top.specs.declared.status.Status.TheVariants.{BadText, Done, Invalid, OutOfMemory, ReadFault, TooLarge, TooMuch, Usage, WriteFault}
 use Rattle.std.specs.Prelude.{Err, List, Ok, Some, [], codes, length, ℕ, ◌<◌, ◌≡◌, ◌≤◌, ◌⊎◌}
 use Rattle.std.specs.declared.option.Option.{Option}
 
@@ -32,10 +33,15 @@ pub record IsText (bytes : List ℕ) (c : Certificate) : Type 0 where
   pub small : length bytes ≤ 16777216
   pub read : reads_certificate bytes ≡ Ok c
 
+-- checking the certificate asks for no more work than the limit
+abbrev pub IsWithinWork : Certificate → Type 0
+IsWithinWork c = IsWithinLimit 100000000 (certificate_charges c)
+
 -- the bytes are a text of a certificate that is valid
 pub record IsDone (bytes report : List ℕ) : Type 0 where
   pub certificate : Certificate
   pub text : IsText bytes certificate
+  pub within : IsWithinWork certificate
   pub valid : IsValidCertificate certificate
   pub written : report ≡ codes "valid\n"
 
@@ -43,8 +49,16 @@ pub record IsDone (bytes report : List ℕ) : Type 0 where
 pub record IsInvalid (bytes report : List ℕ) : Type 0 where
   pub certificate : Certificate
   pub text : IsText bytes certificate
+  pub within : IsWithinWork certificate
   pub invalid : ¬ IsValidCertificate certificate
   pub written : report ≡ invalid_report certificate.setting.alphabet.names (rest_of certificate.setting.setting certificate.claim certificate.lines)
+
+-- the bytes are a text of a certificate that asks for more work: the first part that passes the limit stands in this line
+pub record IsTooMuchWork (bytes : List ℕ) (line charge : ℕ) (report : List ℕ) : Type 0 where
+  pub certificate : Certificate
+  pub text : IsText bytes certificate
+  pub much : IsTooMuch 100000000 (certificate_charges certificate) line charge
+  pub written : report ≡ too_much_report line charge
 
 -- the bytes are no text of a certificate, and are not too many: the first fault
 pub record IsBadText (bytes : List ℕ) (line kind : ℕ) (report : List ℕ) : Type 0 where
@@ -66,6 +80,7 @@ IsAnswer bytes Done report = IsDone bytes report
 IsAnswer bytes Invalid report = IsInvalid bytes report
 IsAnswer bytes (BadText line kind) report = IsBadText bytes line kind report
 IsAnswer bytes TooLarge report = IsTooLarge bytes report
+IsAnswer bytes (TooMuch line charge) report = IsTooMuchWork bytes line charge report
 IsAnswer bytes Usage report = ⊥
 IsAnswer bytes ReadFault report = ⊥
 IsAnswer bytes WriteFault report = ⊥

@@ -3,7 +3,7 @@
 ghost use Rattle.nc_algebra.specs.Certificates.{rest_of};
 ghost use Rattle.nc_io.specs.Pieces.{TakesFront};
 ghost use Rattle.nc_text.specs.Certificates.{reads_certificate};
-ghost use Rattle.nc_top.specs.Reports.{bad_text_report, invalid_report};
+ghost use Rattle.nc_top.specs.Reports.{bad_text_report, invalid_report, too_much_report};
 ghost use Rattle.nc_top.specs.Run.{IsAnswer, IsCheck, IsRefused, IsReported, Ran};
 ghost use Rattle.std.specs.Prelude.{Err, IfOk, Ok, codes, length, map, string_bytes, ◌≡◌, ◌≤◌};
 
@@ -31,6 +31,19 @@ fn invalid_report(
 {
     let mut report = Vec::from_slice(alloc, b"invalid\nrest ")?;
     write_poly(&mut report, certificate.setting.names(), rest)?;
+    report.extend_from_slice(b"\n")?;
+    Ok(report)
+}
+
+/// The report on a certificate that asks for too much work.
+fn too_much_report(alloc: Global, line: u32, charge: u128) -> Result<Vec<u8>, AllocError>
+    ensures { IfOk result (λ report. report.items ≡ too_much_report line charge) }
+{
+    let mut numbers = Buffer::new();
+    let mut report = Vec::from_slice(alloc, b"too much work: line ")?;
+    report.extend_from_slice(numbers.format(line).as_bytes())?;
+    report.extend_from_slice(b" needs ")?;
+    report.extend_from_slice(numbers.format(charge).as_bytes())?;
     report.extend_from_slice(b"\n")?;
     Ok(report)
 }
@@ -73,6 +86,10 @@ fn answer_certificate(
     match check(alloc, certificate)? {
         Verdict::Valid => Ok((Status::Done, Vec::from_slice(alloc, b"valid\n")?)),
         Verdict::Invalid(rest) => Ok((Status::Invalid, invalid_report(alloc, certificate, &rest)?)),
+        Verdict::TooMuch { line, charge } => Ok((
+            Status::TooMuch { line, charge },
+            too_much_report(alloc, line, charge)?,
+        )),
     }
 }
 

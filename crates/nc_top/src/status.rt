@@ -10,6 +10,9 @@ pub enum Status {
     Done,
     /// The certificate is not valid; the report has the rest of the claim.
     Invalid,
+    /// Checking the certificate asks for more work than the limit: the line of the first part that passes it, and the
+    /// charge up to that part.
+    TooMuch { line: u32, charge: u128 },
     /// The words are no command; nothing was read.
     Usage,
     /// The bytes are no text of a certificate: the line of the first fault, and the number of its kind.
@@ -33,6 +36,7 @@ pub fn code_of(status: Status) -> u8
         Status::Invalid => 1,
         Status::Usage => 2,
         Status::BadText { .. } | Status::TooLarge => 3,
+        Status::TooMuch { .. } => 4,
         Status::ReadFault => 5,
         Status::WriteFault => 6,
         Status::OutOfMemory => 7,
