@@ -7,10 +7,10 @@ use Rattle.nc_text.specs.Reading.{poly_at}
 use Rattle.nc_text.specs.Rows.{field_at, form_at, generator_at, letters_at, weights_at}
 use Rattle.nc_text.specs.Settings.{alphabet_lines, field_line, generator_lines, letters_line, setting_lines, weights_in, weights_line}
 use Rattle.nc_tokens.proofs.Repeated.{fewer}
-use Rattle.nc_tokens.proofs.Steps.{on_any, on_bind, on_choice, on_weaker}
+use Rattle.nc_tokens.proofs.Steps.{on_any, on_bind, on_choice}
 use Rattle.nc_tokens.specs.Lines.{End, Line, Row, Written, a_line, at_line, begins, behind, content, is_allowed, lines, lines_left, the_line, with_byte, written}
-use Rattle.nc_tokens.specs.Tokens.{Token, is_blank, tokens}
-use Rattle.std.proofs.Common.{Bool, IfOk, List, None, Ok, Option, Result, Some, [], arith, codes, eqb, false, if◌then◌else◌, length, refl, subst, true, ℕ, ◌&&◌, ◌+◌, ◌-◌, ◌<◌, ◌∷◌, ◌≡◌, ◌≤◌}
+use Rattle.nc_tokens.specs.Tokens.{is_blank, tokens}
+use Rattle.std.proofs.Common.{Bool, IfOk, List, None, Ok, Option, Result, Some, [], arith, codes, eqb, false, if◌then◌else◌, length, refl, subst, true, ℕ, ◌&&◌, ◌+◌, ◌-◌, ◌∷◌, ◌≡◌, ◌≤◌}
 use Rattle.std.specs.List.{list_all}
 
 -- ---- a text has no more lines than bytes

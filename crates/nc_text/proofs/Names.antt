@@ -5,7 +5,7 @@ use Rattle.nc_algebra.specs.Words.{Letter}
 use Rattle.nc_tokens.proofs.Bytes.{bytes_apart, bytes_same}
 use Rattle.nc_print.specs.Printing.{name_of}
 use Rattle.nc_text.specs.Reading.{letter_of}
-use Rattle.std.proofs.Common.{All, IsTrue, List, Ok, [], arith, bytes_eq, get_or, inl, inr, length, refl, subst, suc, sym, true, zero, ℕ, ◌<◌, ◌∷◌, ◌≡◌}
+use Rattle.std.proofs.Common.{List, Ok, [], arith, bytes_eq, get_or, inl, inr, length, refl, subst, suc, sym, true, zero, ℕ, ◌<◌, ◌∷◌, ◌≡◌}
 use Rattle.std.proofs.lemmas.Bool.{lt-ltb}
 use Rattle.std.proofs.lemmas.List.Sums.{position_or_len_is}
 use Rattle.std.specs.List.{position_or_len}

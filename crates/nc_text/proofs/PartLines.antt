@@ -2,7 +2,7 @@
 use Rattle.nc_algebra.specs.Certificates as certificates
 use Rattle.nc_algebra.specs.Certificates.{Part, line_reach}
 use Rattle.nc_algebra.specs.Settings.{NamedSetting}
-use Rattle.nc_text.specs.Certificates.{line_lines, line_lines_in, part_lines}
+use Rattle.nc_text.specs.Certificates.{part_lines}
 use Rattle.nc_text.specs.Rows.{part_at}
 use Rattle.nc_tokens.proofs.Repeated.{Read, bind_fails, no_front, passed_by, regroup, taken, with_first, with_front}
 use Rattle.nc_tokens.specs.Gives.{FailsText}
@@ -51,9 +51,9 @@ module _ (s : NamedSetting) where
         → IsOnTheWay (lines ++ parts ∷ []) (reaches ++ line_reach s.setting reaches parts ∷ []) [] r.after whole
     line_goes_on u d e k h = record {
       same =
-        sym (ap (with_front lines) (line_next reaches parts w r d e ∙ ap (λ (q : Result (Unit {0}) TextFault). q >>= λ _. with_first (part_lines s (reaches ++ line_reach s.setting reaches parts ∷ []) [] r.after) parts) k)
-        ∙ regroup lines parts (part_lines s (reaches ++ line_reach s.setting reaches parts ∷ []) [] r.after))
-        ∙ h.same;
+          sym (ap (with_front lines) (line_next reaches parts w r d e ∙ ap (λ (q : Result (Unit {0}) TextFault). q >>= λ _. with_first (part_lines s (reaches ++ line_reach s.setting reaches parts ∷ []) [] r.after) parts) k)
+          ∙ regroup lines parts (part_lines s (reaches ++ line_reach s.setting reaches parts ∷ []) [] r.after))
+          ∙ h.same;
     }
 
     pub line_fails : (f : ReadFault) → a_line (codes "part") w ≡ None → a_line (codes "line") w ≡ Some r → FailsText f (at_line r.number (end_at r.tokens)) → IsOnTheWay lines reaches parts w whole → FailsText f whole

@@ -12,7 +12,7 @@ use Rattle.nc_tokens.proofs.PlainBytes.{ArePlain, decimal_plain, name_plain, pla
 use Rattle.nc_text.proofs.RoundTripPolynomials.{AreLetters, ArePrinted, are_letters}
 use Rattle.nc_text.proofs.RoundTripRows.{AreEachNames, AreWeights, number_in, part_text, weights_text}
 use Rattle.nc_print.specs.Printing.{coefficient_and_word, factor_text, name_of, poly_text, sig_text, term_text, word_text}
-use Rattle.std.proofs.Common.{Bool, List, [], arith, cond, decimal, eqb, false, flat_map, length, map, refl, true, ℕ, ◌++◌, ◌<◌, ◌∷◌, ◌≤◌}
+use Rattle.std.proofs.Common.{Bool, List, [], arith, cond, decimal, eqb, false, flat_map, map, refl, true, ℕ, ◌++◌, ◌<◌, ◌∷◌, ◌≤◌}
 
 pub names_plain : (names : List (List ℕ)) → AreEachNames names → ArePlain (flat_map (λ name. (32 ∷ []) ++ name) names)
 names_plain [] h = refl

@@ -1,7 +1,6 @@
 -- What is read of a problem text is a problem.
 use Rattle.nc_algebra.proofs.Alphabets.{text_word_light}
-use Rattle.nc_algebra.specs.Alphabets.{Alphabet, IsTextWord}
-use Rattle.nc_algebra.specs.Elements.{IsGenerator, degree, generator_weight}
+use Rattle.nc_algebra.specs.Elements.{degree}
 use Rattle.nc_algebra.specs.Monomials.{Monomial}
 use Rattle.nc_algebra.specs.Problems.{Bound, IsBoundOver, IsProblem, bound_degree}
 use Rattle.nc_algebra.specs.Settings.{IsSetting, NamedSetting}
@@ -17,7 +16,7 @@ use Rattle.nc_tokens.specs.Tokens.{Name, Token}
 use Rattle.nc_tokens.specs.Wanted.{end_at, literal_at}
 use Rattle.nc_tokens.specs.declared.fault.Kind.{Kind}
 use Rattle.nc_tokens.specs.declared.fault.TextFault.{TextFault}
-use Rattle.std.proofs.Common.{IfOk, List, None, Ok, Option, Result, Some, [], arith, bytes_eq, codes, length, ltb, subst, ℕ, ◌+◌, ◌∷◌, ◌≡◌, ◌≤◌}
+use Rattle.std.proofs.Common.{IfOk, List, None, Ok, Option, Result, Some, arith, bytes_eq, codes, length, ltb, subst, ℕ, ◌+◌, ◌∷◌, ◌≡◌, ◌≤◌}
 use Rattle.std.proofs.lemmas.Bool.{ltb-true}
 
 -- a bound of a problem over the setting

@@ -17,7 +17,7 @@ use Rattle.nc_text.specs.Rows.{checked, counted, field_at, further_name, generat
 use Rattle.nc_tokens.specs.Tokens.{Literal, Name, OpenBrace, Token}
 use Rattle.nc_tokens.specs.declared.fault.Kind.{Kind}
 use Rattle.nc_tokens.specs.declared.fault.Kind.TheVariants.{OutOfRange}
-use Rattle.std.proofs.Common.{All, Bool, Err, IfOk, IsTrue, List, Ok, [], ap, arith, bytes_eq, eqb, false, inl, inr, length, ltb, mod-lt, refl, subst, suc, sym, true, zero, ℕ, ◌%◌, ◌&&◌, ◌++◌, ◌+◌, ◌<◌, ◌∙◌, ◌∷◌, ◌≡◌, ◌≤◌, ◌⊎◌}
+use Rattle.std.proofs.Common.{All, Bool, Err, IfOk, IsTrue, List, Ok, [], ap, arith, bytes_eq, eqb, inl, inr, length, ltb, mod-lt, refl, subst, suc, sym, true, zero, ℕ, ◌%◌, ◌&&◌, ◌++◌, ◌+◌, ◌<◌, ◌∙◌, ◌∷◌, ◌≡◌, ◌≤◌, ◌⊎◌}
 use Rattle.std.proofs.lemmas.Bool.{and_parts, eqb-false, ltb-false, ltb-true}
 use Rattle.std.proofs.lemmas.List.Elements.{All-cons, All-nil, All-push, recursion_from_All}
 use Rattle.std.proofs.lemmas.List.{length-append}

@@ -15,14 +15,12 @@ use Rattle.nc_text.proofs.RoundTripRows.{factor_small, part_again, part_text, te
 use Rattle.nc_text.proofs.RoundTripSettings.{names_are, small}
 use Rattle.nc_text.proofs.Terms.{are_lines}
 use Rattle.nc_text.specs.Certificates.{line_lines, line_lines_in, one_line, part_lines, term_lines, terms_line}
-use Rattle.nc_text.specs.Rows.{part_at}
 use Rattle.nc_tokens.proofs.KeywordLines.{IsLineOf, keyword_line, spaced_line}
 use Rattle.nc_tokens.proofs.PlainBytes.{decimal_plain, plain_append}
 use Rattle.nc_tokens.proofs.PlainLines.{IsPrintedLine}
 use Rattle.nc_tokens.proofs.PrintedTokens.{nothing}
-use Rattle.nc_tokens.proofs.Repeated.{Read, with_first}
-use Rattle.nc_tokens.specs.Lines.{Written, at_line, row, written}
-use Rattle.nc_tokens.specs.Tokens.{Token, tokens}
+use Rattle.nc_tokens.specs.Lines.{at_line, row, written}
+use Rattle.nc_tokens.specs.Tokens.{tokens}
 use Rattle.nc_tokens.specs.Wanted.{end_at, ◌>>=◌}
 use Rattle.nc_tokens.specs.declared.fault.Kind.{Kind}
 use Rattle.std.proofs.Common.{All, List, Ok, Result, [], ap, ap₂, append_assoc, append-nil, arith, codes, decimal, flat_map, length, map, refl, sym, ℕ, ◌++◌, ◌+◌, ◌∙◌, ◌∷◌, ◌≡◌, ◌≤◌}
@@ -129,9 +127,11 @@ module _ (s : NamedSetting) (is : IsSetting s) where
   pub lines_printed : (reaches : List ℕ) (lines : List certificates.Line) → length reaches + length lines ≤ 4000000000 → AreRead reaches lines → AllByRecursion IsPrintedLine (printed lines)
   lines_printed reaches [] few all = tt
   lines_printed reaches (line ∷ lines) few all =
-      let further = reaches ++ line_reach s.setting reaches line ∷ [] in
-      (line_is.printed, all_printed (map (part_line names) line) (printed lines) (parts_printed reaches line (omega arith) all.0)
-      (lines_printed further lines (omega (arith, length-append reaches (line_reach s.setting reaches line ∷ []))) all.1))
+      let further = reaches ++ line_reach s.setting reaches line ∷ [] in (
+        line_is.printed,
+        all_printed (map (part_line names) line) (printed lines) (parts_printed reaches line (omega arith) all.0)
+            (lines_printed further lines (omega (arith, length-append reaches (line_reach s.setting reaches line ∷ []))) all.1),
+      )
 
   -- ---- form 1
 

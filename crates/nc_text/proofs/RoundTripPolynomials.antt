@@ -1,6 +1,6 @@
 -- What is printed of a word or a polynomial is read again.
 use Rattle.nc_algebra.proofs.NormalForms.{normal_form-normal}
-use Rattle.nc_algebra.specs.Alphabets.{Alphabet, AreTextWords, IsLetterIn, IsTextPolynomial, IsTextWord, letter_at}
+use Rattle.nc_algebra.specs.Alphabets.{Alphabet, AreTextWords, IsLetterIn, IsTextPolynomial, IsTextWord}
 use Rattle.nc_algebra.specs.Polynomials.{AreResidues, IsDescending, Polynomial, normal_form, with_term}
 use Rattle.nc_algebra.specs.Sums.{Term}
 use Rattle.nc_algebra.specs.Words.{Letter, Word}

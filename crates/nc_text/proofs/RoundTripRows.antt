@@ -19,10 +19,10 @@ use Rattle.nc_text.proofs.RoundTripPolynomials.{AreLetters, Ends, are_letters, e
 use Rattle.nc_print.specs.Printing.{factor_text, name_of, sig_text, word_text}
 use Rattle.nc_tokens.specs.Wanted.{close_at, close_brace_at, end_at, exponent_at, literal_at, open_at, ◌>>=◌}
 use Rattle.nc_text.specs.Reading.{poly_at, word_behind}
-use Rattle.nc_text.specs.Rows.{counted, field_at, further_name, generator_at, generator_number_at, letters_at, line_number_at, mono_at, multiplied_at, part_at, side_at, term_row_at, weight_at, weights_at, within_reach}
+use Rattle.nc_text.specs.Rows.{counted, field_at, further_name, generator_at, generator_number_at, letters_at, line_number_at, mono_at, multiplied_at, part_at, side_at, term_row_at, weights_at, within_reach}
 use Rattle.nc_tokens.specs.Tokens.{Close, CloseBrace, Literal, Name, Open, OpenBrace, Token, pieces, tokens}
 use Rattle.nc_tokens.specs.declared.fault.Kind.{Kind}
-use Rattle.std.proofs.Common.{IsTrue, List, Ok, Result, [], ap, arith, bytes_eq, decimal, eqb, false, flat_map, inl, inr, length, ltb, map, refl, sym, true, ℕ, ◌%◌, ◌&&◌, ◌++◌, ◌+◌, ◌<◌, ◌∙◌, ◌∷◌, ◌≡◌, ◌≢◌, ◌≤◌, append_assoc, append-nil}
+use Rattle.std.proofs.Common.{IsTrue, List, Ok, Result, [], ap, arith, bytes_eq, decimal, eqb, false, flat_map, inl, inr, length, ltb, map, refl, sym, true, ℕ, ◌&&◌, ◌++◌, ◌+◌, ◌<◌, ◌∙◌, ◌∷◌, ◌≡◌, ◌≢◌, ◌≤◌, append_assoc, append-nil}
 use Rattle.std.proofs.Math.Nat.{mod-eq_of_lt}
 use Rattle.std.proofs.lemmas.Bool.Decides.{nat_tests}
 use Rattle.std.proofs.lemmas.Bool.{and_from, le-ltb, lt-ltb, ne_eqb, or_from}

@@ -137,10 +137,6 @@ module _ (s : NamedSetting) (is : IsSetting s) where
   no_weights n [] claim ls all text = not_found (codes "claim") (claim_text claim) (tokens (poly_text names claim)) n ls (codes "weights") (claim_is claim text) refl
   no_weights n (f ∷ fs) claim ls all text = not_found (codes "generator") (generator_line names f) (tokens (poly_text names f)) n (map (generator_line names) fs ++ claim_text claim ∷ ls) (codes "weights") (generator_is f all.0.polynomial) refl
 
-  -- how many lines stand before the claim's
-  abbrev pub lines_before : ℕ
-  lines_before = 1 + length (printing.alphabet_lines a) + length s.setting.generators
-
   -- the lines of the setting, before a line `claim`
   pub setting_again : (n : ℕ) (claim : Polynomial) (ls : List (List ℕ)) → IsText claim
       → setting_lines (written n (printing.setting_lines s ++ claim_text claim ∷ ls)) ≡ Ok (s, written (n + 1 + length (printing.alphabet_lines a) + length s.setting.generators) (claim_text claim ∷ ls))

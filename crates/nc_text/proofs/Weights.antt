@@ -6,7 +6,7 @@ use Rattle.nc_tokens.specs.Tokens.{Token}
 use Rattle.nc_tokens.specs.Wanted.{end_at, ◌>>=◌}
 use Rattle.nc_tokens.specs.declared.fault.Kind.{Kind}
 use Rattle.nc_tokens.specs.declared.fault.LineError.{LineError}
-use Rattle.std.proofs.Common.{Err, List, Ok, Result, [], ap, append_assoc, arith, refl, subst, suc, sym, zero, ℕ, ◌++◌, ◌+◌, ◌∙◌, ◌∷◌, ◌≡◌}
+use Rattle.std.proofs.Common.{Err, List, Ok, Result, [], ap, append_assoc, arith, refl, subst, suc, sym, ℕ, ◌++◌, ◌+◌, ◌∙◌, ◌∷◌, ◌≡◌}
 use Rattle.std.proofs.lemmas.List.{append-nil}
 
 abbrev Read : Type 0

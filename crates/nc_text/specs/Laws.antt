@@ -1,6 +1,6 @@
 -- The laws that the functions of this crate carry.
 use Rattle.nc_algebra.specs.Alphabets.{Alphabet, IsTextPolynomial, IsTextWord}
-use Rattle.nc_algebra.specs.Certificates.{Certificate, IsTextCertificate, element_lines, term_part}
+use Rattle.nc_algebra.specs.Certificates.{Certificate, IsTextCertificate, element_lines}
 use Rattle.nc_algebra.specs.Elements.{Element, IsGenerator}
 use Rattle.nc_algebra.specs.Monomials.{Monomial}
 use Rattle.nc_algebra.specs.Polynomials.{Polynomial}

@@ -31,11 +31,7 @@ fn form_line(text: &mut Text<'_>) -> Result<u64, ReadFault>
 
 /// Reads the line `claim`.
 #[tactic(auto, using(nc_tokens::proofs::Told::at_gives), unfolding(crate::specs::Certificates::claim_line))]
-pub fn claim_line(
-    alloc: Global,
-    setting: &Setting,
-    text: &mut Text<'_>,
-) -> Result<Poly, ReadFault>
+pub fn claim_line(alloc: Global, setting: &Setting, text: &mut Text<'_>) -> Result<Poly, ReadFault>
     ensures { GivesText (λ f. (f, left text.new)) result (claim_line setting.now.setting.prime setting.now.alphabet (left text.old)) }
 {
     let mut row = text.wants(b"claim")?;

@@ -17,10 +17,10 @@ mod word;
 
 pub use certificate::{MAX_BYTES, read_certificate};
 pub use nc_print::{write_certificate, write_poly, write_sig};
-pub use problem::{ProblemText, read_problem};
 pub use nc_tokens::{Kind, ReadFault, TextFault};
+pub use problem::{ProblemText, read_problem};
 
-/// What is printed of a certificate is read as that certificate.
+/// What is printed of a certificate of at most 4,000,000,000 lines is read as that certificate.
 pub fn reads_what_is_printed()
     ensures { ReadsWhatIsPrinted }
 {}
@@ -40,7 +40,7 @@ pub fn reads_monomials()
     ensures { ReadsMonomials }
 {}
 
-/// Two certificates with the same text are the same.
+/// Two certificates of at most 4,000,000,000 lines with the same text are the same.
 pub fn one_certificate()
     ensures { OneCertificate }
 {}

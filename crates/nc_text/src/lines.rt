@@ -105,11 +105,7 @@ fn part_of(
 }
 
 /// Reads the lines `part` and `line` behind the first line `line`.
-fn parts_of(
-    alloc: Global,
-    setting: &Setting,
-    text: &mut Text<'_>,
-) -> Result<Lines, ReadFault>
+fn parts_of(alloc: Global, setting: &Setting, text: &mut Text<'_>) -> Result<Lines, ReadFault>
     requires { lines_left (left text.old) ≤ 16777216 }
     ensures { GivesText (λ ls. (ls, left text.new)) result (part_lines setting.now [] [] (left text.old)) }
 {
@@ -143,11 +139,7 @@ fn parts_of(
 
 /// Reads the lines `line`, with the lines `part` behind each.
 #[tactic(auto, unfolding(crate::specs::Certificates::line_lines))]
-pub fn lines_of(
-    alloc: Global,
-    setting: &Setting,
-    text: &mut Text<'_>,
-) -> Result<Lines, ReadFault>
+pub fn lines_of(alloc: Global, setting: &Setting, text: &mut Text<'_>) -> Result<Lines, ReadFault>
     requires { lines_left (left text.old) ≤ 16777216 }
     ensures { GivesText (λ ls. (ls, left text.new)) result (line_lines setting.now (left text.old)) }
 {

@@ -121,11 +121,7 @@ fn steps_of(line: &mut Tokens<'_>) -> Result<u64, LineError>
 
 /// Reads the line `bound`.
 #[tactic(auto, using(nc_tokens::proofs::Told::at_gives, nc_tokens::proofs::Told::at_holds), unfolding(crate::specs::Problems::bound_line))]
-fn bound_line(
-    alloc: Global,
-    setting: &Setting,
-    text: &mut Text<'_>,
-) -> Result<Bound, ReadFault>
+fn bound_line(alloc: Global, setting: &Setting, text: &mut Text<'_>) -> Result<Bound, ReadFault>
     ensures reads { GivesText (λ b. (bound_of b, left text.new)) result (bound_line setting.now.alphabet (length setting.now.setting.generators) (left text.old)) }
     ensures degree { IfOk result (λ b. HasBoundDegree setting.now.setting b) }
 {

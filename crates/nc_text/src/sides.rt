@@ -34,11 +34,7 @@ impl Model for Mono {
 
 /// Reads a side of a monomial: a word, or the literal 1 for the empty word.
 #[tactic(auto, unfolding(crate::specs::Rows::side_at))]
-pub fn side_of(
-    alloc: Global,
-    alphabet: &Alphabet,
-    line: &mut Tokens<'_>,
-) -> Result<Word, LineError>
+pub fn side_of(alloc: Global, alphabet: &Alphabet, line: &mut Tokens<'_>) -> Result<Word, LineError>
     ensures reads { Gives (λ w. (w, line.new)) result (side_at alphabet.now line.old) }
     ensures text { IfOk result (λ w. IsTextWord alphabet.now w) }
 {
@@ -143,11 +139,7 @@ pub fn term_of(alloc: Global, setting: &Setting, line: &mut Tokens<'_>) -> Resul
 
 /// Reads what a part multiplies: a generator, or one of so many lines.
 #[tactic(auto, unfolding(crate::specs::Rows::multiplied_at))]
-pub fn multiplied(
-    setting: &Setting,
-    lines: u32,
-    line: &mut Tokens<'_>,
-) -> Result<Of, LineError>
+pub fn multiplied(setting: &Setting, lines: u32, line: &mut Tokens<'_>) -> Result<Of, LineError>
     ensures reads { Gives (λ f. (factor_of f, line.new)) result (multiplied_at (length setting.now.setting.generators) lines line.old) }
     ensures factor { IfOk result (λ f. IsFactor setting.now.setting lines (factor_of f)) }
 {

@@ -50,7 +50,11 @@ fn lengthen(word: &mut Vec<Letter>, letter: Letter, times: u64) -> Result<(), Li
 
 /// Reads a factor, and writes it behind the word.
 #[tactic(auto, unfolding(crate::specs::Reading::factor_at))]
-fn factor(word: &mut Vec<Letter>, alphabet: &Alphabet, line: &mut Tokens<'_>) -> Result<(), LineError>
+fn factor(
+    word: &mut Vec<Letter>,
+    alphabet: &Alphabet,
+    line: &mut Tokens<'_>,
+) -> Result<(), LineError>
     requires short { length word.old.items ≤ 255 }
     ensures reads { Gives (λ _. (word.new.items, line.new)) result (factor_at alphabet.now word.old.items line.old) }
     ensures short { OnOk result (length word.new.items ≤ 255) }

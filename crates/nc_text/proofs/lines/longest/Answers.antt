@@ -1,7 +1,6 @@
-use Rattle.nc_algebra.specs.Certificates.{longest}
 use Rattle.nc_algebra.specs.Polynomials.{Polynomial}
 use Rattle.nc_text.proofs.Reaches.{longest_more, longest_whole}
-use Rattle.std.proofs.Common.{List, ap, arith, get_or, length, max, refl, subst, sym, take, ◌∙◌, ◌<◌, ◌≡◌}
+use Rattle.std.proofs.Common.{List, ap, arith, get_or, length, max, refl, subst, ◌∙◌, ◌<◌}
 use Rattle.nc_text.proofs.lines.longest.Goals as goal
 
 pub terms-init : goal.terms-init

@@ -1,7 +1,7 @@
 use Rattle.nc_algebra.specs.Certificates.{longest}
 use Rattle.nc_algebra.specs.Polynomials.{Polynomial}
 use Rattle.nc_text.proofs.Reaches.{all_longest, longest_list_more}
-use Rattle.std.proofs.Common.{List, ap, arith, get_or, length, map, refl, subst, sym, ℕ, ◌++◌, ◌∙◌, ◌∷◌, ◌<◌, ◌≡◌, [], ◌≤◌}
+use Rattle.std.proofs.Common.{List, ap, arith, get_or, length, map, subst, sym, ℕ, ◌++◌, ◌∙◌, ◌∷◌, ◌<◌, [], ◌≤◌}
 use Rattle.std.proofs.lemmas.List.{take_all}
 use Rattle.std.specs.List.{All}
 use Rattle.nc_text.proofs.lines.longest_of_generators.Goals as goal

@@ -1,11 +1,11 @@
-use Rattle.nc_algebra.specs.Certificates.{Part, line_reach, part_reach}
+use Rattle.nc_algebra.specs.Certificates.{line_reach, part_reach}
 use Rattle.nc_text.proofs.PartLines.{begins, ends, line_fails, line_goes_on, part_fails, part_goes_on}
 use Rattle.nc_text.proofs.Reaches.{reach_more}
 use Rattle.nc_tokens.proofs.Repeated.{fewer}
 use Rattle.nc_tokens.proofs.Told.{at_gives, at_holds}
-use Rattle.nc_tokens.specs.Lines.{Written, lines_left}
+use Rattle.nc_tokens.specs.Lines.{Written}
 use Rattle.nc_tokens.specs.Unread.{left}
-use Rattle.std.proofs.Common.{All, List, Ok, [], ap, arith, length, refl, subst, sym, ℕ, ◌+◌, ◌++◌, ◌∷◌, ◌∙◌, ◌≡◌, ◌≤◌}
+use Rattle.std.proofs.Common.{Ok, [], ap, arith, refl, sym, ◌++◌, ◌∷◌, ◌∙◌, ◌≡◌, ◌≤◌}
 use Rattle.std.proofs.lemmas.List.Elements.{All-nil, All-push}
 use Rattle.std.proofs.lemmas.List.{length-append}
 use Rattle.std.proofs.lemmas.Result.{err_from_is_err_and}

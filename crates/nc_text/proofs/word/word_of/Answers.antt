@@ -1,4 +1,3 @@
-use Rattle.nc_algebra.specs.Alphabets.{IsTextWord}
 use Rattle.nc_text.proofs.ReadWords.{read_is_text}
 use Rattle.nc_text.proofs.word.word_of.Goals as goal
 use Rattle.std.proofs.Common.{◌∙◌, ◌≡◌}
