@@ -131,7 +131,9 @@ fn texts_have_faults(rt: HostRuntime) -> Result<(), Fail> {
     for (text, line, kind) in [
         ("", 1, 3),
         ("claim y\nend\n", 1, 2),
-        ("certificate 2\n", 1, 13),
+        ("certificate 0\n", 1, 13),
+        ("certificate 3\n", 1, 13),
+        ("certificate 2\n", 2, 3),
         ("certificate 1\nfield 4\n", 2, 6),
         ("certificate 1\nfield 101\nletters x x\n", 3, 8),
         ("certificate 1\nfield 101\nletters x 1\n", 3, 7),
@@ -159,6 +161,229 @@ fn texts_have_faults(rt: HostRuntime) -> Result<(), Fail> {
         let text = format!(in alloc; "{HEAD}{lines}")?;
         assert!(rt; faults(alloc, &text, line, kind)?, "at {lines}");
     }
+    Ok(())
+}
+
+const SQUARES: &str =
+    "certificate 2\nfield 101\nletters x y\ngenerator x*x + 100*y\nclaim 100*y*x + x*y\n";
+
+const SHORT: &str = "certificate 2\nfield 101\nletters x y\ngenerator x\n";
+
+const GROWS: &str = "line\npart 1 x {1} 1\npart 1 y {1} 1\n";
+
+#[test]
+fn certificates_of_form_2_are_checked(rt: HostRuntime) -> Result<(), Fail> {
+    let alloc = rt.alloc();
+    let commuted = "line\npart 1 1 [1] 1\nline\npart 1 x {1} 1\npart 100 1 {1} x\nline\n";
+    for (head, lines, status, report) in [
+        (SQUARES, "part 100 1 {2} 1\nend\n", Status::Done, "valid\n"),
+        (
+            SQUARES,
+            "part 99 1 {2} 1\nend\n",
+            Status::Invalid,
+            "invalid\nrest y*x + 100*x*y\n",
+        ),
+        // Not in printed form: a comment, a coefficient above the prime, an exponent, numbers with leading zeros.
+        (
+            SQUARES,
+            "# twice\npart 201 x^0 {02} 01 # less\n\tpart 0 x{ 1 }y\nend",
+            Status::Done,
+            "valid\n",
+        ),
+        // The last line counts, and it has no parts.
+        (
+            SQUARES,
+            "part 100 1 {2} 1\nline\nend\n",
+            Status::Invalid,
+            "invalid\nrest 100*y*x + x*y\n",
+        ),
+    ] {
+        let text = format!(in alloc; "{head}{commuted}{lines}")?;
+        assert_eq!(rt;
+            reports(alloc, "check", &text, report)?,
+            (status, true),
+            "at {lines}"
+        );
+    }
+    for (lines, status, report) in [
+        ("claim 0\nend\n", Status::Done, "valid\n"),
+        ("claim 0\nline\nend\n", Status::Done, "valid\n"),
+        ("claim x\nend\n", Status::Invalid, "invalid\nrest x\n"),
+        (
+            "claim x\nline\npart 1 1 [1] 1\nend\n",
+            Status::Done,
+            "valid\n",
+        ),
+        (
+            "claim x*x + x*y*x\nline\npart 1 x [1] 1\nline\npart 1 1 {1} 1\npart 1 x*y [1] 1\nend\n",
+            Status::Done,
+            "valid\n",
+        ),
+    ] {
+        let text = format!(in alloc; "{SHORT}{lines}")?;
+        assert_eq!(rt;
+            reports(alloc, "check", &text, report)?,
+            (status, true),
+            "at {lines}"
+        );
+    }
+    Ok(())
+}
+
+#[test]
+fn lines_are_multiplied_by_later_lines(rt: HostRuntime) -> Result<(), Fail> {
+    let alloc = rt.alloc();
+    let first = "claim x\nline\npart 1 1 [1] 1\n";
+    let second = "line\npart 1 x {2} 1\npart 1 y {2} 1\n";
+    for (lines, status, report) in [
+        ("", Status::Done, "valid\n"),
+        (
+            GROWS,
+            Status::Invalid,
+            "invalid\nrest 100*y*x + 100*x*x + x\n",
+        ),
+    ] {
+        let text = format!(in alloc; "{SHORT}{first}{lines}end\n")?;
+        assert_eq!(rt;
+            reports(alloc, "check", &text, report)?,
+            (status, true),
+            "at {lines}"
+        );
+    }
+    let text = format!(in alloc; "{SHORT}{first}{GROWS}{second}end\n")?;
+    let report = "invalid\nrest 100*y*y*x + 100*y*x*x + 100*x*y*x + 100*x*x*x + x\n";
+    assert_eq!(rt;
+        reports(alloc, "check", &text, report)?,
+        (Status::Invalid, true)
+    );
+    Ok(())
+}
+
+/// A certificate whose line with number 196 has a part of so many letters more than 99,960.
+fn text_of_reach(alloc: Global, more: u32) -> Result<String, Fail> {
+    let mut text = String::from_str(
+        alloc,
+        "certificate 2\nfield 2\nletters x\ngenerator x^255\nclaim 0\n",
+    )?;
+    text.push_str("line\npart 0 x^255 [1] x^255\n")?;
+    for line in 1..195 {
+        text.push_str(format!(in alloc; "line\npart 0 x^255 {{{line}}} x^255\n")?.as_str())?;
+    }
+    text.push_str(format!(in alloc; "line\npart 0 x^255 {{195}} x^{more}\nend\n")?.as_str())?;
+    Ok(text)
+}
+
+#[test]
+fn words_of_values_have_at_most_100000_letters(rt: HostRuntime) -> Result<(), Fail> {
+    let alloc = rt.alloc();
+    // 255 letters of the generator, 195 times 510, and 255 more.
+    assert_eq!(rt;
+        reports(alloc, "check", &text_of_reach(alloc, 40)?, "valid\n")?,
+        (Status::Done, true)
+    );
+    assert!(rt; faults(alloc, &text_of_reach(alloc, 41)?, 397, 15)?);
+    Ok(())
+}
+
+#[test]
+fn letters_have_weights(rt: HostRuntime) -> Result<(), Fail> {
+    let alloc = rt.alloc();
+    let terms = "generator 100*y + x*x\nclaim 100*y*x + x*y\nterm 100 x [1] 1\nterm 1 1 [1] x\n";
+    let lines = "claim 5 + x + y + x*x + x*x*x\n";
+    for (form, weights, lines, status, report) in [
+        (1, "weights 1 2\n", terms, Status::Done, "valid\n"),
+        (1, "weights 1 1\n", terms, Status::Done, "valid\n"),
+        (1, "", terms, Status::Done, "valid\n"),
+        (
+            1,
+            "",
+            lines,
+            Status::Invalid,
+            "invalid\nrest x*x*x + x*x + y + x + 5\n",
+        ),
+        (
+            1,
+            "weights 1 1\n",
+            lines,
+            Status::Invalid,
+            "invalid\nrest x*x*x + x*x + y + x + 5\n",
+        ),
+        (
+            1,
+            "weights 1 2 # y\n",
+            lines,
+            Status::Invalid,
+            "invalid\nrest x*x*x + y + x*x + x + 5\n",
+        ),
+        (
+            2,
+            "weights 01 3\n",
+            lines,
+            Status::Invalid,
+            "invalid\nrest y + x*x*x + x*x + x + 5\n",
+        ),
+        (
+            2,
+            "weights 1 100\n",
+            lines,
+            Status::Invalid,
+            "invalid\nrest y + x*x*x + x*x + x + 5\n",
+        ),
+        (
+            2,
+            "weights 100 1\n",
+            lines,
+            Status::Invalid,
+            "invalid\nrest x*x*x + x*x + x + y + 5\n",
+        ),
+    ] {
+        let text = format!(in alloc;
+            "certificate {form}\nfield 101\nletters x y\n{weights}{lines}end\n"
+        )?;
+        assert_eq!(rt;
+            reports(alloc, "check", &text, report)?,
+            (status, true),
+            "{text}"
+        );
+    }
+    Ok(())
+}
+
+#[test]
+fn weights_and_lines_have_faults(rt: HostRuntime) -> Result<(), Fail> {
+    let alloc = rt.alloc();
+    for (lines, line, kind) in [
+        ("weights 1\n", 4, 4),
+        ("weights\n", 4, 4),
+        ("weights 1 1 1\n", 4, 4),
+        ("weights 1 y\n", 4, 4),
+        ("weights 1 0\n", 4, 13),
+        ("weights 1 101\n", 4, 13),
+        ("weights 1 1\nweights 1 1\n", 5, 2),
+        ("generator x\nweights 1 1\n", 5, 2),
+        ("claim 0\npart 1 1 [1] 1\nend\n", 5, 2),
+        ("claim 0\nterm 1 1 [1] 1\nend\n", 5, 2),
+        ("claim 0\nline\nterm 1 1 [1] 1\nend\n", 6, 2),
+        ("claim 0\nline 1\nend\n", 5, 4),
+        ("claim 0\nline\npart 1 1 {1} 1\nend\n", 6, 13),
+        ("claim 0\nline\nline\npart 1 1 {0} 1\nend\n", 7, 13),
+        ("claim 0\nline\nline\npart 1 1 {2} 1\nend\n", 7, 13),
+        ("claim 0\nline\npart 1 1 [1] 1\nend\n", 6, 13),
+        ("claim 0\nline\nline\npart 1 1 {1] 1\nend\n", 7, 4),
+        ("claim 0\nline\nline\npart 1 1 1\nend\n", 7, 4),
+        ("claim 0\nline\n", 6, 3),
+    ] {
+        let text = format!(in alloc; "certificate 2\nfield 101\nletters x y\n{lines}")?;
+        assert!(rt; faults(alloc, &text, line, kind)?, "at {lines}");
+    }
+    assert!(rt;
+        faults(
+            alloc,
+            "certificate 1\nfield 101\nletters x\nclaim 0\nline\nend\n",
+            5,
+            2
+        )?
+    );
     Ok(())
 }
 
