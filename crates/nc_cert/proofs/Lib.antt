@@ -6,3 +6,7 @@ pub mod Values
 pub mod Rests
 pub mod Letters
 pub mod Tested
+pub mod Sizes
+pub mod Spending
+pub mod Charges
+pub mod Limits

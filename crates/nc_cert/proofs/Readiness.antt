@@ -23,7 +23,7 @@ use Rattle.std.specs.List.{All, AllByRecursion, AllZip}
 pub above_one : (s : NamedSetting) → IsSetting s → 1 < s.setting.prime
 above_one s h = (listed_is_prime s.setting.prime h.prime).above_one
 
-item-normal : (p : ℕ) (values : List Polynomial) (k : ℕ) → item [] (map (normal_form p) values) k ≡ normal_form p (item [] values k)
+pub item-normal : (p : ℕ) (values : List Polynomial) (k : ℕ) → item [] (map (normal_form p) values) k ≡ normal_form p (item [] values k)
 unfolding normal_form
 item-normal p values zero = refl
 item-normal p values (suc k) = get_or-map (normal_form p) values k []

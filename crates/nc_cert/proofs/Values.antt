@@ -31,7 +31,7 @@ module _ (s : NamedSetting) (is : IsSetting s) where
       negative_back s.setting.prime (line_value s.setting (normals lines) line) (above_one s is)
       ∙ normal_form_equal s.setting.prime (line_value s.setting (normals lines) line) (line_value s.setting (values_of s.setting lines) line) (omega (arith, above_one s is)) (same_line s.setting (omega (arith, above_one s is)) (values_of s.setting lines) line)
 
-  split : (lines : List Line) (i : ℕ) (line : Line) → i < length lines → line ≡ get_or lines i line → lines ≡ take i lines ++ line ∷ drop (suc i) lines
+  pub split : (lines : List Line) (i : ℕ) (line : Line) → i < length lines → line ≡ get_or lines i line → lines ≡ take i lines ++ line ∷ drop (suc i) lines
   split lines i line within at = sym (take-append-drop i lines) ∙ ap (λ (l : List Line). take i lines ++ l) (drop-cons lines i line within ∙ ap (λ (l : Line). l ∷ drop (suc i) lines) (sym at))
 
   -- the line at a place is ready

@@ -1,2 +1,4 @@
+pub mod Charges
 pub mod Checking
 pub mod Ready
+pub mod Spent

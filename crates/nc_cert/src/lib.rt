@@ -1,9 +1,11 @@
 //! The check of certificates of ideal membership.
 #![tactic(auto)]
 
+mod charge;
 mod checking;
+mod taking;
 #[cfg(test)]
 mod tests;
 mod value;
 
-pub use checking::{Verdict, check};
+pub use checking::{MAX_CHARGE, Verdict, check, limit_law};

@@ -6,6 +6,7 @@ ghost use Rattle.nc_algebra.specs.Polynomials.{AreResidues};
 ghost use Rattle.nc_module.specs.Factors.{factor_of};
 ghost use Rattle.std.specs.Prelude.{IfOk, [], length, ◌+◌, ◌<◌, ◌∷◌, ◌≡◌, ◌≤◌};
 
+use crate::checking::check_within;
 use crate::{Verdict, check};
 use nc_field::{Prime, Residue};
 use nc_module::{Alphabet, Certificate, Line, Lines, Name, Of, Part, Setting};
@@ -115,11 +116,12 @@ fn two_lines(
     })
 }
 
-/// What the check says.
-fn verdict(alloc: Global, certificate: &Certificate) -> Result<String, Fail> {
+/// What a check says.
+fn text(alloc: Global, verdict: Verdict) -> Result<String, Fail> {
     let mut out = String::new(alloc);
-    match check(alloc, certificate)? {
+    match verdict {
         Verdict::Valid => write!(out, "valid")?,
+        Verdict::TooMuch { line, charge } => write!(out, "line {line}, charge {charge}")?,
         Verdict::Invalid(rest) => {
             for term in rest.terms() {
                 write!(out, " {}", term.coefficient)?;
@@ -140,8 +142,29 @@ fn without_lines(rt: HostRuntime) -> Result<(), Fail> {
         claim: Poly::zero(alloc),
         lines: Lines::empty(alloc),
     };
-    assert_eq!(rt; verdict(alloc, &certificate)?.as_str(), "valid");
+    assert_eq!(rt; text(alloc, check(alloc, &certificate)?)?.as_str(), "valid");
     Ok(())
+}
+
+/// The certificate of x (x x - y) y for its value.
+fn product(
+    alloc: Global,
+    first: (Residue, &str),
+    second: (Residue, &str),
+) -> Result<Certificate, Fail> {
+    let setting = setting(alloc)?;
+    let claim = polynomial(alloc, setting.prime(), first, second)?;
+    let left = letters(alloc, "x")?;
+    let right = letters(alloc, "y")?;
+    let alphabet = setting.alphabet();
+    if setting.generators().is_empty()
+        || !alphabet.is_generator(setting.prime(), &claim)
+        || !alphabet.is_text_word(&left)
+        || !alphabet.is_text_word(&right)
+    {
+        return Err("no certificate".into());
+    }
+    two_lines(alloc, setting, claim, &left, &right)
 }
 
 #[test]
@@ -154,20 +177,28 @@ fn with_lines(rt: HostRuntime) -> Result<(), Fail> {
         ((1, "xx"), (100, "y"), " 100xxxy 1xyy 1xx 100y"),
         ((1, "x"), (0, ""), " 100xxxy 1xyy 1x"),
     ] {
-        let setting = setting(alloc)?;
-        let claim = polynomial(alloc, setting.prime(), first, second)?;
-        let left = letters(alloc, "x")?;
-        let right = letters(alloc, "y")?;
-        let alphabet = setting.alphabet();
-        if setting.generators().is_empty()
-            || !alphabet.is_generator(setting.prime(), &claim)
-            || !alphabet.is_text_word(&left)
-            || !alphabet.is_text_word(&right)
-        {
-            return Err("no certificate".into());
-        }
-        let certificate = two_lines(alloc, setting, claim, &left, &right)?;
-        assert_eq!(rt; verdict(alloc, &certificate)?.as_str(), want);
+        let certificate = product(alloc, first, second)?;
+        assert_eq!(rt; text(alloc, check(alloc, &certificate)?)?.as_str(), want);
+    }
+    Ok(())
+}
+
+#[test]
+fn with_limits(rt: HostRuntime) -> Result<(), Fail> {
+    let alloc = rt.alloc();
+    // The first line costs (1 + 2) + (1 + 1), and x (x x - y) y costs (1 + 4) + (1 + 3) more.
+    let certificate = product(alloc, (1, "xxxy"), (100, "xyy"))?;
+    for (limit, want) in [
+        (0, "line 1, charge 5"),
+        (4, "line 1, charge 5"),
+        (5, "line 2, charge 14"),
+        (13, "line 2, charge 14"),
+        (14, "valid"),
+    ] {
+        assert_eq!(rt;
+            text(alloc, check_within(alloc, &certificate, limit)?)?.as_str(),
+            want
+        );
     }
     Ok(())
 }

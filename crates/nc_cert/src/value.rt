@@ -1,12 +1,12 @@
 //! Values of lines.
 
-ghost use Rattle.nc_algebra.specs.Certificates.{AreLines, IsFactor, factor_value, line_value, part_value, values_of};
+ghost use Rattle.nc_algebra.specs.Certificates.{IsFactor, factor_value, line_value, part_value};
 ghost use Rattle.nc_algebra.specs.Polynomials.{AreResidues, normal_form};
 ghost use Rattle.nc_algebra.specs.Sums.{SameSum, minus};
 ghost use Rattle.nc_algebra.specs.Words.{same_word};
 ghost use Rattle.nc_cert.specs.Ready.{IsReady};
 ghost use Rattle.nc_module.specs.Factors.{factor_of};
-ghost use Rattle.std.specs.Prelude.{All, IfOk, OnOk, [], length, map, ◌<◌, ◌≡◌};
+ghost use Rattle.std.specs.Prelude.{All, IfOk, OnOk, length, ◌<◌, ◌≡◌};
 
 use nc_field::Residue;
 use nc_module::{Line, Of, Part, Setting};
@@ -14,7 +14,7 @@ use nc_poly::{Accumulator, Poly};
 use std::alloc::{AllocError, Global};
 
 /// What a part multiplies, over the values of the lines before.
-fn factor<'a>(setting: &'a Setting, values: &'a [Poly], of: Of) -> &'a Poly
+pub(crate) fn factor<'a>(setting: &'a Setting, values: &'a [Poly], of: Of) -> &'a Poly
     requires { IsFactor setting.now.setting (length values.now) (factor_of of) }
     ensures { result.now ≡ factor_value setting.now.setting values.now (factor_of of) }
 {
@@ -71,22 +71,4 @@ pub(crate) fn minus_line(
         sub_part(alloc, &mut sum, c, setting, values, part)?;
     }
     Ok(sum.finish(setting.prime()))
-}
-
-/// The values of the lines, each in normal form.
-pub(crate) fn values_of(
-    alloc: Global,
-    setting: &Setting,
-    lines: &[Line],
-) -> Result<Vec<Poly>, AllocError>
-    requires { AreLines setting.now [] lines.now }
-    ensures { IfOk result (λ values. values.items ≡ map (normal_form setting.now.setting.prime) (values_of setting.now.setting lines.now)) }
-{
-    let minus_one = setting.prime().neg(1);
-    let mut values = Vec::with_capacity(alloc, lines.len())?;
-    for line in lines {
-        let value = minus_line(alloc, Poly::zero(alloc), minus_one, setting, &values, line)?;
-        values.push(value)?;
-    }
-    Ok(values)
 }
