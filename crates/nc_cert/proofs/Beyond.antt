@@ -1,7 +1,7 @@
 -- The search for the first part beyond the limit finds it exactly where there is one.
 use Rattle.nc_cert.specs.Beyond.{first_beyond}
 use Rattle.nc_cert.specs.Charges.{Charge, IsTooMuch, IsWithinLimit, total}
-use Rattle.std.proofs.Common.{Bool, List, None, Option, Some, [], ap, arith, if◌then◌else◌, ltb, refl, sym, true, false, ℕ, ◌++◌, ◌+◌, ◌<◌, ◌∙◌, ◌∷◌, ◌≡◌, ◌≤◌}
+use Rattle.std.proofs.Common.{Bool, List, None, Option, Some, [], ap, ap₂, arith, if◌then◌else◌, ltb, refl, sym, true, false, ℕ, ◌++◌, ◌+◌, ◌<◌, ◌∙◌, ◌∷◌, ◌≡◌, ◌≤◌}
 use Rattle.std.proofs.lemmas.Bool.{le-ltb, lt-ltb}
 use Rattle.std.proofs.lemmas.List.Sums.{sum_by-cons}
 
@@ -33,12 +33,15 @@ found_beyond limit spent (d ∷ before) c after within beyond =
 pub within_none : (limit : ℕ) (charges : List Charge) → IsWithinLimit limit charges → first_beyond limit 0 charges ≡ None
 within_none limit charges within = none_beyond limit 0 charges (omega (arith, within))
 
+charge_of : ℕ → ℕ → Charge
+charge_of k t = record { line = k; amount = t }
+
 -- else it is the one that is too much
 pub much_found : (limit : ℕ) (charges : List Charge) (k t : ℕ) → IsTooMuch limit charges k t → first_beyond limit 0 charges ≡ Some (record { line = k; amount = t })
+unfolding charge_of
 much_found limit charges k t h =
+    let l : h.first.line ≡ k = sym h.line in
+    let a : 0 + total h.before + h.first.amount ≡ t = omega (arith, h.charge) in
     ap (first_beyond limit 0) h.parts
     ∙ found_beyond limit 0 h.before h.first h.after (omega (arith, h.within)) (omega (arith, h.beyond, h.charge))
-    ∙ ap (λ (c : Charge). Some c) (same (sym h.line) (omega (arith, h.charge)))
-  where
-    same : h.first.line ≡ k → 0 + total h.before + h.first.amount ≡ t → record { line = h.first.line; amount = 0 + total h.before + h.first.amount } ≡ record { line = k; amount = t }
-    same l a i = record { line = l i; amount = a i }
+    ∙ ap₂ (λ (i j : ℕ). Some (charge_of i j)) l a

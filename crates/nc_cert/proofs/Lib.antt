@@ -10,3 +10,4 @@ pub mod Sizes
 pub mod Spending
 pub mod Charges
 pub mod Limits
+pub mod Beyond
