@@ -259,6 +259,39 @@ fn lines_are_multiplied_by_later_lines(rt: HostRuntime) -> Result<(), Fail> {
     Ok(())
 }
 
+/// A certificate of so many lines, of which each has twice the words of the one before.
+fn text_of_doubling(alloc: Global, lines: u32) -> Result<String, Fail> {
+    let head = "certificate 2\nfield 101\nletters x y\ngenerator x\nclaim x\nline\npart 1 1 [1] 1\n";
+    let mut text = String::from_str(alloc, head)?;
+    for line in 1..lines {
+        let parts = format!(in alloc; "line\npart 1 x {{{line}}} 1\npart 1 y {{{line}}} 1\n")?;
+        text.push_str(parts.as_str())?;
+    }
+    text.push_str("end\n")?;
+    Ok(text)
+}
+
+#[test]
+fn work_has_a_limit(rt: HostRuntime) -> Result<(), Fail> {
+    let alloc = rt.alloc();
+    // Line K takes the charge to K times the K-th power of 2, which is 92,274,688 for 22; half of line 23 comes on top.
+    let charge = 142_606_336;
+    assert_eq!(rt;
+        reports(
+            alloc,
+            "check",
+            &text_of_doubling(alloc, 23)?,
+            "too much work: line 23 needs 142606336\n"
+        )?,
+        (Status::TooMuch { line: 23, charge }, true)
+    );
+    assert_eq!(rt;
+        reports(alloc, "check", &text_of_doubling(alloc, 1)?, "valid\n")?,
+        (Status::Done, true)
+    );
+    Ok(())
+}
+
 /// A certificate whose line with number 196 has a part of so many letters more than 99,960.
 fn text_of_reach(alloc: Global, more: u32) -> Result<String, Fail> {
     let mut text = String::from_str(
@@ -531,6 +564,7 @@ fn statuses_have_their_codes(rt: HostRuntime) {
         (Status::Usage, 2),
         (Status::BadText { line: 7, kind: 2 }, 3),
         (Status::TooLarge, 3),
+        (Status::TooMuch { line: 1, charge: 7 }, 4),
         (Status::ReadFault, 5),
         (Status::WriteFault, 6),
         (Status::OutOfMemory, 7),
