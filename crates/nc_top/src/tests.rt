@@ -261,7 +261,8 @@ fn lines_are_multiplied_by_later_lines(rt: HostRuntime) -> Result<(), Fail> {
 
 /// A certificate of so many lines, of which each has twice the words of the one before.
 fn text_of_doubling(alloc: Global, lines: u32) -> Result<String, Fail> {
-    let head = "certificate 2\nfield 101\nletters x y\ngenerator x\nclaim x\nline\npart 1 1 [1] 1\n";
+    let head =
+        "certificate 2\nfield 101\nletters x y\ngenerator x\nclaim x\nline\npart 1 1 [1] 1\n";
     let mut text = String::from_str(alloc, head)?;
     for line in 1..lines {
         let parts = format!(in alloc; "line\npart 1 x {{{line}}} 1\npart 1 y {{{line}}} 1\n")?;
