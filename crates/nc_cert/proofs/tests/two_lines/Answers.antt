@@ -1,4 +1,4 @@
-use Rattle.nc_algebra.specs.Certificates.{Factor, Line, Part}
+use Rattle.nc_algebra.specs.Certificates.{Factor, Line}
 use Rattle.nc_algebra.specs.Words.{Word}
 use Rattle.nc_cert.proofs.Tested.{plain_part, two_lines}
 use Rattle.std.proofs.Common.{List, [], ap, ap₂, ◌++◌, ◌∙◌, ◌∷◌}
