@@ -1,7 +1,6 @@
 //! The charges of parts.
 
 ghost use Rattle.nc_algebra.specs.Certificates.{IsFactor, factor_value};
-ghost use Rattle.nc_algebra.specs.Elements.{Setting};
 ghost use Rattle.nc_cert.specs.Charges.{products_charge};
 ghost use Rattle.nc_cert.specs.Ready.{IsReady};
 ghost use Rattle.nc_cert.specs.Spent.{IsSpending, kept_charge, letters_of};

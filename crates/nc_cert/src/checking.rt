@@ -5,7 +5,7 @@ ghost use Rattle.nc_algebra.specs.Polynomials.{IsNormal};
 ghost use Rattle.nc_algebra.specs.Settings.{IsSetting};
 ghost use Rattle.nc_cert.specs.Charges.{Charge, LimitLaw};
 ghost use Rattle.nc_cert.specs.Checking.{IsRest, IsVerdict, IsVerdictWithin};
-ghost use Rattle.std.specs.Prelude.{IfOk, List, [], length, ℕ, ◌≡◌, ◌≤◌};
+ghost use Rattle.std.specs.Prelude.{IfOk, List, [], length, ℕ, ◌≤◌};
 
 use crate::charge::{Spending, all_letters, spend};
 use crate::taking::{Taken, take_lines};

@@ -92,7 +92,8 @@ fn line(alloc: Global, left: &[Letter], of: Of, right: &[Letter]) -> Result<Line
     Ok(line)
 }
 
-/// The certificate whose first line is the generator, and its second one that line's value between two words.
+/// The certificate whose first line is the generator, and its second one that line's value between two words, and zero
+/// times that value.
 fn two_lines(
     alloc: Global,
     setting: Setting,
@@ -108,7 +109,14 @@ fn two_lines(
     let _prime = setting.prime();
     let mut lines = Lines::empty(alloc);
     lines.push(line(alloc, &[], Of::Generator(1), &[])?)?;
-    lines.push(line(alloc, left, Of::Line(1), right)?)?;
+    let mut second = line(alloc, left, Of::Line(1), right)?;
+    second.push(Part {
+        coefficient: 0,
+        left: Word::empty(alloc),
+        of: Of::Line(1),
+        right: Word::empty(alloc),
+    })?;
+    lines.push(second)?;
     Ok(Certificate {
         setting,
         claim,
@@ -186,14 +194,17 @@ fn with_lines(rt: HostRuntime) -> Result<(), Fail> {
 #[test]
 fn with_limits(rt: HostRuntime) -> Result<(), Fail> {
     let alloc = rt.alloc();
-    // The first line costs (1 + 2) + (1 + 1), and x (x x - y) y costs (1 + 4) + (1 + 3) more.
+    // The first line costs (1 + 2) + (1 + 1), and x (x x - y) y costs (1 + 4) + (1 + 3) more. Zero times x x - y adds
+    // nothing to the value, but costs 5.
     let certificate = product(alloc, (1, "xxxy"), (100, "xyy"))?;
     for (limit, want) in [
         (0, "line 1, charge 5"),
         (4, "line 1, charge 5"),
         (5, "line 2, charge 14"),
         (13, "line 2, charge 14"),
-        (14, "valid"),
+        (14, "line 2, charge 19"),
+        (18, "line 2, charge 19"),
+        (19, "valid"),
     ] {
         assert_eq!(rt;
             text(alloc, check_within(alloc, &certificate, limit)?)?.as_str(),
