@@ -4,14 +4,13 @@ use Rattle.nc_algebra.specs.Elements.{Setting}
 use Rattle.nc_algebra.specs.Monomials.{Divides, Monomial}
 use Rattle.nc_algebra.specs.Polynomials.{leading}
 use Rattle.nc_algebra.specs.Words.{Word}
-use Rattle.nc_plain.proofs.Quotients.{one_multiple}
 use Rattle.nc_plain.specs.Best.{IsAt}
 use Rattle.nc_plain.specs.Covers.{ApartWith, IsApart, IsApartFrom, IsListedBelow}
 use Rattle.nc_plain.specs.declared.best.Best.{Best}
 use Rattle.nc_plain.specs.declared.place.Around.{Around}
 use Rattle.nc_plain.specs.Places.{IsRegularPlace}
 use Rattle.nc_theory.proofs.Apart.{from_apart, to_apart}
-use Rattle.nc_theory.proofs.Determinism.{listed_same}
+use Rattle.nc_theory.proofs.Determinism.{listed_same, one_multiple}
 use Rattle.nc_theory.specs.Divisors.{leading_at}
 use Rattle.nc_theory.specs.States.{Entry, State, Syzygy}
 use Rattle.nc_theory.specs.Syzygies.{ApartAt, Covered, IsSyzygySignature}

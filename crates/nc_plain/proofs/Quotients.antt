@@ -11,12 +11,11 @@ use Rattle.nc_plain.specs.Best.{IsAt, IsBest, IsBestOf, best_of}
 use Rattle.nc_plain.specs.declared.best.Best.{Best}
 use Rattle.nc_plain.specs.Places.{IsPlace}
 use Rattle.nc_plain.specs.Usable.{IsUsable, IsUsableSignature}
-use Rattle.nc_theory.proofs.Determinism.{listed_same}
+use Rattle.nc_theory.proofs.Determinism.{listed_same, one_multiple}
 use Rattle.nc_theory.specs.Divisors.{Divisor, number_of, signature_at}
 use Rattle.nc_theory.specs.States.{Entry}
-use Rattle.std.proofs.Common.{Bool, List, None, Option, Some, [], ap, ap₂, append-nil, arith, cond, false, get_or, inl, inr, length, length-append, refl, subst, sym, true, ℕ, ◌+◌, ◌++◌, ◌-◌, ◌<◌, ◌∙◌, ◌≡◌, ◌≤◌, ◌⊎◌}
+use Rattle.std.proofs.Common.{Bool, List, None, Option, Some, [], ap, append-nil, arith, cond, false, get_or, inl, inr, length, length-append, refl, subst, sym, true, ℕ, ◌+◌, ◌++◌, ◌-◌, ◌<◌, ◌∙◌, ◌≡◌, ◌≤◌, ◌⊎◌}
 use Rattle.std.proofs.lemmas.Bool.{false≢true}
-use Rattle.std.proofs.lemmas.List.{append_cancel_left, append_cancel_right}
 use Rattle.std.specs.Ordering.{is_lt}
 
 pub no_front : (σ τ : Monomial) (v w : Word) (at : ℕ) → v ≡ σ.left → w ≡ τ.left → at ≡ length w - length v → IsPlace v w at None → ¬ Divides σ τ
@@ -42,21 +41,8 @@ module _ (s : Setting) (entries : List Entry) (τ : Monomial) where
   pub at_none : (n : ℕ) (e : Entry) → n < length entries → e ≡ get_or entries n e → ¬ Divides e.signature τ → IsAt s entries τ n None
   at_none n e h is none w d signed i = none (d.left, d.right, ap (λ (x : Entry). times d.left x.signature d.right) (listed_same entries e d.entry (n, h, sym is) d.listed (sym i)) ∙ signed)
 
-  -- one entry's multiple with signature τ has one word, and stands at one place
-  pub one_multiple : (w v : Word) (d : Divisor s entries w) (e : Divisor s entries v) → signature_at s entries w d ≡ τ → signature_at s entries v e ≡ τ → d.listed.0 ≡ e.listed.0 → (w ≡ v) × (d.left ≡ e.left) × (d.right ≡ e.right) × (d.entry ≡ e.entry)
-  one_multiple w v d e i j k = (sym d.spells ∙ (ap₂ (λ a b. a ++ (leading s.prime d.entry.polynomial ++ b)) left right ∙ (ap (λ x. e.left ++ (leading s.prime x.polynomial ++ e.right)) entry ∙ e.spells)), left, right, entry)
-    where
-      entry : d.entry ≡ e.entry
-      entry = listed_same entries d.entry e.entry d.listed e.listed k
-
-      left : d.left ≡ e.left
-      left = append_cancel_right d.left e.left d.entry.signature.left (ap (λ σ. σ.left) (i ∙ sym j) ∙ ap (λ x. e.left ++ x.signature.left) (sym entry))
-
-      right : d.right ≡ e.right
-      right = append_cancel_left d.entry.signature.right d.right e.right (ap (λ σ. σ.right) (i ∙ sym j) ∙ ap (λ x. x.signature.right ++ e.right) (sym entry))
-
   one_word : (w v : Word) (d : Divisor s entries w) (e : Divisor s entries v) → signature_at s entries w d ≡ τ → signature_at s entries v e ≡ τ → d.listed.0 ≡ e.listed.0 → w ≡ v
-  one_word w v d e i j k = (one_multiple w v d e i j k).0
+  one_word w v d e i j k = (one_multiple s entries τ w v d e i j k).0
 
   pub best_step : (n : ℕ) (best next : Option Best) → IsBestOf s entries τ n best → IsAt s entries τ n next → IsBestOf s entries τ (n + 1) (best_of best next)
   best_step n None None p q = λ w d signed h. go w d signed h (nat_order d.listed.0 n)

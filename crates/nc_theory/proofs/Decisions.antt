@@ -8,7 +8,7 @@ use Rattle.nc_algebra.specs.Monomials.{Divides, Monomial, times, unit_monomial}
 use Rattle.nc_algebra.specs.Polynomials.{leading}
 use Rattle.nc_algebra.specs.Primes.{IsField}
 use Rattle.nc_algebra.specs.Words.{IsWordLess, Word, same_word}
-use Rattle.nc_theory.proofs.Determinism.{fronts_same, listed_same}
+use Rattle.nc_theory.proofs.Determinism.{fronts_same, listed_same, one_multiple}
 use Rattle.nc_theory.proofs.Existence.{choose}
 use Rattle.nc_theory.proofs.Traces.{only_one}
 use Rattle.nc_theory.specs.Divisors.{Divisor, IsBestMultiple, IsChosenDivisor, Multiple, RegularDivisor, signature_at}
@@ -123,16 +123,7 @@ module _ (s : Setting) (field : IsField s.prime) (state : State) (nonzero : (e :
 
   -- one entry's multiple with signature τ has one word
   one_word : (w v : Word) (d : Divisor s state.entries w) (e : Divisor s state.entries v) → signature_at s state.entries w d ≡ τ → signature_at s state.entries v e ≡ τ → d.listed.0 ≡ e.listed.0 → w ≡ v
-  one_word w v d e i j k = sym d.spells ∙ (ap₂ (λ a b. a ++ (leading s.prime d.entry.polynomial ++ b)) left right ∙ (ap (λ x. e.left ++ (leading s.prime x.polynomial ++ e.right)) entry ∙ e.spells))
-    where
-      entry : d.entry ≡ e.entry
-      entry = listed_same state.entries d.entry e.entry d.listed e.listed k
-
-      left : d.left ≡ e.left
-      left = append_cancel_right d.left e.left d.entry.signature.left (ap (λ σ. σ.left) (i ∙ sym j) ∙ ap (λ x. e.left ++ x.signature.left) (sym entry))
-
-      right : d.right ≡ e.right
-      right = append_cancel_left d.entry.signature.right d.right e.right (ap (λ σ. σ.right) (i ∙ sym j) ∙ ap (λ x. x.signature.right ++ e.right) (sym entry))
+  one_word w v d e i j k = (one_multiple s state.entries τ w v d e i j k).0
 
   best_below : (n : ℕ) → ((w : Word) × BestBelow n w) ⊎ NoneBelow n
   best_below zero = inr (λ v e i l. omega arith)

@@ -12,7 +12,7 @@ use Rattle.nc_algebra.specs.Sums.{minus}
 use Rattle.nc_algebra.specs.Words.{IsWordLess, Word, same_word}
 use Rattle.nc_theory.proofs.Chains.{leads_same, same_minus, times_mod}
 use Rattle.nc_theory.proofs.Completeness.{invariant}
-use Rattle.nc_theory.specs.Divisors.{Divisor, IsBestMultiple, IsChosenDivisor, RegularDivisor, multiple_at}
+use Rattle.nc_theory.specs.Divisors.{Divisor, IsBestMultiple, IsChosenDivisor, RegularDivisor, multiple_at, signature_at}
 use Rattle.nc_theory.specs.Reductions.{Reduction}
 use Rattle.nc_theory.specs.Runs.{Handles, IsNext, Outcome, SequentialRun, Starts, state_after}
 use Rattle.nc_theory.specs.States.{Entry, Start, State, Step}
@@ -179,3 +179,16 @@ run_unique P field (SequentialRun.handled {state = state} {last = last} before �
 
         q : o ≡ o'
         q = handles_unique P.setting field state (invariant P field before).sound.nonzero τ h (subst₂ (λ x y. Handles P.setting x y o') (sym a) (sym t) h')
+
+-- one entry's multiple with signature τ has one word, and stands at one place
+pub one_multiple : (s : Setting) (entries : List Entry) (τ : Monomial) (w v : Word) (d : Divisor s entries w) (e : Divisor s entries v) → signature_at s entries w d ≡ τ → signature_at s entries v e ≡ τ → d.listed.0 ≡ e.listed.0 → (w ≡ v) × (d.left ≡ e.left) × (d.right ≡ e.right) × (d.entry ≡ e.entry)
+one_multiple s entries τ w v d e i j k = (sym d.spells ∙ (ap₂ (λ a b. a ++ (leading s.prime d.entry.polynomial ++ b)) left right ∙ (ap (λ x. e.left ++ (leading s.prime x.polynomial ++ e.right)) entry ∙ e.spells)), left, right, entry)
+  where
+    entry : d.entry ≡ e.entry
+    entry = listed_same entries d.entry e.entry d.listed e.listed k
+
+    left : d.left ≡ e.left
+    left = append_cancel_right d.left e.left d.entry.signature.left (ap (λ σ. σ.left) (i ∙ sym j) ∙ ap (λ x. e.left ++ x.signature.left) (sym entry))
+
+    right : d.right ≡ e.right
+    right = append_cancel_left d.entry.signature.right d.right e.right (ap (λ σ. σ.right) (i ∙ sym j) ∙ ap (λ x. x.signature.right ++ e.right) (sym entry))
