@@ -1,7 +1,7 @@
 -- The search for the first part beyond the limit finds it exactly where there is one.
 use Rattle.nc_cert.specs.Beyond.{first_beyond}
 use Rattle.nc_cert.specs.Charges.{Charge, IsTooMuch, IsWithinLimit, total}
-use Rattle.std.proofs.Common.{Bool, List, None, Option, Some, [], ap, ap₂, arith, if◌then◌else◌, ltb, refl, sym, true, false, ℕ, ◌++◌, ◌+◌, ◌<◌, ◌∙◌, ◌∷◌, ◌≡◌, ◌≤◌}
+use Rattle.std.proofs.Common.{Bool, List, None, Some, [], ap, ap₂, arith, if◌then◌else◌, ltb, refl, sym, true, false, ℕ, ◌++◌, ◌+◌, ◌<◌, ◌∙◌, ◌∷◌, ◌≡◌, ◌≤◌}
 use Rattle.std.proofs.lemmas.Bool.{le-ltb, lt-ltb}
 use Rattle.std.proofs.lemmas.List.Sums.{sum_by-cons}
 

@@ -11,3 +11,4 @@ pub mod Spending
 pub mod Charges
 pub mod Limits
 pub mod Beyond
+pub mod Examples
