@@ -1,7 +1,9 @@
 //! Words.
 
-ghost use Rattle.nc_algebra.specs.Words.{compare_words, word_weight};
-ghost use Rattle.std.specs.Prelude.{IfOk, IsOk, [], length, ◌*◌, ◌+◌, ◌++◌, ◌≡◌, ◌≤◌};
+ghost use Rattle.nc_algebra.proofs.Words.{words_order};
+ghost use Rattle.nc_algebra.specs.Words.{compare_words, same_word, word_weight};
+ghost use Rattle.std.specs.Cmp.{eq_by_cmp_equiv, partial_equiv_from_equiv, partial_order_from_total};
+ghost use Rattle.std.specs.Prelude.{IfOk, IsOk, Some, [], length, refl, ◌*◌, ◌+◌, ◌++◌, ◌≡◌, ◌≤◌};
 
 use crate::letter::Letter;
 use smallvec::SmallVec;
@@ -13,7 +15,7 @@ use std::marker::Model;
 pub const MAX_LETTERS: usize = 200_000;
 
 /// What the letters weigh together.
-fn weight_of(letters: &[Letter]) -> u128
+pub fn weight_of(letters: &[Letter]) -> u128
     ensures weight { result ≡ word_weight letters.now }
     ensures few { result ≤ 100 * length letters.now }
 {
@@ -104,11 +106,43 @@ impl Word {
     {
         weight_of(a).cmp(&weight_of(b)).then(a.cmp(b))
     }
+}
 
-    /// The same order on words, whose weights are known.
-    pub fn order(&self, other: &Word) -> Ordering
-        ensures { result ≡ compare_words self.now other.now }
-    {
+impl PartialEq for Word {
+    ghost eq = { same_word };
+
+    ghost laws = { partial_equiv_from_equiv (eq_by_cmp_equiv words_order) };
+
+    fn eq(&self, other: &Word) -> bool {
+        self.letters() == other.letters()
+    }
+}
+
+impl Eq for Word {
+    ghost laws = { eq_by_cmp_equiv words_order };
+}
+
+impl PartialOrd for Word {
+    ghost partial_cmp = { λ u v. Some (compare_words u v) };
+
+    ghost laws = { partial_order_from_total words_order };
+
+    fn partial_cmp(&self, other: &Word) -> Option<Ordering> {
+        Some(self.cmp(other))
+    }
+}
+
+/// The order that `Word::compare` gives, on words whose weights are known.
+impl Ord for Word {
+    ghost cmp = { compare_words };
+
+    ghost total = { words_order };
+
+    ghost matches_partial_cmp = { λ u v. refl };
+
+    ghost matches_eq = { λ u v. refl };
+
+    fn cmp(&self, other: &Word) -> Ordering {
         self.weight
             .cmp(&other.weight)
             .then(self.letters().cmp(other.letters()))
@@ -118,6 +152,7 @@ impl Word {
 #[cfg(test)]
 mod tests {
     use super::*;
+    use std::collections::BTreeMap;
     use std::test::Fail;
 
     /// The letter with this number and weight.
@@ -149,7 +184,7 @@ mod tests {
     {
         let u = Word::join(alloc, a, &[], &[])?;
         let v = Word::join(alloc, &[], b, &[])?;
-        Ok((Word::compare(a, b), u.order(&v)))
+        Ok((Word::compare(a, b), u.cmp(&v)))
     }
 
     #[test]
@@ -178,8 +213,22 @@ mod tests {
         let word = Word::join(alloc, &ten, &ten, &ten)?;
         assert_eq!(rt; word.letters().len(), 30);
         assert_eq!(rt; word.weight(), 3000);
-        assert_eq!(rt; word.order(&word.copy()?), Ordering::Equal);
+        assert!(rt; word == word.copy()?);
+        assert!(rt; word > Word::empty(alloc));
         assert_eq!(rt; Word::empty(alloc).weight(), 0);
+        Ok(())
+    }
+
+    #[test]
+    fn words_are_keys(rt: HostRuntime) -> Result<(), Fail> {
+        let alloc = rt.alloc();
+        let x = letter(0, 1)?;
+        let heavy = letter(1, 3)?;
+        let mut lengths = BTreeMap::new(alloc);
+        for word in [&[heavy] as &[Letter], &[x, x], &[x], &[x, x]] {
+            lengths.insert(Word::join(alloc, word, &[], &[])?, word.len())?;
+        }
+        assert!(rt; lengths.values().eq(&[1, 2, 1]));
         Ok(())
     }
 }
