@@ -1,9 +1,16 @@
 //! Signatures.
 
+ghost use Rattle.nc_algebra.specs.Monomials.{above_degree, compare_sigs, monomial_of, sig_times};
 ghost use Rattle.nc_algebra.specs.Words.{word_weight};
-ghost use Rattle.std.specs.Prelude.{◌+◌, ◌≡◌, ◌≤◌};
+ghost use Rattle.nc_sig.specs.Orders.{sigs_order};
+ghost use Rattle.nc_sig.specs.Sigs.{IsBoundBy, IsQuotient};
+ghost use Rattle.std.specs.Cmp.{eq_by_cmp_equiv, partial_equiv_from_equiv, partial_order_from_total};
+ghost use Rattle.std.specs.Ordering.{is_eq};
+ghost use Rattle.std.specs.Prelude.{IfOk, Some, length, refl, ◌+◌, ◌<◌, ◌≡◌, ◌≤◌};
 
-use nc_words::Word;
+use nc_words::{Joined, Letter, Word, weight_of};
+use std::alloc::{AllocError, Global};
+use std::cmp::Ordering;
 use std::marker::Model;
 
 /// The module monomial `left [generator] right`, with its degree. Generators are counted from 1.
@@ -44,13 +51,152 @@ impl Sig {
             right,
         }
     }
+
+    /// Above each monomial of at most this degree and below all others: generator 0 stands for none. No memory is taken.
+    pub fn above(alloc: Global, degree: u32) -> Sig
+        requires { degree < 4294967295 }
+        ensures value { result ≡ above_degree degree }
+        ensures bound { IsBoundBy result degree }
+    {
+        Sig {
+            degree: degree + 1,
+            generator: 0,
+            left: Word::empty(alloc),
+            right: Word::empty(alloc),
+        }
+    }
+
+    /// An equal one.
+    pub fn copy(&self) -> Result<Sig, AllocError>
+        ensures { IfOk result (λ s. s ≡ self.now) }
+    {
+        let left = self.left.copy()?;
+        let right = self.right.copy()?;
+        Ok(Sig {
+            degree: self.degree,
+            generator: self.generator,
+            left,
+            right,
+        })
+    }
+
+    /// The multiple `u self v`.
+    pub fn times(&self, alloc: Global, u: &[Letter], v: &[Letter]) -> Result<Sig, AllocError>
+        requires degree { word_weight u.now + self.now.degree + word_weight v.now ≤ 300000 }
+        requires left { length u.now + length self.now.left ≤ 200000 }
+        requires right { length self.now.right + length v.now ≤ 200000 }
+        ensures { IfOk result (λ s. s ≡ sig_times u.now self.now v.now) }
+    {
+        let left = Word::join(alloc, u, self.left.letters(), &[])?;
+        let right = Word::join(alloc, self.right.letters(), v, &[])?;
+        let degree = weight_of(u) + u128::from(self.degree) + weight_of(v);
+        Ok(Sig {
+            degree: degree as u32,
+            generator: self.generator,
+            left,
+            right,
+        })
+    }
+
+    /// What stands before and behind the other one in this one, where the other one divides it.
+    pub fn divide(&self, by: &Sig) -> Option<(&[Letter], &[Letter])>
+        ensures { IsQuotient (monomial_of by.now) (monomial_of self.now) result }
+    {
+        if self.generator != by.generator
+            || self.left.weight() < by.left.weight()
+            || self.right.weight() < by.right.weight()
+        {
+            return None;
+        }
+        let Some(before) = self.left.letters().strip_suffix(by.left.letters()) else {
+            return None;
+        };
+        let Some(behind) = self.right.letters().strip_prefix(by.right.letters()) else {
+            return None;
+        };
+        Some((before, behind))
+    }
+
+    /// Compares the multiple `u self v` with the other one, without making it.
+    pub fn compare_times(&self, u: &[Letter], v: &[Letter], other: &Sig) -> Ordering
+        ensures { result ≡ compare_sigs (sig_times u.now self.now v.now) other.now }
+    {
+        (weight_of(u) + u128::from(self.degree) + weight_of(v))
+            .cmp(&u128::from(other.degree))
+            .then_with(|| self.generator.cmp(&other.generator))
+            .then_with(|| {
+                Joined::of_two(u, self.left.letters()).compare(&Joined::of_word(
+                    other.left.letters(),
+                ))
+            })
+            .then_with(|| {
+                Joined::of_two(self.right.letters(), v).compare(&Joined::of_word(
+                    other.right.letters(),
+                ))
+            })
+    }
+}
+
+impl PartialEq for Sig {
+    ghost eq = { λ s t. is_eq (compare_sigs s t) };
+
+    ghost laws = { partial_equiv_from_equiv (eq_by_cmp_equiv sigs_order) };
+
+    fn eq(&self, other: &Sig) -> bool {
+        self.cmp(other).is_eq()
+    }
+}
+
+impl Eq for Sig {
+    ghost laws = { eq_by_cmp_equiv sigs_order };
+}
+
+impl PartialOrd for Sig {
+    ghost partial_cmp = { λ s t. Some (compare_sigs s t) };
+
+    ghost laws = { partial_order_from_total sigs_order };
+
+    fn partial_cmp(&self, other: &Sig) -> Option<Ordering> {
+        Some(self.cmp(other))
+    }
+}
+
+/// By degree, then generator, then the left word, then the right one.
+impl Ord for Sig {
+    ghost cmp = { compare_sigs };
+
+    ghost total = { sigs_order };
+
+    ghost matches_partial_cmp = { λ s t. refl };
+
+    ghost matches_eq = { λ s t. refl };
+
+    fn cmp(&self, other: &Sig) -> Ordering {
+        self.degree
+            .cmp(&other.degree)
+            .then_with(|| self.generator.cmp(&other.generator))
+            .then_with(|| self.left.cmp(&other.left))
+            .then_with(|| self.right.cmp(&other.right))
+    }
 }
 
 #[cfg(test)]
 mod tests {
     use super::*;
-    use nc_words::Letter;
     use std::test::Fail;
+
+    /// One with this generator, which weighs 1, and few letters.
+    fn small(alloc: Global, left: &[Letter], generator: u32, right: &[Letter]) -> Result<Sig, Fail>
+        requires left { length left.now ≤ 24 }
+        requires right { length right.now ≤ 24 }
+    {
+        let left = Word::join(alloc, left, &[], &[])?;
+        let right = Word::join(alloc, right, &[], &[])?;
+        if left.weight() > 1000 || right.weight() > 1000 {
+            return Err("too heavy".into());
+        }
+        Ok(Sig::of(1, generator, left, right))
+    }
 
     #[test]
     fn degrees_add_up(rt: HostRuntime) -> Result<(), Fail> {
@@ -66,6 +212,76 @@ mod tests {
         assert_eq!(rt; sig.generator, 2);
         assert_eq!(rt; sig.left.letters().len(), 3);
         assert_eq!(rt; sig.right.letters().len(), 2);
+        Ok(())
+    }
+
+    #[test]
+    fn signatures_divide(rt: HostRuntime) -> Result<(), Fail> {
+        let alloc = rt.alloc();
+        let x = Letter::of(0, 1).ok_or("no such letter")?;
+        let y = Letter::of(1, 1).ok_or("no such letter")?;
+        let whole = small(alloc, &[x, y], 1, &[y, x, y])?;
+        let cases: [(&[Letter], u32, &[Letter], bool); 8] = [
+            (&[y], 1, &[y, x], true),
+            (&[], 1, &[], true),
+            (&[x, y], 1, &[y, x, y], true),
+            (&[y], 2, &[y, x], false),
+            (&[x], 1, &[y], false),
+            (&[y], 1, &[x], false),
+            (&[x, x, y], 1, &[], false),
+            (&[], 1, &[y, x, y, y], false),
+        ];
+        for (left, generator, right, want) in cases {
+            let by = small(alloc, left, generator, right)?;
+            let found = whole.divide(&by);
+            assert_eq!(rt; found.is_some(), want);
+            if let Some((before, behind)) = found {
+                assert_eq!(rt; before.len() + left.len(), 2);
+                assert_eq!(rt; behind.len() + right.len(), 3);
+            }
+        }
+        Ok(())
+    }
+
+    #[test]
+    fn multiples_compare(rt: HostRuntime) -> Result<(), Fail> {
+        let alloc = rt.alloc();
+        let x = Letter::of(0, 1).ok_or("no such letter")?;
+        let y = Letter::of(1, 1).ok_or("no such letter")?;
+        let whole = small(alloc, &[x], 2, &[y])?;
+        let cases: [(&[Letter], u32, &[Letter], Ordering); 6] = [
+            (&[], 1, &[x, x, x], Ordering::Greater),
+            (&[y], 1, &[y], Ordering::Less),
+            (&[], 2, &[y, y], Ordering::Less),
+            (&[x], 2, &[x], Ordering::Less),
+            (&[x], 2, &[y], Ordering::Equal),
+            (&[y], 2, &[x], Ordering::Greater),
+        ];
+        for (left, generator, right, want) in cases {
+            let sig = small(alloc, &[], generator, &[])?;
+            assert_eq!(rt; sig.compare_times(left, right, &whole), want);
+            let multiple = small(alloc, left, generator, right)?;
+            assert_eq!(rt; multiple.cmp(&whole), want);
+        }
+        Ok(())
+    }
+
+    #[test]
+    fn bounds_multiply(rt: HostRuntime) -> Result<(), Fail> {
+        let alloc = rt.alloc();
+        let u = [Letter::of(0, 1).ok_or("no such letter")?];
+        let v = [Letter::of(1, 3).ok_or("no such letter")?];
+        assert!(rt; weight_of(&u) == 1);
+        assert!(rt; weight_of(&v) == 3);
+        let bound = Sig::above(alloc, 2);
+        let multiple = bound.times(alloc, &u, &v)?;
+        assert_eq!(rt; multiple.degree, 7);
+        assert_eq!(rt; multiple.generator, 0);
+        assert_eq!(rt; multiple.left.letters().len(), 1);
+        assert_eq!(rt; multiple.right.letters().len(), 1);
+        let copy = bound.copy()?;
+        assert!(rt; copy == bound);
+        assert!(rt; copy < multiple);
         Ok(())
     }
 }
