@@ -1,3 +1,10 @@
 pub mod Collecting
 pub mod Terms
 pub mod Multiples
+pub mod Equality
+pub mod Shifts
+pub mod Searching
+pub mod Entries
+pub mod Passes
+pub mod Tops
+pub mod Heaps

@@ -1,2 +1,4 @@
 pub mod Collecting
+pub mod Keeping
 pub mod Multiples
+pub mod Ordered

@@ -2,7 +2,11 @@
 use Rattle.nc_algebra.specs.Polynomials.{Polynomial}
 use Rattle.nc_algebra.specs.Sums.{Term}
 use Rattle.nc_algebra.specs.Words.{Word}
-use Rattle.std.specs.Prelude.{map, ℕ, ◌%◌, ◌*◌, ◌++◌}
+use Rattle.std.specs.Prelude.{List, map, ℕ, ◌%◌, ◌*◌, ◌++◌}
+
+-- c times each term, with its key moved
+abbrev pub moved_by : {K : Type 0} → ℕ → ℕ → (K → K) → List (Term K) → List (Term K)
+moved_by p c φ g = map (λ t. record { coefficient = (c * t.coefficient) % p; key = φ t.key }) g
 
 -- c u t v
 abbrev pub multiple_of : ℕ → ℕ → Word → Word → Term Word → Term Word
@@ -11,3 +15,7 @@ multiple_of p c u v t = record { coefficient = (c * t.coefficient) % p; key = u 
 -- c u g v
 abbrev pub multiples_of : ℕ → ℕ → Word → Polynomial → Word → Polynomial
 multiples_of p c u g v = map (multiple_of p c u v) g
+
+-- u t v
+abbrev pub shifted_of : Word → Word → Term Word → Term Word
+shifted_of u v t = record { coefficient = t.coefficient; key = u ++ (t.key ++ v) }

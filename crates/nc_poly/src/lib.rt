@@ -3,12 +3,16 @@
 
 mod accumulator;
 mod collect;
+mod heap;
 mod multiple;
 mod poly;
+mod sum;
 mod term;
 #[cfg(test)]
 mod tests;
 
 pub use accumulator::Accumulator;
+pub use heap::Heap;
 pub use poly::Poly;
+pub use sum::Sum;
 pub use term::Term;

@@ -1,14 +1,14 @@
 //! Polynomials.
 
-ghost use Rattle.nc_algebra.specs.Polynomials.{AreResidues, IsDescending, Polynomial, normal_form, polynomial_times};
+ghost use Rattle.nc_algebra.specs.Polynomials.{AreResidues, IsDescending, Polynomial, coefficient, normal_form, polynomial_times};
 ghost use Rattle.nc_algebra.specs.Sums.{minus, scale};
 ghost use Rattle.std.specs.Prelude.{All, IfOk, IfSome, IsNone, IsTrue, OnErr, OnOk, [], length, take, vec_len, ◌+◌, ◌++◌, ◌<◌, ◌∷◌, ◌≡◌, ◌≤◌, ◌↔◌};
 
 use crate::collect::collect;
-use crate::multiple::push_multiple;
+use crate::multiple::{push_multiple, push_shifted};
 use crate::term::Term;
 use nc_field::{Prime, Residue};
-use nc_words::Letter;
+use nc_words::{Letter, Word};
 use std::alloc::{AllocError, Global};
 use std::marker::Model;
 
@@ -19,6 +19,22 @@ fn push_copies(out: &mut Vec<Term>, terms: &[Term]) -> Result<(), AllocError>
     for t in terms {
         out.push(t.copy()?)?;
     }
+    Ok(())
+}
+
+/// Adds the terms g to a list of terms, and brings it into normal form.
+fn add_terms(alloc: Global, kept: &mut Vec<Term>, p: Prime, g: &[Term]) -> Result<(), AllocError>
+    requires residues { AreResidues p kept.old.items }
+    requires other_residues { AreResidues p g.now }
+    ensures sum { OnOk result (kept.new.items ≡ normal_form p (kept.old.items ++ g.now)) }
+    ensures descending { IsDescending kept.old.items → IsDescending kept.new.items }
+    ensures residues { AreResidues p kept.new.items }
+    ensures err { OnErr result (kept.new.items ≡ kept.old.items) }
+{
+    let mut copies = Vec::with_capacity(alloc, g.len())?;
+    push_copies(&mut copies, g)?;
+    kept.append(&mut copies)?;
+    collect(p, kept);
     Ok(())
 }
 
@@ -107,9 +123,31 @@ impl Poly {
         self.kept.is_empty()
     }
 
+    /// Whether it is the other polynomial.
+    pub fn same(&self, other: &Poly) -> bool
+        ensures { IsTrue result ↔ (self.now ≡ other.now) }
+    {
+        self.terms() == other.terms()
+    }
+
+    /// The coefficient beside the word, or 0 where the word is not listed. No memory is taken.
+    pub fn coefficient(&self, word: &[Letter]) -> Residue
+        ensures { result ≡ coefficient self.now word.now }
+    {
+        let terms = self.kept.as_slice();
+        match terms.binary_search_by(|t| Word::compare(word, t.letters())) {
+            Ok(at) => {
+                let term = &terms[at];
+                term.coefficient
+            }
+            Err(_) => 0,
+        }
+    }
+
     /// The terms as a list.
     pub(crate) fn into_terms(self) -> Vec<Term>
-        ensures { result.items ≡ self }
+        ensures terms { result.items ≡ self }
+        ensures descending { IsDescending self }
     {
         let Poly { kept } = self;
         kept
@@ -122,6 +160,28 @@ impl Poly {
         let mut kept = Vec::with_capacity(*self.kept.allocator(), self.kept.len())?;
         push_copies(&mut kept, self.kept.as_slice())?;
         Ok(Poly { kept })
+    }
+
+    /// The multiple u f v of this polynomial f. The order of words goes with multiplication, so no word is compared.
+    pub fn shifted(&self, alloc: Global, u: &[Letter], v: &[Letter]) -> Result<Poly, AllocError>
+        requires few { All (λ t. length u.now + length t.key + length v.now ≤ 200000) self.now }
+        ensures { IfOk result (λ g. g ≡ polynomial_times u.now self.now v.now) }
+    {
+        let mut kept = Vec::with_capacity(alloc, self.kept.len())?;
+        push_shifted(alloc, &mut kept, u, self.kept.as_slice(), v)?;
+        Ok(Poly { kept })
+    }
+
+    /// Adds g. After `Err` the polynomial is as it was.
+    pub fn add(&mut self, p: Prime, g: &Poly) -> Result<(), AllocError>
+        requires residues { AreResidues p self.old }
+        requires other_residues { AreResidues p g.now }
+        ensures sum { OnOk result (self.new ≡ normal_form p (self.old ++ g.now)) }
+        ensures residues { AreResidues p self.new }
+        ensures err { OnErr result (self.new ≡ self.old) }
+    {
+        let alloc = *self.kept.allocator();
+        add_terms(alloc, &mut self.kept, p, g.terms())
     }
 
     /// Subtracts c u g v. After `Err` the polynomial is as it was.

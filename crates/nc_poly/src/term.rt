@@ -1,6 +1,7 @@
 //! Terms.
 
 ghost use Rattle.nc_algebra.specs.Words.{compare_words, same_word};
+ghost use Rattle.nc_poly.specs.Multiples.{shifted_of};
 ghost use Rattle.std.specs.Prelude.{IfOk, length, nat_eq, ◌%◌, ◌*◌, ◌+◌, ◌++◌, ◌<◌, ◌≡◌, ◌≤◌};
 
 use nc_field::{Prime, Residue};
@@ -10,7 +11,7 @@ use std::cmp::Ordering;
 use std::marker::Model;
 
 /// A coefficient and its word.
-#[derive(Drop)]
+#[derive(Drop, PartialEq, Eq)]
 pub struct Term {
     pub coefficient: Residue,
     pub word: Word,
@@ -46,6 +47,15 @@ impl Term {
         Ok(Term::of(self.coefficient, word))
     }
 
+    /// The word and its coefficient.
+    pub(crate) fn into_pair(self) -> (Word, Residue)
+        ensures word { result.0 ≡ self.key }
+        ensures coefficient { result.1 ≡ self.coefficient }
+    {
+        let Term { coefficient, word } = self;
+        (word, coefficient)
+    }
+
     /// The letters of the word.
     pub fn letters(&self) -> &[Letter]
         ensures letters { result.now ≡ self.now.key }
@@ -58,7 +68,7 @@ impl Term {
     pub fn order(&self, other: &Term) -> Ordering
         ensures { result ≡ compare_words self.now.key other.now.key }
     {
-        self.word.order(&other.word)
+        self.word.cmp(&other.word)
     }
 
     /// Whether the two have one word.
@@ -110,5 +120,14 @@ impl Term {
     {
         let word = Word::join(alloc, u, self.word.letters(), v)?;
         Ok(Term::of(p.mul(c, self.coefficient), word))
+    }
+
+    /// The multiple u t v of this term t.
+    pub fn shifted(&self, alloc: Global, u: &[Letter], v: &[Letter]) -> Result<Term, AllocError>
+        requires few { length u.now + length self.now.key + length v.now ≤ 200000 }
+        ensures { IfOk result (λ t. t ≡ shifted_of u.now v.now self.now) }
+    {
+        let word = Word::join(alloc, u, self.letters(), v)?;
+        Ok(Term::of(self.coefficient, word))
     }
 }

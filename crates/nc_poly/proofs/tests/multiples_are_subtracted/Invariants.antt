@@ -5,4 +5,5 @@ abbrev pub invariant-loop-k : goal.invariant-loop-k
 invariant-loop-k g l = record {
   first : AreResidues l.p l.f;
   second : AreResidues l.p l.sum;
+  third : AreResidues l.p l.heap;
 }
