@@ -1,2 +1,4 @@
+pub mod Bounds
+pub mod Modules
 pub mod Names
 pub mod Settings

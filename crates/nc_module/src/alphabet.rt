@@ -53,6 +53,17 @@ fn are_distinct(names: &[Name]) -> bool
     }
 }
 
+/// Whether they are the same names, in the same order.
+fn same_names(a: &[Name], b: &[Name]) -> bool
+    ensures { IsTrue result ↔ (a.now ≡ b.now) }
+{
+    match (a, b) {
+        ([], []) => true,
+        ([first, a @ ..], [second, b @ ..]) => first.same(second) && same_names(a, b),
+        _ => false,
+    }
+}
+
 impl Alphabet {
     /// The alphabet with these names, of which there are 1 to 64, all different, and these weights, one from 1 to 100
     /// for each name.
@@ -71,6 +82,13 @@ impl Alphabet {
         few && are_names(names)
             && are_distinct(names)
             && weights.iter().all(|w| 1 <= *w && *w <= 100)
+    }
+
+    /// Whether it is the other alphabet.
+    pub fn same(&self, other: &Alphabet) -> bool
+        ensures { IsTrue result ↔ (self.now ≡ other.now) }
+    {
+        same_names(self.names(), other.names()) && self.weights() == other.weights()
     }
 
     /// The names, that of letter 0 first.

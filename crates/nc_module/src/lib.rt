@@ -1,9 +1,10 @@
-//! Settings of generators over an alphabet, and certificates of ideal membership.
+//! Settings of generators over an alphabet, module elements over them, and certificates of ideal membership.
 #![tactic(auto)]
 
 mod alphabet;
 mod certificate;
 mod line;
+mod module;
 mod name;
 mod problem;
 mod setting;
@@ -13,6 +14,7 @@ mod tests;
 pub use alphabet::{Alphabet, has_name};
 pub use certificate::Certificate;
 pub use line::{Line, Lines, MAX_LINES, Of, Part};
+pub use module::{Module, ModuleTerm};
 pub use name::Name;
 pub use problem::{Bound, Problem};
 pub use setting::Setting;

@@ -2,7 +2,7 @@
 
 ghost use Rattle.nc_algebra.specs.Alphabets.{is_name, is_name_byte};
 ghost use Rattle.std.specs.List.{list_all};
-ghost use Rattle.std.specs.Prelude.{IsTrue, None, Some, if◌then◌else◌, ◌≡◌};
+ghost use Rattle.std.specs.Prelude.{IsTrue, None, Some, if◌then◌else◌, ◌≡◌, ◌↔◌};
 
 use std::marker::Model;
 
@@ -61,6 +61,13 @@ impl Name {
             kept,
             len: bytes.len(),
         })
+    }
+
+    /// Whether it is the other name.
+    pub fn same(&self, other: &Name) -> bool
+        ensures { IsTrue result ↔ (self.now ≡ other.now) }
+    {
+        self.bytes() == other.bytes()
     }
 
     /// The bytes of the name.

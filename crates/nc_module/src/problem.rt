@@ -1,8 +1,10 @@
 //! Problems.
 
-ghost use Rattle.nc_algebra.specs.Problems.{IsProblem};
+ghost use Rattle.nc_algebra.specs.Elements.{HasDegree, IsGenerator};
+ghost use Rattle.nc_algebra.specs.Monomials.{monomial_of};
+ghost use Rattle.nc_algebra.specs.Problems.{IsProblem, IsWithin};
 ghost use Rattle.nc_module.specs.Problems.{HasBoundDegree, bound_of};
-ghost use Rattle.std.specs.Prelude.{◌≡◌};
+ghost use Rattle.std.specs.Prelude.{IsTrue, ◌↔◌, ◌≡◌};
 
 use crate::setting::Setting;
 use nc_sig::Sig;
@@ -36,6 +38,26 @@ impl Model for Problem {
     ghost invariant = { λ p. IsProblem (record { problem = record { setting = p.setting.setting; bound = bound_of p.bound; steps = p.steps }; alphabet = p.setting.alphabet }) × HasBoundDegree p.setting.setting p.bound };
 }
 
+/// Whether they are the same monomial, with the same degree.
+fn same_sig(a: &Sig, b: &Sig) -> bool
+    ensures { IsTrue result ↔ (a.now ≡ b.now) }
+{
+    a == b
+}
+
+impl Bound {
+    /// Whether it is the other bound.
+    fn same(&self, other: &Bound) -> bool
+        ensures { IsTrue result ↔ (self.now ≡ other.now) }
+    {
+        match (self, other) {
+            (Bound::Degree(a), Bound::Degree(b)) => a == b,
+            (Bound::Below(a), Bound::Below(b)) => same_sig(a, b),
+            _ => false,
+        }
+    }
+}
+
 impl Problem {
     /// The problem with this setting, this bound and so many steps, at most 1,000,000,000. The bound has a degree of at
     /// most 80,000; if it has a monomial, that is one over the setting, with its degree beside it.
@@ -65,6 +87,28 @@ impl Problem {
         ensures degree { HasBoundDegree self.now.problem.setting result.now }
     {
         &self.bound
+    }
+
+    /// Whether the monomial lies within the bound. Its generator is one of the setting's, and its degree stands beside it.
+    pub fn within(&self, sig: &Sig) -> bool
+        requires generator { IsGenerator self.now.problem.setting sig.now.generator }
+        requires degree { HasDegree self.now.problem.setting sig.now }
+        ensures { IsTrue result ↔ IsWithin self.now.problem (monomial_of sig.now) }
+    {
+        match &self.bound {
+            Bound::Degree(d) => sig.degree <= *d,
+            Bound::Below(beta) => sig.cmp(beta).is_lt(),
+        }
+    }
+
+    /// Whether it is the other problem.
+    pub fn same(&self, other: &Problem) -> bool
+        ensures { IsTrue result ↔ (self.now ≡ other.now) }
+    {
+        if self.steps != other.steps || !self.bound.same(&other.bound) {
+            return false;
+        }
+        self.setting.same(&other.setting)
     }
 
     /// How many signatures may be handled.

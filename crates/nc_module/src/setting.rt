@@ -29,6 +29,17 @@ impl Model for Setting {
     ghost invariant = { λ s. IsSetting (record { alphabet = s.alphabet; setting = record { prime = s.prime; generators = s.generators.items } }) };
 }
 
+/// Whether they are the same polynomials, in the same order.
+fn same_polynomials(a: &[Poly], b: &[Poly]) -> bool
+    ensures { IsTrue result ↔ (a.now ≡ b.now) }
+{
+    match (a, b) {
+        ([], []) => true,
+        ([first, a @ ..], [second, b @ ..]) => first.same(second) && same_polynomials(a, b),
+        _ => false,
+    }
+}
+
 impl Setting {
     /// The setting with this prime, this alphabet, and these generators, at most 1,000, none of them zero, whose words
     /// are over the alphabet and have at most 255 letters.
@@ -49,6 +60,15 @@ impl Setting {
     {
         let _names = alphabet.names();
         generators.len() <= 1000 && generators.iter().all(|f| alphabet.is_generator(prime, f))
+    }
+
+    /// Whether it is the other setting.
+    pub fn same(&self, other: &Setting) -> bool
+        ensures { IsTrue result ↔ (self.now ≡ other.now) }
+    {
+        self.prime.number() == other.prime.number()
+            && self.alphabet.same(&other.alphabet)
+            && same_polynomials(self.generators(), other.generators())
     }
 
     /// The prime.
