@@ -1,12 +1,15 @@
 -- Lemmas on the texts that are written piece after piece.
 use Rattle.nc_algebra.specs.Alphabets.{Alphabet, IsWordIn}
 use Rattle.nc_algebra.specs.Certificates.{AreLines, Certificate, IsPart, Line, Part, line_reach}
+use Rattle.nc_algebra.specs.Monomials.{Sig, monomial_of}
 use Rattle.nc_algebra.specs.Polynomials.{Polynomial}
 use Rattle.nc_algebra.specs.Settings.{NamedSetting}
+use Rattle.nc_algebra.specs.Sums.{Term}
 use Rattle.nc_algebra.specs.Words.{Word}
-use Rattle.nc_print.specs.Printing.{certificate_text, ended, line_lines, poly_text, setting_lines}
-use Rattle.std.proofs.Common.{Err, List, Ok, Result, [], ap, append_assoc, codes, get_or, if◌then◌else◌, is_ok, length, map, refl, sym, take, ℕ, ◌++◌, ◌+◌, ◌<◌, ◌∙◌, ◌∷◌, ◌≡◌}
-use Rattle.std.proofs.lemmas.List.{append-nil, map-append, take_more}
+use Rattle.nc_module.specs.Modules.{element_of}
+use Rattle.nc_print.specs.Printing.{certificate_text, ended, line_lines, poly_text, setting_lines, term_line, terms_text}
+use Rattle.std.proofs.Common.{Err, List, Ok, Result, [], ap, append_assoc, codes, get_or, if◌then◌else◌, is_ok, length, map, refl, sym, take, ℕ, ◌++◌, ◌+◌, ◌<◌, ◌∙◌, ◌∷◌, ◌≡◌, ◌≤◌}
+use Rattle.std.proofs.lemmas.List.{append-nil, map-append, take_all, take_more}
 use Rattle.std.proofs.lemmas.List.Concat.{flat_map-append}
 use Rattle.std.proofs.lemmas.List.Elements.{All-from_recursion}
 use Rattle.std.specs.List.{All, AllByRecursion, flat_map}
@@ -53,6 +56,20 @@ words_named s side one names lines items same_names same are =
     let P = λ (part : Part). AreNamed (length s.alphabet.names) (side part) in
     rw (same_names, same) (All-from_recursion (λ line. All P line) lines (each_part s P (λ reaches part h. named s.alphabet (side part) (one reaches part h)) [] lines are))
 
+-- ---- the terms of a module element
+
+-- the line of a term, whose degree is not printed
+abbrev pub bare_line : List (List ℕ) → Term Sig → List ℕ
+bare_line names t = term_line names (record { coefficient = t.coefficient; key = monomial_of t.key })
+
+bare_lines : (names : List (List ℕ)) (terms : List (Term Sig)) → map (bare_line names) terms ≡ map (term_line names) (element_of terms)
+bare_lines names [] = refl
+bare_lines names (t ∷ terms) = ap (λ (ls : List (List ℕ)). bare_line names t ∷ ls) (bare_lines names terms)
+
+-- all lines
+pub bare_lines_end : (names : List (List ℕ)) (terms : List (Term Sig)) (i : ℕ) (old new : List ℕ) → length terms ≤ i → new ≡ old ++ ended (map (bare_line names) (take i terms)) → new ≡ old ++ ended (map (term_line names) (element_of terms))
+bare_lines_end names terms i old new long is = is ∙ ap (λ (ls : List (List ℕ)). old ++ ended ls) (ap (map (bare_line names)) (take_all i terms long) ∙ bare_lines names terms)
+
 -- ---- certificates
 
 in_a_row : (old heading claim last : List ℕ) (front back : List (List ℕ))
@@ -76,3 +93,16 @@ written_in_a_row s f lines items c names old headed set claimed listed is same_n
 pub written_last : {T E : Type 0} (r : Result T E) (new old piece text : List ℕ) → new ≡ (if is_ok r then old ++ piece else old) → old ++ piece ≡ text → OnOk r (new ≡ text)
 written_last (Ok x) new old piece text is same = is ∙ same
 written_last (Err e) new old piece text is same = tt
+
+-- The pieces of a certificate in form 1 in a row are its text, as above.
+pub terms_in_a_row : (s : NamedSetting) (f : Polynomial) (terms items : List (Term Sig)) (names : List (List ℕ)) (old headed set claimed listed : List ℕ)
+    → names ≡ s.alphabet.names → items ≡ terms
+    → headed ≡ old ++ codes "certificate 1\n" → set ≡ headed ++ ended (setting_lines s)
+    → claimed ≡ set ++ (codes "claim " ++ poly_text names f ++ 10 ∷ []) → listed ≡ claimed ++ ended (map (term_line names) (element_of items))
+    → listed ++ codes "end\n" ≡ old ++ terms_text s f (element_of terms)
+terms_in_a_row s f terms items names old headed set claimed listed same_names same heads sets claims lists =
+    let claimed_is : claimed ≡ set ++ (codes "claim " ++ poly_text s.alphabet.names f ++ 10 ∷ []) = claims ∙ ap (λ (ns : List (List ℕ)). set ++ (codes "claim " ++ poly_text ns f ++ 10 ∷ [])) same_names in
+    let listed_is : listed ≡ claimed ++ ended (map (term_line s.alphabet.names) (element_of terms)) =
+    lists ∙ ap (λ (ns : List (List ℕ)). claimed ++ ended (map (term_line ns) (element_of items))) same_names ∙ ap (λ (ts : List (Term Sig)). claimed ++ ended (map (term_line s.alphabet.names) (element_of ts))) same in
+    let row = in_a_row old (codes "certificate 1") (codes "claim " ++ poly_text s.alphabet.names f) (codes "end") (setting_lines s) (map (term_line s.alphabet.names) (element_of terms)) in
+    ap (λ (l : List ℕ). l ++ codes "end\n") (rw (listed_is, claimed_is, sets, heads) refl) ∙ row

@@ -1,4 +1,4 @@
-//! What is written of polynomials, monomials, settings, lines and certificates.
+//! What is written of polynomials, monomials, settings, lines, certificates and module elements.
 
 ghost use Rattle.std.specs.Prelude.{All, IsTrue, ◌<◌, ◌↔◌};
 
@@ -6,7 +6,7 @@ use super::*;
 use crate::certificate::write_lines;
 use crate::setting::write_setting;
 use nc_field::{Prime, Residue};
-use nc_module::{Alphabet, Certificate, Line, Lines, Name, Of, Part, Setting};
+use nc_module::{Alphabet, Certificate, Line, Lines, Module, ModuleTerm, Name, Of, Part, Setting};
 use nc_poly::{Poly, Term};
 use nc_sig::Sig;
 use nc_words::{Letter, Word};
@@ -171,6 +171,43 @@ fn lines_text(alloc: Global, names: &[Name], lines: &Lines) -> Result<Vec<u8>, F
     Ok(out)
 }
 
+/// The element of these terms over 101.
+fn module(
+    alloc: Global,
+    alphabet: &Alphabet,
+    list: &[(Residue, &[u8], &[u8])],
+) -> Result<Module, Fail> {
+    let mut terms = Vec::new(alloc);
+    for (c, left, right) in list {
+        terms.push(ModuleTerm::of(*c, sig(alloc, alphabet, left, 1, right)?))?;
+    }
+    let p = Prime::of(101).ok_or("listed")?;
+    if !terms.iter().all(|t| t.coefficient < p.number()) {
+        return Err("residues".into());
+    }
+    Ok(Module::of_terms(alloc, p, terms)?)
+}
+
+/// What is written of a claim and the terms of an element.
+fn terms_text(alloc: Global, setting: &Setting, claim: &Poly, m: &Module) -> Result<Vec<u8>, Fail> {
+    let count = setting.names().len();
+    if !claim.terms().iter().all(|t| has_names(count, t.letters()))
+        || !m
+            .terms()
+            .iter()
+            .all(|t| has_names(count, t.at.left.letters()))
+        || !m
+            .terms()
+            .iter()
+            .all(|t| has_names(count, t.at.right.letters()))
+    {
+        return Err("names".into());
+    }
+    let mut out = Vec::new(alloc);
+    write_terms(&mut out, setting, claim, m)?;
+    Ok(out)
+}
+
 #[test]
 fn polynomials_and_monomials(rt: HostRuntime) -> Result<(), Fail> {
     let alloc = rt.alloc();
@@ -229,5 +266,30 @@ fn certificates(rt: HostRuntime) -> Result<(), Fail> {
     let want =
         "certificate 2\nfield 101\nletters x y\nweights 1 2\ngenerator 100*y + x*x\nclaim 0\nend\n";
     assert_eq!(rt; text.as_slice(), want.as_bytes());
+    Ok(())
+}
+
+#[test]
+fn terms_of_elements(rt: HostRuntime) -> Result<(), Fail> {
+    let alloc = rt.alloc();
+    let setting = setting(alloc, alphabet(alloc, 1)?)?;
+    let no_claim: &[(Residue, &[u8])] = &[];
+    let no_terms: &[(Residue, &[u8], &[u8])] = &[];
+    for (claim, terms, want) in [
+        (no_claim, no_terms, "claim 0\n"),
+        (
+            &[(1, b"xxx"), (99, b"xy"), (1, b"yx")],
+            &[(100, b"", b"x"), (2, b"x", b"")],
+            "claim x*x*x + y*x + 99*x*y\nterm 2 x [1] 1\nterm 100 1 [1] x\n",
+        ),
+    ] {
+        let claim = poly(alloc, setting.alphabet(), claim)?;
+        let m = module(alloc, setting.alphabet(), terms)?;
+        let text = terms_text(alloc, &setting, &claim, &m)?;
+        let want = format!(in alloc;
+            "certificate 1\nfield 101\nletters x y\ngenerator x*x + 100*y\n{want}end\n"
+        )?;
+        assert_eq!(rt; text.as_slice(), want.as_bytes());
+    }
     Ok(())
 }
