@@ -1,15 +1,3 @@
-pub mod Orders
-pub mod Places
-pub mod Products
-pub mod Small
-pub mod Choices
-pub mod Quotients
-pub mod Covers
+pub mod Settings
+pub mod Better
 pub mod Turns
-pub mod Runs
-pub mod Handling
-pub mod Tested
-pub mod Problems
-pub mod Meetings
-pub mod Nexts
-pub mod Reached

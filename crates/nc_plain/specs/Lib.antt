@@ -1,11 +1,7 @@
 pub mod Starts
-pub mod Usable
 pub mod Places
 pub mod Turns
 pub mod Best
-pub mod Covers
 pub mod Outcomes
 pub mod Problems
 pub mod Meetings
-pub mod Nexts
-pub mod Ends

@@ -1,7 +1,7 @@
 //! The best multiple.
 
 ghost use Rattle.nc_plain.specs.Best.{IsAt, IsBest, best_of};
-ghost use Rattle.nc_plain.specs.Usable.{IsUsable, IsUsableSignature};
+ghost use Rattle.nc_search.specs.Usable.{IsUsable, IsUsableSignature};
 ghost use Rattle.std.specs.Prelude.{All, IfOk, length, ◌<◌, ◌≡◌};
 
 use crate::entry::Entry;
@@ -52,13 +52,7 @@ fn better(best: Option<Best>, next: Option<Best>) -> Option<Best>
     ensures { result ≡ best_of best next }
 {
     match (best, next) {
-        (Some(a), Some(b)) => {
-            if b.word.order(&a.word).is_lt() {
-                Some(b)
-            } else {
-                Some(a)
-            }
-        }
+        (Some(a), Some(b)) => { if b.word < a.word { Some(b) } else { Some(a) } }
         (None, next) => next,
         (best, None) => best,
     }

@@ -1,9 +1,9 @@
 //! The search for the next signature.
 
 ghost use Rattle.nc_algebra.specs.Elements.{degree};
-ghost use Rattle.nc_plain.specs.Meetings.{MeetAt};
-ghost use Rattle.nc_plain.specs.Nexts.{IsFoundLeft, IsLeastLeft, IsLeft, IsNextOf, IsOfAmbiguity, IsUnit, MeetSomewhere, MeetsSome, lesser_of};
-ghost use Rattle.nc_plain.specs.Usable.{IsUsable};
+ghost use Rattle.nc_search.specs.Meetings.{MeetAt};
+ghost use Rattle.nc_search.specs.Nexts.{IsFoundLeft, IsLeastLeft, IsLeft, IsNextOf, IsOfAmbiguity, IsUnit, MeetSomewhere, MeetsSome, lesser_of};
+ghost use Rattle.nc_search.specs.Usable.{IsUsable};
 ghost use Rattle.nc_theory.specs.Runs.{IsAfter};
 ghost use Rattle.nc_algebra.specs.Polynomials.{leading};
 ghost use Rattle.std.specs.Prelude.{All, IfOk, IsTrue, length, option_copied, ◌<◌, ◌↔◌, ◌≡◌, ◌≤◌};

@@ -2,8 +2,8 @@
 
 ghost use Rattle.nc_algebra.specs.Monomials.{Divides};
 ghost use Rattle.nc_algebra.specs.Polynomials.{leading};
-ghost use Rattle.nc_plain.specs.Covers.{ApartWith, IsApart, IsApartFrom, IsListedBelow};
-ghost use Rattle.nc_plain.specs.Usable.{IsUsable, IsUsableSignature};
+ghost use Rattle.nc_search.specs.Covers.{ApartWith, IsApart, IsApartFrom, IsListedBelow};
+ghost use Rattle.nc_search.specs.Usable.{IsUsable, IsUsableSignature};
 ghost use Rattle.nc_theory.specs.Syzygies.{ApartAt, Covered};
 ghost use Rattle.std.specs.Bool.{MatchBool};
 ghost use Rattle.std.specs.Prelude.{All, IfOk, length, ◌-◌, ◌<◌};

@@ -2,7 +2,7 @@
 
 ghost use Rattle.nc_algebra.specs.Elements.{IsLess};
 ghost use Rattle.nc_plain.specs.Places.{IsChoice, IsFirstPlace};
-ghost use Rattle.nc_plain.specs.Usable.{IsUsable};
+ghost use Rattle.nc_search.specs.Usable.{IsUsable};
 ghost use Rattle.nc_algebra.specs.Polynomials.{leading};
 ghost use Rattle.std.specs.Prelude.{All, IfOk, length, ◌≡◌, ◌≢◌, ◌≤◌, []};
 

@@ -3,8 +3,9 @@
 ghost use Rattle.nc_algebra.specs.Monomials.{times};
 ghost use Rattle.nc_algebra.specs.Polynomials.{leading};
 ghost use Rattle.nc_algebra.specs.Elements.{degree};
-ghost use Rattle.nc_plain.specs.Meetings.{IsGreaterOf, IsMeeting, IsOnly, MeetAt};
-ghost use Rattle.nc_plain.specs.Usable.{IsUsable};
+ghost use Rattle.nc_search.specs.Meetings.{IsGreaterOf, IsOnly, MeetAt};
+ghost use Rattle.nc_plain.specs.Meetings.{IsMeeting};
+ghost use Rattle.nc_search.specs.Usable.{IsUsable};
 ghost use Rattle.std.specs.Prelude.{IfOk, length, ◌+◌, ◌<◌, ◌≡◌, ◌≤◌, []};
 
 use crate::entry::Entry;

@@ -2,12 +2,11 @@
 
 ghost use Rattle.nc_algebra.specs.Elements.{degree, generator_weight};
 ghost use Rattle.nc_algebra.specs.Monomials.{compare_monomials, times};
-ghost use Rattle.nc_algebra.specs.Words.{Letter as LetterValue, compare_letters, compare_words};
-ghost use Rattle.std.specs.Cmp.Lexicographic.{slice_cmp};
+ghost use Rattle.nc_algebra.specs.Words.{compare_words};
 ghost use Rattle.std.specs.Prelude.{IfOk, length, ◌+◌, ◌++◌, ◌≡◌, ◌≤◌};
 
 use nc_module::Setting;
-use nc_words::{Letter, Word};
+use nc_words::{Joined, Word};
 use std::alloc::{AllocError, Global};
 use std::cmp::Ordering;
 use std::marker::Model;
@@ -41,25 +40,11 @@ fn weight_of(setting: &Setting, i: usize) -> u32
     setting.weight(i as u32)
 }
 
-/// Compares a b with c, letter by letter.
-fn compare_letters(a: &[Letter], b: &[Letter], c: &[Letter]) -> Ordering
-    ensures { result ≡ slice_cmp compare_letters (a.now ++ b.now) c.now }
-{
-    if a.len() <= c.len() {
-        let (front, back) = c.split_at(a.len());
-        a.cmp(front).then(b.cmp(back))
-    } else {
-        a.cmp(c)
-    }
-}
-
 /// Compares a b with c.
 fn compare_joined(a: &Word, b: &Word, c: &Word) -> Ordering
     ensures { result ≡ compare_words (a.now ++ b.now) c.now }
 {
-    (a.weight() + b.weight())
-        .cmp(&c.weight())
-        .then(compare_letters(a.letters(), b.letters(), c.letters()))
+    Joined::of_two(a.letters(), b.letters()).compare(&Joined::of_word(c.letters()))
 }
 
 impl Monomial {
@@ -112,8 +97,8 @@ impl Monomial {
         self.degree(setting)
             .cmp(&other.degree(setting))
             .then(self.generator.cmp(&other.generator))
-            .then(self.left.order(&other.left))
-            .then(self.right.order(&other.right))
+            .then(self.left.cmp(&other.left))
+            .then(self.right.cmp(&other.right))
     }
 
     /// Compares u m v with the other monomial.

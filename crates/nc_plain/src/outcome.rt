@@ -6,8 +6,9 @@ ghost use Rattle.nc_algebra.specs.Polynomials.{AreResidues, IsNormal, polynomial
 ghost use Rattle.nc_algebra.specs.Sums.{SameSum};
 ghost use Rattle.nc_algebra.specs.Words.{Word as WordValue, same_word};
 ghost use Rattle.nc_plain.specs.Best.{IsBest};
-ghost use Rattle.nc_plain.specs.Outcomes.{outcome_after, outcome_of};
-ghost use Rattle.nc_plain.specs.Usable.{IsUsable, IsUsableSignature};
+ghost use Rattle.nc_search.specs.Outcomes.{outcome_after};
+ghost use Rattle.nc_plain.specs.Outcomes.{outcome_of};
+ghost use Rattle.nc_search.specs.Usable.{IsUsable, IsUsableSignature};
 ghost use Rattle.nc_theory.specs.Divisors.{Multiple};
 ghost use Rattle.nc_theory.specs.Runs.{Handles, state_after};
 ghost use Rattle.nc_theory.specs.Syzygies.{Covered};

@@ -6,7 +6,7 @@ ghost use Rattle.nc_algebra.specs.Primes.{IsField};
 ghost use Rattle.nc_algebra.specs.Sums.{minus};
 ghost use Rattle.nc_plain.specs.Places.{IsChoice};
 ghost use Rattle.nc_plain.specs.Turns.{IsTurn};
-ghost use Rattle.nc_plain.specs.Usable.{HasSmallWords, IsSmall, IsUsable};
+ghost use Rattle.nc_search.specs.Usable.{HasSmallWords, IsSmall, IsUsable};
 ghost use Rattle.nc_theory.specs.Reductions.{ReductionAt};
 ghost use Rattle.std.specs.Prelude.{All, IfOk, OnErr, OnOk, length, ◌%◌, ◌*◌, ◌+◌, ◌++◌, ◌<◌, ◌∷◌, ◌≡◌, ◌≢◌, ◌≤◌, []};
 

@@ -3,7 +3,7 @@
 ghost use Rattle.nc_algebra.specs.Finite.{IsLetterOf};
 ghost use Rattle.nc_algebra.specs.Polynomials.{AreResidues};
 ghost use Rattle.nc_algebra.specs.Words.{word_weight};
-ghost use Rattle.nc_plain.specs.Usable.{IsUsable, IsUsableSignature};
+ghost use Rattle.nc_search.specs.Usable.{IsUsable, IsUsableSignature};
 ghost use Rattle.std.specs.Prelude.{All, IsTrue, ◌≤◌};
 
 use crate::entry::Entry;

@@ -1,8 +1,8 @@
 use Rattle.nc_algebra.specs.Monomials.{times}
 use Rattle.nc_algebra.specs.Polynomials.{leading}
-use Rattle.nc_plain.proofs.Quotients.{at_found, few_fit, multiple_fits}
+use Rattle.nc_search.proofs.Quotients.{at_found, few_fit, multiple_fits}
 use Rattle.nc_plain.specs.Places.{IsQuotient}
-use Rattle.nc_plain.specs.Usable.{IsUsable}
+use Rattle.nc_search.specs.Usable.{IsUsable}
 use Rattle.nc_theory.specs.States.{Entry}
 use Rattle.std.proofs.Common.{ap, ap₂, length, refl, subst, sym, ◌+◌, ◌++◌, ◌∙◌, ◌≡◌, ◌≤◌}
 use Rattle.nc_plain.proofs.best.multiple_of.Goals as goal

@@ -1,5 +1,5 @@
-use Rattle.nc_plain.proofs.Nexts.{only_left}
-use Rattle.nc_plain.specs.Meetings.{IsOnly, MeetAt}
+use Rattle.nc_search.proofs.Nexts.{only_left}
+use Rattle.nc_search.specs.Meetings.{IsOnly, MeetAt}
 use Rattle.std.proofs.Common.{option_copied, subst}
 use Rattle.nc_plain.proofs.candidates.candidate_at.Goals as goal
 

@@ -1,4 +1,4 @@
-use Rattle.nc_plain.proofs.Nexts.{after_tested}
+use Rattle.nc_search.proofs.Nexts.{after_tested}
 use Rattle.std.proofs.Common.{ap, option_copied}
 use Rattle.nc_plain.proofs.candidates.is_after.Goals as goal
 

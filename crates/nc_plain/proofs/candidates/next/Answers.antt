@@ -1,5 +1,5 @@
-use Rattle.nc_plain.proofs.Nexts.{next_left}
-use Rattle.nc_plain.specs.Nexts.{IsLeastLeft, IsOfAmbiguity}
+use Rattle.nc_search.proofs.Nexts.{next_left}
+use Rattle.nc_search.specs.Nexts.{IsLeastLeft, IsOfAmbiguity}
 use Rattle.std.proofs.Common.{option_copied, subst}
 use Rattle.nc_plain.proofs.candidates.next.Goals as goal
 

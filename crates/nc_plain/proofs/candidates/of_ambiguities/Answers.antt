@@ -1,5 +1,5 @@
-use Rattle.nc_plain.proofs.Nexts.{OfEntry, all_ambiguities, all_entries, entry_left, least_step}
-use Rattle.nc_plain.specs.Nexts.{MeetsSome}
+use Rattle.nc_search.proofs.Nexts.{OfEntry, all_ambiguities, all_entries, entry_left, least_step}
+use Rattle.nc_search.specs.Nexts.{MeetsSome}
 use Rattle.std.proofs.Common.{arith, option_copied}
 use Rattle.nc_plain.proofs.candidates.of_ambiguities.Goals as goal
 

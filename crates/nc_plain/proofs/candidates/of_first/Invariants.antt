@@ -1,5 +1,5 @@
-use Rattle.nc_plain.proofs.Nexts.{Before, OfEntry}
-use Rattle.nc_plain.specs.Nexts.{IsLeastLeft, MeetSomewhere}
+use Rattle.nc_search.proofs.Nexts.{Before, OfEntry}
+use Rattle.nc_search.specs.Nexts.{IsLeastLeft, MeetSomewhere}
 use Rattle.std.proofs.Common.{option_copied}
 use Rattle.nc_plain.proofs.candidates.of_first.Given as goal
 

@@ -1,6 +1,6 @@
 use Rattle.nc_algebra.specs.Elements.{Setting}
 use Rattle.nc_algebra.specs.Monomials.{Monomial, unit_monomial}
-use Rattle.nc_plain.proofs.Nexts.{UnitAfter, all_units, least_step, only_left, unit_only}
+use Rattle.nc_search.proofs.Nexts.{UnitAfter, all_units, least_step, only_left, unit_only}
 use Rattle.std.proofs.Common.{Option, Some, ap, arith, length, option_copied, ◌+◌, ◌∙◌, ◌≡◌}
 use Rattle.nc_plain.proofs.candidates.of_generators.Goals as goal
 

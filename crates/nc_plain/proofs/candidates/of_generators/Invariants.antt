@@ -1,5 +1,5 @@
-use Rattle.nc_plain.proofs.Nexts.{Before, UnitAfter}
-use Rattle.nc_plain.specs.Nexts.{IsLeastLeft}
+use Rattle.nc_search.proofs.Nexts.{Before, UnitAfter}
+use Rattle.nc_search.specs.Nexts.{IsLeastLeft}
 use Rattle.std.proofs.Common.{option_copied}
 use Rattle.nc_plain.proofs.candidates.of_generators.Given as goal
 

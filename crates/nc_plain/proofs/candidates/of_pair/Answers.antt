@@ -1,5 +1,5 @@
-use Rattle.nc_plain.proofs.Nexts.{all_places, least_step}
-use Rattle.nc_plain.specs.Meetings.{MeetAt}
+use Rattle.nc_search.proofs.Nexts.{all_places, least_step}
+use Rattle.nc_search.specs.Meetings.{MeetAt}
 use Rattle.std.proofs.Common.{ap, arith, length, option_copied}
 use Rattle.nc_plain.proofs.candidates.of_pair.Goals as goal
 

@@ -1,6 +1,6 @@
-use Rattle.nc_plain.proofs.Nexts.{Before}
-use Rattle.nc_plain.specs.Meetings.{MeetAt}
-use Rattle.nc_plain.specs.Nexts.{IsLeastLeft}
+use Rattle.nc_search.proofs.Nexts.{Before}
+use Rattle.nc_search.specs.Meetings.{MeetAt}
+use Rattle.nc_search.specs.Nexts.{IsLeastLeft}
 use Rattle.std.proofs.Common.{option_copied}
 use Rattle.nc_plain.proofs.candidates.of_pair.Given as goal
 

@@ -1,5 +1,5 @@
-use Rattle.nc_plain.proofs.Covers.{none_at_further}
-use Rattle.nc_plain.specs.Covers.{ApartWith}
+use Rattle.nc_search.proofs.Covers.{none_at_further}
+use Rattle.nc_search.specs.Covers.{ApartWith}
 use Rattle.std.proofs.Common.{subst}
 use Rattle.std.specs.Bool.{MatchBool}
 use Rattle.nc_plain.proofs.cover.has_apart.Goals as goal

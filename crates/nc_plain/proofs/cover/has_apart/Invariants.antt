@@ -1,4 +1,4 @@
-use Rattle.nc_plain.proofs.Covers.{NoneAt}
+use Rattle.nc_search.proofs.Covers.{NoneAt}
 use Rattle.nc_plain.proofs.cover.has_apart.Given as goal
 
 abbrev pub invariant-loop-index : goal.invariant-loop-index

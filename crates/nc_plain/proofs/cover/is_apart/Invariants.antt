@@ -1,4 +1,4 @@
-use Rattle.nc_plain.proofs.Covers.{NobodyApart}
+use Rattle.nc_search.proofs.Covers.{NobodyApart}
 use Rattle.std.proofs.Common.{length, ◌-◌}
 use Rattle.nc_plain.proofs.cover.is_apart.Given as goal
 

@@ -1,5 +1,5 @@
-use Rattle.nc_plain.proofs.Covers.{cover_answer}
-use Rattle.nc_plain.specs.Covers.{IsListedBelow}
+use Rattle.nc_search.proofs.Covers.{cover_answer}
+use Rattle.nc_search.specs.Covers.{IsListedBelow}
 use Rattle.nc_theory.specs.States.{Entry, Syzygy}
 use Rattle.nc_theory.specs.Syzygies.{ApartAt}
 use Rattle.std.proofs.Common.{List, subst}

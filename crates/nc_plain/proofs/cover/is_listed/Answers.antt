@@ -1,5 +1,5 @@
 use Rattle.nc_algebra.specs.Monomials.{Divides, Monomial}
-use Rattle.nc_plain.proofs.Covers.{none_listed, none_listed_further}
+use Rattle.nc_search.proofs.Covers.{none_listed, none_listed_further}
 use Rattle.std.proofs.Common.{arith, subst}
 use Rattle.std.specs.Bool.{MatchBool}
 use Rattle.nc_plain.proofs.cover.is_listed.Goals as goal

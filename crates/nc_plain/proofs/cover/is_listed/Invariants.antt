@@ -1,4 +1,4 @@
-use Rattle.nc_plain.proofs.Covers.{NoneListed}
+use Rattle.nc_search.proofs.Covers.{NoneListed}
 use Rattle.nc_plain.proofs.cover.is_listed.Given as goal
 
 abbrev pub invariant-loop-syzygy : goal.invariant-loop-syzygy

@@ -1,4 +1,4 @@
-use Rattle.nc_plain.proofs.Covers.{NoneApart}
+use Rattle.nc_search.proofs.Covers.{NoneApart}
 use Rattle.std.proofs.Common.{length, ◌-◌}
 use Rattle.nc_plain.proofs.cover.place_apart.Given as goal
 

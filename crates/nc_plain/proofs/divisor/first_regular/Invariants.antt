@@ -1,4 +1,4 @@
-use Rattle.nc_plain.proofs.Places.{NoneOf}
+use Rattle.nc_search.proofs.Places.{NoneOf}
 use Rattle.nc_plain.proofs.divisor.first_regular.Given as goal
 
 abbrev pub invariant-loop-index : goal.invariant-loop-index

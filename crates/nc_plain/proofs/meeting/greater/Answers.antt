@@ -1,4 +1,4 @@
-use Rattle.nc_plain.proofs.Meetings.{equal_only, greater_only, less_only}
+use Rattle.nc_search.proofs.Meetings.{equal_only, greater_only, less_only}
 use Rattle.std.proofs.Common.{sym}
 use Rattle.nc_plain.proofs.meeting.greater.Goals as goal
 

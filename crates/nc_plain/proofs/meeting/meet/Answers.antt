@@ -1,7 +1,7 @@
 use Rattle.nc_algebra.specs.Words.{Word}
-use Rattle.nc_plain.proofs.Meetings.{around_made, around_parts}
-use Rattle.nc_plain.proofs.Places.{same_test, same_tested}
-use Rattle.nc_plain.specs.Meetings.{AreAround}
+use Rattle.nc_search.proofs.Meetings.{around_made, around_parts}
+use Rattle.nc_search.proofs.Places.{same_test, same_tested}
+use Rattle.nc_search.specs.Meetings.{AreAround}
 use Rattle.std.proofs.Common.{append-nil, ap, drop, length, min, subst, sym, take, ℕ, ◌∙◌, ◌≡◌}
 use Rattle.std.proofs.lemmas.Bool.{false≢true}
 use Rattle.nc_plain.proofs.meeting.meet.Goals as goal

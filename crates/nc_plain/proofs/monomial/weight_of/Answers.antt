@@ -1,4 +1,4 @@
-use Rattle.nc_plain.proofs.Orders.{weight_none}
+use Rattle.nc_search.proofs.Orders.{weight_none}
 use Rattle.std.proofs.Common.{ap, arith, inl, inr, length}
 use Rattle.nc_plain.proofs.monomial.weight_of.Goals.{then-i-eq0-via-then-i-eq0, then-i-eq0-via-else-i-eq0+then-i-generators}
 use Rattle.nc_plain.proofs.monomial.weight_of.Goals as goal

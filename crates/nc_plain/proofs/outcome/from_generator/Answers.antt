@@ -1,7 +1,7 @@
 use Rattle.nc_algebra.specs.Polynomials.{Polynomial}
-use Rattle.nc_plain.proofs.Handling.{generator_handled, generator_is, generator_small}
-use Rattle.nc_plain.specs.Outcomes.{outcome_after}
-use Rattle.nc_plain.specs.Usable.{HasSmallWords}
+use Rattle.nc_search.proofs.Handling.{generator_handled, generator_is, generator_small}
+use Rattle.nc_search.specs.Outcomes.{outcome_after}
+use Rattle.nc_search.specs.Usable.{HasSmallWords}
 use Rattle.nc_theory.specs.Reductions.{ReductionAt}
 use Rattle.nc_theory.specs.States.{Entry, Start}
 use Rattle.std.proofs.Common.{List, ap, ap₂, get_or, subst, sym, ◌-◌, ◌∙◌, ◌≡◌}

@@ -1,4 +1,4 @@
-use Rattle.nc_plain.proofs.Handling.{no_source}
+use Rattle.nc_search.proofs.Handling.{no_source}
 use Rattle.nc_plain.specs.Best.{IsBest}
 use Rattle.nc_theory.specs.Runs.{Handles}
 use Rattle.nc_theory.specs.States.{Entry}

@@ -1,4 +1,4 @@
-use Rattle.nc_plain.proofs.Handling.{no_source}
+use Rattle.nc_search.proofs.Handling.{no_source}
 use Rattle.nc_plain.specs.Best.{IsBest}
 use Rattle.nc_theory.specs.States.{Entry}
 use Rattle.std.proofs.Common.{List, None, Some, inl, inr, refl, subst, sym, ◌∙◌}

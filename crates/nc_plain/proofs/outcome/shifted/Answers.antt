@@ -1,4 +1,4 @@
-use Rattle.nc_plain.proofs.Handling.{shifted_same}
+use Rattle.nc_search.proofs.Handling.{shifted_same}
 use Rattle.std.proofs.Common.{ap, ◌∙◌}
 use Rattle.nc_algebra.specs.Polynomials.{normal_form, polynomial_times}
 use Rattle.nc_algebra.specs.Sums.{minus}

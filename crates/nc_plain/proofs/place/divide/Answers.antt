@@ -1,4 +1,4 @@
-use Rattle.nc_plain.proofs.Quotients.{no_back, no_front}
+use Rattle.nc_search.proofs.Quotients.{no_back, no_front}
 use Rattle.nc_plain.specs.Places.{IsPlace}
 use Rattle.std.proofs.Common.{refl, subst, ◌∙◌}
 use Rattle.nc_plain.proofs.place.divide.Goals as goal

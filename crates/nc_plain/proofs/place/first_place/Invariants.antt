@@ -1,4 +1,4 @@
-use Rattle.nc_plain.proofs.Places.{NoneBefore}
+use Rattle.nc_search.proofs.Places.{NoneBefore}
 use Rattle.nc_plain.proofs.place.first_place.Given as goal
 
 abbrev pub invariant-loop-at : goal.invariant-loop-at

@@ -1,5 +1,5 @@
 use Rattle.nc_algebra.specs.Words.{Word}
-use Rattle.nc_plain.proofs.Places.{same_test, same_tested, stands_there, three_pieces}
+use Rattle.nc_search.proofs.Places.{same_test, same_tested, stands_there, three_pieces}
 use Rattle.std.proofs.Common.{append-nil, ap, ap₂, arith, drop, length, sym, take, ◌+◌, ◌++◌, ◌-◌, ◌∙◌, ◌≡◌, ◌≤◌}
 use Rattle.std.proofs.lemmas.Bool.{false≢true}
 use Rattle.std.proofs.lemmas.List.{length-take-le, take_rest}

@@ -1,7 +1,7 @@
 use Rattle.nc_algebra.specs.Elements.{IsLess}
 use Rattle.nc_algebra.specs.Monomials.{times}
-use Rattle.nc_plain.proofs.Orders.{less_test, less_tested}
-use Rattle.nc_plain.proofs.Places.{one_place}
+use Rattle.nc_search.proofs.Orders.{less_test, less_tested}
+use Rattle.nc_search.proofs.Places.{one_place}
 use Rattle.nc_plain.specs.Places.{IsPlace}
 use Rattle.std.proofs.Common.{Some, ap₂, subst, sym, ◌∙◌, ◌≡◌}
 use Rattle.std.proofs.lemmas.Bool.{false≢true}

@@ -1,4 +1,4 @@
-use Rattle.nc_plain.proofs.Products.{lead_coefficient}
+use Rattle.nc_search.proofs.Products.{lead_coefficient}
 use Rattle.std.proofs.Common.{ap, ◌%◌, ◌*◌, ◌∙◌, sym}
 use Rattle.nc_plain.proofs.reduction.lead_quotient.Goals as goal
 

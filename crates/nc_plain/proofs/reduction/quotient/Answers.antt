@@ -1,4 +1,4 @@
-use Rattle.nc_plain.proofs.Products.{quotient_is}
+use Rattle.nc_search.proofs.Products.{quotient_is}
 use Rattle.nc_plain.proofs.reduction.quotient.Goals as goal
 
 pub returns-clause-quotient : goal.returns-clause-quotient

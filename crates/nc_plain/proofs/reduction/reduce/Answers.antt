@@ -1,7 +1,9 @@
 use Rattle.nc_algebra.specs.Elements.{IsLess}
 use Rattle.nc_algebra.specs.Polynomials.{AreResidues}
-use Rattle.nc_plain.proofs.Runs.{setting_field, whole, whole_normal}
-use Rattle.nc_plain.proofs.Turns.{turn_keeps, turn_leaves, turn_subtracts}
+use Rattle.nc_plain.proofs.Settings.{setting_field}
+use Rattle.nc_search.proofs.Runs.{whole, whole_normal}
+use Rattle.nc_search.proofs.Turns.{turn_keeps, turn_subtracts}
+use Rattle.nc_plain.proofs.Turns.{turn_leaves}
 use Rattle.nc_plain.specs.Turns.{IsTurn}
 use Rattle.nc_plain.specs.declared.reduction.Turn.TheVariants.{Kept, Subtracted}
 use Rattle.nc_theory.specs.Reductions.{ReducedTo}

@@ -1,7 +1,7 @@
 use Rattle.nc_algebra.specs.Polynomials.{IsNormal}
-use Rattle.nc_plain.proofs.Turns.{size_of}
+use Rattle.nc_search.proofs.Turns.{size_of}
 use Rattle.nc_algebra.specs.Elements.{IsLess}
-use Rattle.nc_plain.specs.Usable.{HasSmallWords}
+use Rattle.nc_search.specs.Usable.{HasSmallWords}
 use Rattle.nc_theory.specs.Reductions.{ReducedTo}
 use Rattle.nc_plain.proofs.reduction.reduce.Given as goal
 

@@ -1,6 +1,6 @@
 use Rattle.nc_algebra.specs.Polynomials.{AreResidues, Polynomial, normal_form, polynomial_times}
 use Rattle.nc_algebra.specs.Sums.{minus}
-use Rattle.nc_plain.proofs.Products.{alone_is, times_nothing}
+use Rattle.nc_search.proofs.Products.{alone_is, times_nothing}
 use Rattle.std.proofs.Common.{[], ap, arith, length, subst, sym, ◌+◌, ◌<◌, ◌∙◌, ◌∷◌, ◌≡◌, ◌≤◌}
 use Rattle.std.proofs.lemmas.List.Elements.{All-from_recursion}
 use Rattle.std.specs.List.{All}

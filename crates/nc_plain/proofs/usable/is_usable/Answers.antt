@@ -2,7 +2,7 @@ use Rattle.nc_algebra.specs.Finite.{IsLetterOf}
 use Rattle.nc_algebra.specs.Elements.{degree}
 use Rattle.nc_algebra.specs.Polynomials.{AreResidues, IsDescending, Polynomial}
 use Rattle.nc_algebra.specs.Words.{word_weight}
-use Rattle.nc_plain.proofs.Tested.{usable_tested}
+use Rattle.nc_search.proofs.Tested.{usable_tested}
 use Rattle.std.proofs.Common.{ap, subst, sym, ◌∙◌, ◌≡◌, ◌≤◌}
 use Rattle.std.proofs.lemmas.Bool.{false≢true}
 use Rattle.std.specs.List.{All}

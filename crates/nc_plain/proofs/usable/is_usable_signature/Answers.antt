@@ -1,6 +1,6 @@
 use Rattle.nc_algebra.specs.Finite.{IsLetterOf}
 use Rattle.nc_algebra.specs.Words.{Word}
-use Rattle.nc_plain.proofs.Tested.{are_letters}
+use Rattle.nc_search.proofs.Tested.{are_letters}
 use Rattle.std.proofs.Common.{arith, subst, ◌∙◌}
 use Rattle.std.specs.List.{All}
 use Rattle.nc_plain.proofs.usable.is_usable_signature.Goals as goal

@@ -1,5 +1,5 @@
 use Rattle.nc_algebra.specs.Elements.{generator_weight}
-use Rattle.nc_plain.proofs.Orders.{compare_times_at}
+use Rattle.nc_search.proofs.Orders.{compare_times_at}
 use Rattle.std.proofs.Common.{ap₂, ◌+◌}
 use Rattle.nc_plain.proofs.monomial.Monomial.compare_times.Goals as goal
 

@@ -1,7 +1,7 @@
 use Rattle.nc_algebra.specs.Elements.{Setting, generator_weight}
 use Rattle.nc_algebra.specs.Monomials.{compare_monomials}
 use Rattle.nc_algebra.specs.Problems.{Problem}
-use Rattle.nc_plain.proofs.Problems.{under_tested}
+use Rattle.nc_search.proofs.Problems.{under_tested}
 use Rattle.nc_plain.specs.Problems.{bound_of}
 use Rattle.std.proofs.Common.{ap, arith, length, sym, ◌∙◌, ◌≡◌}
 use Rattle.nc_plain.proofs.problem.Problem.within.Goals as goal

@@ -1,0 +1,148 @@
+-- What becomes of a signature, from what the steps of its handling found.
+use Rattle.nc_algebra.proofs.Alphabets.{letter_light, text_word_light}
+use Rattle.nc_algebra.proofs.NormalForms.{normal_form_same}
+use Rattle.nc_algebra.specs.Finite.{AreLetters}
+use Rattle.nc_algebra.proofs.Sums.{coefficient-minus, same_from_zero, zero_mul_left, zero_number}
+use Rattle.nc_algebra.proofs.Words.{weight-append, word_laws}
+use Rattle.nc_algebra.specs.Alphabets.{Alphabet, IsAlphabet, IsLetterIn, IsTextGenerator, IsTextWord}
+use Rattle.nc_algebra.specs.Settings.{IsSetting, NamedSetting}
+use Rattle.nc_algebra.specs.Elements.{IsGenerator, IsLess, Setting, generator}
+use Rattle.nc_algebra.specs.Monomials.{Monomial, times, unit_monomial}
+use Rattle.nc_algebra.specs.Polynomials.{IsNormal, Polynomial, coefficient, leading, normal_form, polynomial_times}
+use Rattle.nc_algebra.specs.Primes.{IsZero}
+use Rattle.nc_algebra.specs.Sums.{SameSum, minus}
+use Rattle.nc_algebra.specs.Words.{IsWordLess, Word, same_word}
+use Rattle.nc_search.proofs.Quotients.{multiple_fits}
+use Rattle.nc_search.proofs.Small.{few_letters, letters-append, letters_back, letters_front, multiple_small, usable_lead}
+use Rattle.nc_search.proofs.Turns.{reduction_same}
+use Rattle.nc_search.specs.Best.{IsBest}
+use Rattle.nc_search.specs.Found.{Best, Chosen}
+use Rattle.nc_search.specs.Outcomes.{outcome_after}
+use Rattle.nc_search.specs.Places.{IsChoice}
+use Rattle.nc_search.specs.Usable.{HasSmallWords, IsSmall, IsUsable, IsUsableSignature}
+use Rattle.nc_algebra.proofs.Leading.{leading-normal}
+use Rattle.nc_theory.proofs.Determinism.{listed_same}
+use Rattle.nc_theory.proofs.Properties.{more_are}
+use Rattle.nc_theory.specs.Divisors.{Multiple, RegularDivisor, multiple_at, number_of}
+use Rattle.nc_theory.specs.Reductions.{ReductionAt}
+use Rattle.nc_theory.specs.Runs.{Handles, Outcome, Starts}
+use Rattle.nc_theory.specs.States.{Entry, Start, State, Step}
+use Rattle.nc_theory.specs.Syzygies.{Covered}
+use Rattle.std.proofs.Common.{List, None, Some, [], ap, ap₂, arith, get_or, inl, inr, length, refl, subst, sym, ℕ, ◌%◌, ◌*◌, ◌+◌, ◌++◌, ◌-◌, ◌<◌, ◌∙◌, ◌∷◌, ◌≡◌, ◌≢◌, ◌≤◌, ◌⊎◌, suc, zero}
+use Rattle.std.proofs.Math.Nat.{mod-eq_of_lt, mod_self}
+use Rattle.std.proofs.lemmas.List.{get_or_read}
+use Rattle.std.proofs.lemmas.List.Elements.{recursion_from_All}
+use Rattle.std.specs.List.{All, AllByRecursion}
+
+-- ---- a multiple by itself
+
+pub shifted_same : (p c : ℕ) (g m : Polynomial) → 1 < p → c ≡ (p - 1) % p → g ≡ normal_form p (minus p [] c m) → SameSum same_word p g m
+shifted_same p c g m one is e = record { at = λ x. ap (λ h. coefficient h x % p) e ∙ ((normal_form_same p (minus p [] c m)).at x ∙ (ap (λ n. n % p) (coefficient-minus same_word IsWordLess word_laws p [] c m x) ∙ same_from_zero p (0 + (p - 1) * c * coefficient m x) (coefficient m x) (omega (arith, one)) (whole x))) }
+  where
+    full : c ≡ p - 1
+    full = is ∙ mod-eq_of_lt (omega (arith, one))
+
+    form : (q d y : ℕ) → p ≡ q + 1 → d ≡ q → 0 + q * d * y + q * y ≡ (q * y) * p
+    form q d y a b = omega (arith, ap (λ n. (q * y) * n) a, ap (λ n. q * n * y) b)
+
+    whole : (x : Word) → IsZero p (0 + (p - 1) * c * coefficient m x + (p - 1) * coefficient m x)
+    whole x = subst (IsZero p) (sym (form (p - 1) c (coefficient m x) (omega (arith, one)) full)) (zero_mul_left p ((p - 1) * coefficient m x) p (mod_self p))
+
+-- ---- words of generators
+
+module _ (a : Alphabet) (is : IsAlphabet a) where
+  letters_small : (w : Word) → AllByRecursion (IsLetterIn a) w → AreLetters 64 100 w
+  letters_small [] l = tt
+  letters_small (x ∷ w) l = ((omega (arith, is.few, l.0.0), letter_light a is x l.0), letters_small w l.1)
+
+  text_small : (w : Word) → IsTextWord a w → IsSmall w
+  text_small w t = (omega (arith, text_word_light a is w t), letters_small w (recursion_from_All (IsLetterIn a) w t.letters))
+
+  pub text_words : (s : Setting) (f : Polynomial) → AllByRecursion (λ t. IsTextWord a t.key) f → HasSmallWords s f
+  text_words s [] l = λ w m. absurd (m (zero_number s.prime))
+  text_words s (t ∷ f) l = more_are s IsSmall t.coefficient t.key f (text_small t.key l.0) (text_words s f l.1)
+
+generator_at : (s : Setting) (i : ℕ) → 1 ≤ i → get_or s.generators (i - 1) [] ≡ generator s i
+unfolding generator
+generator_at s zero h = absurd (omega (arith, h))
+generator_at s (suc i) h = let e : suc i - 1 ≡ i = omega arith in ap (λ k. get_or s.generators k []) e
+
+module _ (s : NamedSetting) (setting : IsSetting s) (i : ℕ) (valid : IsGenerator s.setting i) (f : Polynomial) (read : f ≡ get_or s.setting.generators (i - 1) f) where
+  pub generator_is : f ≡ generator s.setting i
+  generator_is = get_or_read s.setting.generators (i - 1) f (omega (arith, valid.0, valid.1)) read [] ∙ generator_at s.setting i valid.0
+
+  text : IsTextGenerator s.alphabet s.setting.prime f
+  text = subst (IsTextGenerator s.alphabet s.setting.prime) (sym read) (setting.each (i - 1) f (omega (arith, valid.0, valid.1)))
+
+  pub generator_normal : IsNormal s.setting.prime f
+  generator_normal = text.polynomial.normal
+
+  pub generator_small : HasSmallWords s.setting f
+  generator_small = text_words s.alphabet setting.alphabet s.setting f (recursion_from_All (λ t. IsTextWord s.alphabet t.key) f text.polynomial.words)
+
+-- ---- outcomes
+
+module _ (s : Setting) (state : State) (τ : Monomial) (uncovered : ¬ Covered s state τ) where
+  pub handled : (f kept : Polynomial) (start : Start) (steps : List Step) (o : Outcome) → Starts s state.entries τ f start → ReductionAt s state.entries τ f kept steps → o ≡ outcome_after start kept steps → Handles s state τ o
+  handled f [] start steps o a r e = subst (Handles s state τ) (sym e) (Handles.is_syzygy uncovered a r)
+  handled f (t ∷ kept) start steps o a r e = subst (Handles s state τ) (sym e) (Handles.is_entry uncovered a r)
+
+  pub generator_handled : (i : ℕ) (f kept : Polynomial) (steps : List Step) (o : Outcome) → τ ≡ unit_monomial i → f ≡ generator s i → ReductionAt s state.entries τ f kept steps → o ≡ outcome_after (Start.a_generator i) kept steps → Handles s state τ o
+  generator_handled i f kept steps o u e r h = handled (generator s i) kept (Start.a_generator i) steps o (Starts.at_generator i u) (subst (λ g. ReductionAt s state.entries τ g kept steps) e r) h
+
+  no_unit : τ ≢ unit_monomial τ.generator → (i : ℕ) → τ ≢ unit_monomial i
+  no_unit n i e = n (e ∙ ap unit_monomial (sym (ap (λ σ. σ.generator) e)))
+
+  module _ (other : τ ≢ unit_monomial τ.generator) (b : Best) (best : IsBest s state.entries τ (Some b)) (w : Word) (is_word : w ≡ b.word) where
+    pub settled_handled : IsChoice s state.entries τ w None → Handles s state τ (Outcome.settled b.number)
+    settled_handled n = subst (λ j. Handles s state τ (Outcome.settled j)) best.3 (Handles.is_settled uncovered (no_unit other) b.word best.0 best.1 (subst (λ x. IsChoice s state.entries τ x None) is_word n))
+
+    module _ (usable : All (IsUsable s) state.entries) (limit : IsUsableSignature s τ) (e : Entry) (read : e ≡ get_or state.entries (b.number - 1) e) (f : Polynomial) (of_entry : f ≡ e.polynomial) (u v : Word) (is_left : u ≡ b.left) (is_right : v ≡ b.right) where
+      entry_is : e ≡ best.0.entry
+      entry_is =
+          let place : b.number - 1 ≡ best.0.listed.0 = omega (arith, best.3) in
+          listed_same state.entries e best.0.entry (best.0.listed.0, best.0.listed.1, ap (λ k. get_or state.entries k e) (sym place) ∙ sym read) best.0.listed refl
+
+      usable_one : IsUsable s e
+      usable_one = subst (IsUsable s) (sym (entry_is ∙ sym best.0.listed.2)) (usable best.0.listed.0 best.0.entry best.0.listed.1)
+
+      signed : times u e.signature v ≡ τ
+      signed = ap₂ (λ x y. times x e.signature y) (is_left ∙ sym best.2) (is_right ∙ sym best.4) ∙ (ap (λ (x : Entry). times best.0.left x.signature best.0.right) entry_is ∙ best.1.signed)
+
+      pub multiple_residues : IsNormal s.prime f
+      multiple_residues = subst (IsNormal s.prime) (sym of_entry) usable_one.normal
+
+      pub multiple_few : All (λ x. length u + length x.key + length v ≤ 200000) f
+      multiple_few = subst (λ (g : Polynomial). All (λ x. length u + length x.key + length v ≤ 200000) g) (sym of_entry) (go e.polynomial refl)
+        where
+          go : (g : Polynomial) → e.polynomial ≡ g → All (λ x. length u + length x.key + length v ≤ 200000) g
+          go [] i = absurd (usable_one.some i)
+          go (t ∷ g) i =
+              let n : IsNormal s.prime (t ∷ g) = subst (IsNormal s.prime) i usable_one.normal in
+              few_letters u v t g 200000 n.0.1 (multiple_fits s e τ u v t.key usable_one limit signed (ap (leading s.prime) i ∙ leading-normal s.prime t g n))
+
+      whole_small : IsSmall (u ++ (leading s.prime e.polynomial ++ v))
+      whole_small = (
+        omega (arith, multiple_fits s e τ u v (leading s.prime e.polynomial) usable_one limit signed refl, weight-append u (leading s.prime e.polynomial ++ v), weight-append (leading s.prime e.polynomial) v),
+        letters-append 64 100 u (leading s.prime e.polynomial ++ v) (letters_front 64 100 u e.signature.left (subst (AreLetters 64 100) (sym (ap (λ σ. σ.left) signed)) limit.left))
+            (letters-append 64 100 (leading s.prime e.polynomial) v (usable_one.letters (leading s.prime e.polynomial) (usable_lead s e usable_one).nonzero) (letters_back 64 100 e.signature.right v (subst (AreLetters 64 100) (sym (ap (λ σ. σ.right) signed)) limit.right))),
+      )
+
+      module _ (g : Polynomial) (same : SameSum same_word s.prime g (polynomial_times u f v)) where
+        at_entry : SameSum same_word s.prime g (polynomial_times u e.polynomial v)
+        at_entry = subst (λ (h : Polynomial). SameSum same_word s.prime g (polynomial_times u h v)) of_entry same
+
+        pub start_small : HasSmallWords s g
+        start_small x n = multiple_small s u v (u ++ (leading s.prime e.polynomial ++ v)) e.polynomial usable_one.letters (usable_lead s e usable_one) refl whole_small x (λ z. n (at_entry.at x ∙ z))
+
+        pub multiple_handled : (c : Chosen) (kept : Polynomial) (steps : List Step) (o : Outcome) → IsChoice s state.entries τ w (Some c) → ReductionAt s state.entries τ g kept steps → o ≡ outcome_after (Start.a_multiple b.left b.number b.right) kept steps → Handles s state τ o
+        multiple_handled c kept steps o found r h =
+            let regular : RegularDivisor s state.entries τ b.word = (let k : IsChoice s state.entries τ b.word (Some c) = subst (λ x. IsChoice s state.entries τ x (Some c)) is_word found in record { divisor = k.0; below = k.1.allowed }) in
+            handled (multiple_at s state.entries b.word best.0) kept (Start.a_multiple best.0.left (number_of s state.entries b.word best.0) best.0.right) steps o (Starts.at_multiple (no_unit other) b.word best.0 best.1 regular)
+            (reduction_same s state.entries (λ σ. IsLess s σ τ) r (multiple_at s state.entries b.word best.0) (subst (λ (h : Polynomial). SameSum same_word s.prime g h) (ap₂ (λ x y. polynomial_times x e.polynomial y) (is_left ∙ sym best.2) (is_right ∙ sym best.4) ∙ ap (λ (x : Entry). polynomial_times best.0.left x.polynomial best.0.right) entry_is) at_entry))
+            (h ∙ (λ i. outcome_after (Start.a_multiple (sym best.2 i) (sym best.3 i) (sym best.4 i)) kept steps))
+
+-- a signature that is no generator's has a multiple
+pub no_source : (s : Setting) (entries : List Entry) (τ : Monomial) → ((i : ℕ) × (τ ≡ unit_monomial i)) ⊎ ((w : Word) × Multiple s entries τ w) → τ ≢ unit_monomial τ.generator → IsBest s entries τ None → ⊥
+no_source s entries τ (inl (i, e)) n none = n (e ∙ ap unit_monomial (sym (ap (λ σ. σ.generator) e)))
+no_source s entries τ (inr (w, m)) n none = none w m

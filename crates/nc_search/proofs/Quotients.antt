@@ -1,0 +1,99 @@
+-- Divisors of monomials, and the best multiple.
+use Rattle.nc_algebra.proofs.Monomials.{degree-times}
+use Rattle.nc_algebra.proofs.Orders.{nat_order}
+use Rattle.nc_algebra.proofs.Words.{length_at_most, word_less_complete, word_less_sound, word_total, word_trans}
+use Rattle.nc_algebra.specs.Elements.{Setting, degree, generator_weight}
+use Rattle.nc_algebra.specs.Monomials.{Divides, Monomial, times}
+use Rattle.nc_algebra.specs.Polynomials.{leading}
+use Rattle.nc_algebra.specs.Words.{IsWordLess, Word, compare_words, word_weight}
+use Rattle.nc_search.proofs.Small.{usable_lead}
+use Rattle.nc_search.specs.Best.{IsAt, IsBest, IsBestOf, best_of}
+use Rattle.nc_search.specs.Found.{Best}
+use Rattle.nc_search.specs.Places.{IsPlace}
+use Rattle.nc_search.specs.Usable.{IsUsable, IsUsableSignature}
+use Rattle.nc_theory.proofs.Determinism.{listed_same, one_multiple}
+use Rattle.nc_theory.specs.Divisors.{Divisor, number_of, signature_at}
+use Rattle.nc_theory.specs.States.{Entry}
+use Rattle.std.proofs.Common.{Bool, List, None, Option, Some, [], ap, append-nil, arith, cond, false, get_or, inl, inr, length, length-append, refl, subst, sym, true, ℕ, ◌+◌, ◌++◌, ◌-◌, ◌<◌, ◌∙◌, ◌≡◌, ◌≤◌, ◌⊎◌}
+use Rattle.std.proofs.lemmas.Bool.{false≢true}
+use Rattle.std.specs.Ordering.{is_lt}
+
+pub no_front : (σ τ : Monomial) (v w : Word) (at : ℕ) → v ≡ σ.left → w ≡ τ.left → at ≡ length w - length v → IsPlace v w at None → ¬ Divides σ τ
+no_front σ τ v w at a b n none (x, y, e) =
+    let whole : x ++ v ≡ w = ap (λ z. x ++ z) a ∙ (ap (λ ρ. ρ.left) e ∙ sym b) in
+    none x [] (ap (λ z. x ++ z) (append-nil v) ∙ whole) (omega (arith, n, ap length whole, length-append x v))
+
+pub no_back : (σ τ : Monomial) (v w : Word) → v ≡ σ.right → w ≡ τ.right → IsPlace v w 0 None → ¬ Divides σ τ
+no_back σ τ v w a b none (x, y, e) = none [] y (ap (λ z. z ++ y) a ∙ (ap (λ ρ. ρ.right) e ∙ sym b)) refl
+
+-- the words around an entry's leading word in a multiple at τ have few letters
+pub multiple_fits : (s : Setting) (e : Entry) (τ : Monomial) (u v l : Word) → IsUsable s e → IsUsableSignature s τ → times u e.signature v ≡ τ → leading s.prime e.polynomial ≡ l → word_weight u + word_weight l + word_weight v ≤ 200000
+multiple_fits s e τ u v l usable limit spells lead = omega (arith, limit.limited, ap (degree s) spells, degree-times (generator_weight s) u v e.signature, usable.light (leading s.prime e.polynomial) (usable_lead s e usable).nonzero, ap word_weight lead)
+
+pub few_fit : (u v l : Word) → word_weight u + word_weight l + word_weight v ≤ 200000 → length u + length l + length v ≤ 200000
+few_fit u v l h = omega (arith, h, length_at_most u, length_at_most l, length_at_most v)
+
+module _ (s : Setting) (entries : List Entry) (τ : Monomial) where
+  -- the multiple of an entry that is read
+  pub at_found : (n : ℕ) (e : Entry) (b : Best) → n < length entries → e ≡ get_or entries n e → times b.left e.signature b.right ≡ τ → b.word ≡ b.left ++ (leading s.prime e.polynomial ++ b.right) → b.number ≡ n + 1 → IsAt s entries τ n (Some b)
+  at_found n e b h is signed spells m = (record { entry = e; listed = (n, h, sym is); left = b.left; right = b.right; spells = sym spells }, signed, refl, refl, sym m, refl)
+
+  pub at_none : (n : ℕ) (e : Entry) → n < length entries → e ≡ get_or entries n e → ¬ Divides e.signature τ → IsAt s entries τ n None
+  at_none n e h is none w d signed i = none (d.left, d.right, ap (λ (x : Entry). times d.left x.signature d.right) (listed_same entries e d.entry (n, h, sym is) d.listed (sym i)) ∙ signed)
+
+  one_word : (w v : Word) (d : Divisor s entries w) (e : Divisor s entries v) → signature_at s entries w d ≡ τ → signature_at s entries v e ≡ τ → d.listed.0 ≡ e.listed.0 → w ≡ v
+  one_word w v d e i j k = (one_multiple s entries τ w v d e i j k).0
+
+  pub best_step : (n : ℕ) (best next : Option Best) → IsBestOf s entries τ n best → IsAt s entries τ n next → IsBestOf s entries τ (n + 1) (best_of best next)
+  best_step n None None p q = λ w d signed h. go w d signed h (nat_order d.listed.0 n)
+    where
+      go : (w : Word) (d : Divisor s entries w) → signature_at s entries w d ≡ τ → d.listed.0 < n + 1 → (d.listed.0 < n) ⊎ ((d.listed.0 ≡ n) ⊎ (n < d.listed.0)) → ⊥
+      go w d signed h (inl k) = p w d signed k
+      go w d signed h (inr (inl k)) = q w d signed k
+      go w d signed h (inr (inr k)) = omega (arith, h, k)
+  best_step n None (Some b) p q = (q.0, q.1, λ v e j h. go v e j h (nat_order e.listed.0 n), q.3, q.4, q.5, omega (arith, q.2))
+    where
+      go : (v : Word) (e : Divisor s entries v) → signature_at s entries v e ≡ τ → e.listed.0 < n + 1 → (e.listed.0 < n) ⊎ ((e.listed.0 ≡ n) ⊎ (n < e.listed.0)) → IsWordLess b.word v ⊎ ((b.word ≡ v) × (number_of s entries b.word q.0 ≤ number_of s entries v e))
+      go v e j h (inl k) = absurd (p v e j k)
+      go v e j h (inr (inl k)) = inr (one_word b.word v q.0 e q.1 j (q.2 ∙ sym k), omega (arith, q.2, k))
+      go v e j h (inr (inr k)) = absurd (omega (arith, h, k))
+  best_step n (Some a) None p q = (p.0, p.1, λ v e j h. go v e j h (nat_order e.listed.0 n), p.3, p.4, p.5, omega (arith, p.6))
+    where
+      go : (v : Word) (e : Divisor s entries v) → signature_at s entries v e ≡ τ → e.listed.0 < n + 1 → (e.listed.0 < n) ⊎ ((e.listed.0 ≡ n) ⊎ (n < e.listed.0)) → IsWordLess a.word v ⊎ ((a.word ≡ v) × (number_of s entries a.word p.0 ≤ number_of s entries v e))
+      go v e j h (inl k) = p.2 v e j k
+      go v e j h (inr (inl k)) = absurd (q v e j k)
+      go v e j h (inr (inr k)) = absurd (omega (arith, h, k))
+  best_step n (Some a) (Some b) p q = pick (is_lt (compare_words b.word a.word)) refl
+    where
+      newer : IsWordLess b.word a.word → (v : Word) (e : Divisor s entries v) → signature_at s entries v e ≡ τ → e.listed.0 < n + 1 → (e.listed.0 < n) ⊎ ((e.listed.0 ≡ n) ⊎ (n < e.listed.0)) → IsWordLess b.word v ⊎ ((b.word ≡ v) × (number_of s entries b.word q.0 ≤ number_of s entries v e))
+      newer l v e j h (inl k) = over (p.2 v e j k)
+        where
+          over : IsWordLess a.word v ⊎ ((a.word ≡ v) × (number_of s entries a.word p.0 ≤ number_of s entries v e)) → IsWordLess b.word v ⊎ ((b.word ≡ v) × (number_of s entries b.word q.0 ≤ number_of s entries v e))
+          over (inl m) = inl (word_trans b.word a.word v l m)
+          over (inr m) = inl (subst (IsWordLess b.word) m.0 l)
+      newer l v e j h (inr (inl k)) = inr (one_word b.word v q.0 e q.1 j (q.2 ∙ sym k), omega (arith, q.2, k))
+      newer l v e j h (inr (inr k)) = absurd (omega (arith, h, k))
+
+      older : ¬ IsWordLess b.word a.word → (v : Word) (e : Divisor s entries v) → signature_at s entries v e ≡ τ → e.listed.0 < n + 1 → (e.listed.0 < n) ⊎ ((e.listed.0 ≡ n) ⊎ (n < e.listed.0)) → IsWordLess a.word v ⊎ ((a.word ≡ v) × (number_of s entries a.word p.0 ≤ number_of s entries v e))
+      older m v e j h (inl k) = p.2 v e j k
+      older m v e j h (inr (inl k)) = order (word_total a.word b.word)
+        where
+          same : b.word ≡ v
+          same = one_word b.word v q.0 e q.1 j (q.2 ∙ sym k)
+
+          order : IsWordLess a.word b.word ⊎ ((a.word ≡ b.word) ⊎ IsWordLess b.word a.word) → IsWordLess a.word v ⊎ ((a.word ≡ v) × (number_of s entries a.word p.0 ≤ number_of s entries v e))
+          order (inl l) = inl (subst (IsWordLess a.word) same l)
+          order (inr (inl i)) = inr (i ∙ same, omega (arith, p.6, k))
+          order (inr (inr l)) = absurd (m l)
+      older m v e j h (inr (inr k)) = absurd (omega (arith, h, k))
+
+      pick : (c : Bool) → is_lt (compare_words b.word a.word) ≡ c → IsBestOf s entries τ (n + 1) (cond c (Some b) (Some a))
+      pick true i = (q.0, q.1, λ v e j h. newer (word_less_sound b.word a.word i) v e j h (nat_order e.listed.0 n), q.3, q.4, q.5, omega (arith, q.2))
+      pick false i = (p.0, p.1, λ v e j h. older (λ l. false≢true (sym i ∙ word_less_complete b.word a.word l)) v e j h (nat_order e.listed.0 n), p.3, p.4, p.5, omega (arith, p.6))
+
+  pub best_start : IsBestOf s entries τ 0 None
+  best_start w d signed h = omega (arith, h)
+
+  pub best_end : (n : ℕ) (best : Option Best) → length entries ≤ n → IsBestOf s entries τ n best → IsBest s entries τ best
+  best_end n None h p = λ w m. p w m.divisor m.signed (omega (arith, h, m.divisor.listed.1))
+  best_end n (Some b) h p = (p.0, record { signed = p.1; least = λ v e j. p.2 v e j (omega (arith, h, e.listed.1)) }, p.3, p.4, p.5)

@@ -1,0 +1,191 @@
+-- What a run over a program's setting reaches: entries that can be used, and signatures that can be handled.
+use Rattle.nc_algebra.proofs.Alphabets.{letter_light}
+use Rattle.nc_algebra.proofs.Degrees.{degrees, labelled_limited}
+use Rattle.nc_algebra.proofs.Finite.{among_contains, contains_among}
+use Rattle.nc_algebra.proofs.Orders.{nat_order}
+use Rattle.nc_algebra.proofs.Ranks.{over_letters}
+use Rattle.nc_algebra.proofs.Sums.{zero_number}
+use Rattle.nc_algebra.specs.Alphabets.{Alphabet, IsAlphabet, IsLetterIn, IsTextWord, letter_at}
+use Rattle.nc_algebra.specs.Elements.{Element, IsGenerator, IsLabelled, IsLess, IsZeroPolynomial, Setting, WordsAre, degree, generator}
+use Rattle.nc_algebra.specs.Finite.{AreLetters, IsLetterOf, IsOver}
+use Rattle.nc_algebra.specs.Lists.{Among}
+use Rattle.nc_algebra.specs.Monomials.{Monomial, unit_monomial}
+use Rattle.nc_algebra.specs.Polynomials.{IsNormal, Polynomial}
+use Rattle.nc_algebra.specs.Primes.{IsField}
+use Rattle.nc_algebra.specs.Problems.{Bound, IsInBound, IsWithin, Problem, bound_degree}
+use Rattle.nc_algebra.specs.Settings.{IsSetting, NamedSetting}
+use Rattle.nc_algebra.specs.Words.{Letter, Word}
+use Rattle.nc_search.specs.Ends.{IsHandled}
+use Rattle.nc_search.specs.Nexts.{IsNextOf}
+use Rattle.nc_search.specs.Usable.{IsUsable, IsUsableSignature}
+use Rattle.nc_theory.proofs.Completeness.{invariant}
+use Rattle.nc_theory.proofs.Counting.{counts}
+use Rattle.nc_theory.proofs.Normal.{kept_normal}
+use Rattle.nc_theory.proofs.Properties.{more_are}
+use Rattle.nc_theory.proofs.Rebuilding.{rebuilt}
+use Rattle.nc_theory.proofs.Steps.{candidate_over, run_over, syzygies_are}
+use Rattle.nc_theory.specs.Ambiguities.{Ambiguity}
+use Rattle.nc_theory.specs.Divisors.{Multiple}
+use Rattle.nc_theory.specs.Letters.{AreOver}
+use Rattle.nc_theory.specs.Rebuilding.{Rebuilds}
+use Rattle.nc_theory.specs.Runs.{End, IsCandidate, IsEnd, IsNext, SequentialRun}
+use Rattle.nc_theory.specs.States.{Entry, State, Syzygy}
+use Rattle.std.proofs.Common.{Contains, List, None, Option, Some, [], add-one, ap, arith, get_or, inl, inr, length, refl, subst, suc, sym, zero, ℕ, ◌+◌, ◌<◌, ◌∙◌, ◌∷◌, ◌≡◌, ◌≤◌, ◌⊎◌}
+use Rattle.std.proofs.lemmas.List.Elements.{Contains-append_left, recursion_from_All}
+use Rattle.std.proofs.lemmas.List.{get_or_default, get_or_past}
+use Rattle.std.specs.List.{All, AllByRecursion}
+
+-- ---- the letters of a program's words
+
+-- the first n letters of an alphabet
+pub letters_to : Alphabet → ℕ → List Letter
+letters_to a zero = []
+letters_to a (suc n) = letter_at a n ∷ letters_to a n
+
+-- its letters
+abbrev pub letters_of : Alphabet → List Letter
+letters_of a = letters_to a (length a.names)
+
+letter_among : (a : Alphabet) (n : ℕ) (x : Letter) → x.index < n → x ≡ letter_at a x.index → Among x (letters_to a n)
+unfolding letters_to
+letter_among a zero x h e = absurd (omega (arith, h))
+letter_among a (suc n) x h e = go (nat_order x.index n) (λ l. letter_among a n x l e)
+  where
+    go : (x.index < n) ⊎ ((x.index ≡ n) ⊎ (n < x.index)) → (x.index < n → Among x (letters_to a n)) → (x ≡ letter_at a n) ⊎ Among x (letters_to a n)
+    go (inl l) below = inr (below l)
+    go (inr (inl i)) below = inl (e ∙ ap (letter_at a) i)
+    go (inr (inr l)) below = absurd (omega (arith, h, l))
+
+letter_of : (a : Alphabet) → IsAlphabet a → (n : ℕ) (x : Letter) → n ≤ length a.names → Among x (letters_to a n) → IsLetterOf 64 100 x
+unfolding letters_to
+letter_of a is zero x h k = absurd k
+letter_of a is (suc n) x h (inl e) = subst (IsLetterOf 64 100) (sym e) (omega (arith, h, is.few), letter_light a is (letter_at a n) (omega (arith, h), refl))
+letter_of a is (suc n) x h (inr k) = letter_of a is n x (omega (arith, h)) k
+
+text_over : (a : Alphabet) (w : Word) → AllByRecursion (IsLetterIn a) w → IsOver (letters_of a) w
+text_over a [] l = tt
+text_over a (x ∷ w) l = (among_contains x (letters_of a) (letter_among a (length a.names) x l.0.0 l.0.1), text_over a w l.1)
+
+words_over : (s : Setting) (a : Alphabet) (f : Polynomial) → AllByRecursion (λ t. IsTextWord a t.key) f → WordsAre s (IsOver (letters_of a)) f
+words_over s a [] l = λ w m. absurd (m (zero_number s.prime))
+words_over s a (t ∷ f) l = more_are s (IsOver (letters_of a)) t.coefficient t.key f (text_over a t.key (recursion_from_All (IsLetterIn a) t.key l.0.letters)) (words_over s a f l.1)
+
+generator_over : (s : NamedSetting) → IsSetting s → (i : ℕ) → WordsAre s.setting (IsOver (letters_of s.alphabet)) (generator s.setting i)
+unfolding generator
+generator_over s setting zero = λ w m. absurd (m (zero_number s.setting.prime))
+generator_over s setting (suc i) = go (nat_order i (length s.setting.generators))
+  where
+    listed : i < length s.setting.generators → WordsAre s.setting (IsOver (letters_of s.alphabet)) (get_or s.setting.generators i [])
+    listed l = words_over s.setting s.alphabet (get_or s.setting.generators i []) (recursion_from_All (λ t. IsTextWord s.alphabet t.key) (get_or s.setting.generators i []) (setting.each i [] l).polynomial.words)
+
+    past : length s.setting.generators ≤ i → WordsAre s.setting (IsOver (letters_of s.alphabet)) (get_or s.setting.generators i [])
+    past l = subst (WordsAre s.setting (IsOver (letters_of s.alphabet))) (sym (get_or_past s.setting.generators i [] l)) (λ w m. absurd (m (zero_number s.setting.prime)))
+
+    go : (i < length s.setting.generators) ⊎ ((i ≡ length s.setting.generators) ⊎ (length s.setting.generators < i)) → WordsAre s.setting (IsOver (letters_of s.alphabet)) (get_or s.setting.generators i [])
+    go (inl l) = listed l
+    go (inr (inl e)) = past (omega (arith, e))
+    go (inr (inr l)) = past (omega (arith, l))
+
+-- ---- a run
+
+-- within the bound the degree is no greater than that of the bound
+bounded : (s : Setting) (b : Bound) (σ : Monomial) → IsInBound s b σ → degree s σ ≤ bound_degree s b
+bounded s (Bound.to_degree d) σ h = h
+bounded s (Bound.under β) σ h = degrees s σ β (inr h)
+
+module _ (s : NamedSetting) (setting : IsSetting s) (prime_field : IsField s.setting.prime) (P : Problem) (same : P.setting ≡ s.setting) (limit : bound_degree P.setting P.bound ≤ 100000) {n : ℕ} {state : State} {last : Option Monomial} (run : SequentialRun P n state last) where
+  field : IsField P.setting.prime
+  field = subst (λ (t : Setting). IsField t.prime) (sym same) prime_field
+
+  inputs : (i : ℕ) → WordsAre P.setting (IsOver (letters_of s.alphabet)) (generator P.setting i)
+  inputs i = subst (λ (t : Setting). WordsAre t (IsOver (letters_of s.alphabet)) (generator t i)) (sym same) (generator_over s setting i)
+
+  over : AreOver P.setting (letters_of s.alphabet) state.entries
+  over = run_over P field (letters_of s.alphabet) inputs run
+
+  alive : (e : Entry) → Contains state.entries e → ¬ IsZeroPolynomial P.setting e.polynomial
+  alive = (invariant P field run).sound.nonzero
+
+  letters : (w : Word) → IsOver (letters_of s.alphabet) w → AreLetters 64 100 w
+  letters w o = over_letters 64 100 (letters_of s.alphabet) (λ x k. letter_of s.alphabet setting.alphabet (length s.alphabet.names) x (omega arith) (contains_among x (letters_of s.alphabet) k)) w o
+
+  entry_normal : (e : Entry) → Contains state.entries e → IsNormal P.setting.prime e.polynomial
+  entry_normal e k = go ((rebuilt P field run).entries e k)
+    where
+      go : Rebuilds P.setting state.entries e.signature e.trace e.polynomial → IsNormal P.setting.prime e.polynomial
+      go r = kept_normal P.setting field r.first (λ d c. alive d (subst (λ (es : List Entry). Contains es d) (sym r.splits) (Contains-append_left r.first r.rest d c))) (λ σ. IsLess P.setting σ e.signature) r.reduces
+
+  entry_usable : (e : Entry) → Contains state.entries e → IsUsable P.setting e
+  entry_usable e k = record {
+    normal = entry_normal e k;
+    some = λ i. alive e k (subst (IsZeroPolynomial P.setting) (sym i) (λ w. zero_number P.setting.prime));
+    letters = λ w m. letters w (over.words e k w m);
+    light = (let l : (α : Element) × IsLabelled P.setting e.signature e.polynomial α = (invariant P field run).sound.entries e k in labelled_limited P.setting e.signature e.polynomial l.0 l.1);
+  }
+
+  listed : (k : ℕ) (e : Entry) → k < length state.entries → Contains state.entries (get_or state.entries k e)
+  listed k e l = (k, l, get_or_default state.entries k (get_or state.entries k e) e l)
+
+  pub run_usable : All (IsUsable P.setting) state.entries
+  run_usable k e l = entry_usable (get_or state.entries k e) (listed k e l)
+
+  pub run_short : All (λ e. degree P.setting e.signature ≤ 100000) state.entries
+  run_short k e l = omega (arith, limit, bounded P.setting P.bound (get_or state.entries k e).signature ((invariant P field run).within (get_or state.entries k e) (listed k e l)).1)
+
+  pub signature_usable : (σ : Monomial) → IsWithin P σ → IsOver (letters_of s.alphabet) σ.left × IsOver (letters_of s.alphabet) σ.right → IsUsableSignature P.setting σ
+  signature_usable σ within o = record { limited = omega (arith, limit, bounded P.setting P.bound σ within.1); left = letters σ.left o.0; right = letters σ.right o.1 }
+
+  pub candidate_usable : (σ : Monomial) → IsCandidate P state σ → IsUsableSignature P.setting σ
+  candidate_usable σ c = signature_usable σ c.0 (candidate_over P field (letters_of s.alphabet) inputs state alive over σ c)
+
+  pub entry_signed : (e : Entry) → Contains state.entries e → IsUsableSignature P.setting e.signature
+  entry_signed e k = signature_usable e.signature ((invariant P field run).within e k) (over.left e k, over.right e k)
+
+  pub syzygy_signed : (h : Syzygy) → Contains state.syzygies h → IsWithin P h.signature × IsUsableSignature P.setting h.signature
+  syzygy_signed h k = (
+    syzygies_are P (IsWithin P) (λ k before since r σ d. d.0) run h k,
+    signature_usable h.signature (syzygies_are P (IsWithin P) (λ k before since r σ d. d.0) run h k)
+        (syzygies_are P (λ σ. IsOver (letters_of s.alphabet) σ.left × IsOver (letters_of s.alphabet) σ.right) (λ k before since r. candidate_over P field (letters_of s.alphabet) inputs before (invariant P field r).sound.nonzero (run_over P field (letters_of s.alphabet) inputs r)) run h k),
+  )
+
+  pub run_counted : state.covered + state.settled ≤ n
+  run_counted = omega (arith, counts P run)
+
+  -- what the search for the next signature found
+  module _ (before : Option Monomial) (is_last : before ≡ last) (found : Option Monomial) (known : IsNextOf P state before found) where
+    answer : IsNextOf P state last found
+    answer = subst (λ l. IsNextOf P state l found) is_last known
+
+    pub none_ends : n ≤ P.steps → found ≡ None → IsEnd P n state End.complete
+    none_ends h is = IsEnd.is_complete h run (subst (IsNextOf P state last) is answer)
+
+    -- what handling it asks is said of the setting itself
+    module _ (τ : Monomial) (is : found ≡ Some τ) where
+      next : IsNext P state last τ
+      next = subst (IsNextOf P state last) is answer
+
+      pub next_ends : n ≡ P.steps → IsEnd P n state (End.budget τ)
+      next_ends e = IsEnd.is_budget e run τ next
+
+      pub next_entries : All (IsUsable s.setting) state.entries
+      next_entries = subst (λ (t : Setting). All (IsUsable t) state.entries) same run_usable
+
+      pub next_usable : IsUsableSignature s.setting τ
+      next_usable = subst (λ (t : Setting). IsUsableSignature t τ) same (candidate_usable τ next.candidate)
+
+      pub next_generator : IsGenerator s.setting τ.generator
+      next_generator = subst (λ (t : Setting). IsGenerator t τ.generator) same next.candidate.0.0
+
+      pub next_source : ((i : ℕ) × (τ ≡ unit_monomial i)) ⊎ ((w : Word) × Multiple s.setting state.entries τ w)
+      next_source = go next.candidate.1
+        where
+          go : ((i : ℕ) × (τ ≡ unit_monomial i)) ⊎ ((w : Word) × Ambiguity P.setting state.entries τ w) → ((i : ℕ) × (τ ≡ unit_monomial i)) ⊎ ((w : Word) × Multiple s.setting state.entries τ w)
+          go (inl u) = inl u
+          go (inr (w, a)) = inr (w, subst (λ (t : Setting). Multiple t state.entries τ w) same (record { divisor = a.high; signed = a.signed }))
+
+      -- its outcome makes one step more
+      pub next_handled : (later : State) → IsHandled s.setting state τ later → SequentialRun P (n + 1) later (Some τ)
+      next_handled later h = go (subst (λ (t : Setting). IsHandled t state τ later) (sym same) h)
+        where
+          go : IsHandled P.setting state τ later → SequentialRun P (n + 1) later (Some τ)
+          go (o, k, e) = subst (λ m. SequentialRun P m later (Some τ)) (sym (add-one n)) (subst (λ t. SequentialRun P (suc n) t (Some τ)) (sym e) (SequentialRun.handled run τ next o k))

@@ -1,0 +1,33 @@
+-- What a search for the best multiple finds.
+use Rattle.nc_algebra.specs.Elements.{Setting}
+use Rattle.nc_algebra.specs.Monomials.{Monomial}
+use Rattle.nc_algebra.specs.Words.{IsWordLess, Word, compare_words}
+use Rattle.nc_search.specs.Found.{Best}
+use Rattle.nc_theory.specs.Divisors.{Divisor, IsBestMultiple, Multiple, number_of, signature_at}
+use Rattle.nc_theory.specs.States.{Entry}
+use Rattle.std.specs.Ordering.{is_lt}
+use Rattle.std.specs.Prelude.{List, None, Option, Some, cond, ℕ, ◌<◌, ◌≡◌, ◌≤◌, ◌⊎◌}
+
+-- the multiple of one entry with signature τ
+abbrev pub IsAt : (s : Setting) → List Entry → Monomial → ℕ → Option Best → Type 0
+IsAt s entries τ n None = (w : Word) (d : Divisor s entries w) → signature_at s entries w d ≡ τ → ¬ (d.listed.0 ≡ n)
+IsAt s entries τ n (Some b) = (d : Divisor s entries b.word) × (signature_at s entries b.word d ≡ τ) × (d.listed.0 ≡ n) × (d.left ≡ b.left) × (number_of s entries b.word d ≡ b.number) × (d.right ≡ b.right)
+
+-- the best multiple of the first n entries
+abbrev pub IsBestOf : (s : Setting) → List Entry → Monomial → ℕ → Option Best → Type 0
+IsBestOf s entries τ n None = (w : Word) (d : Divisor s entries w) → signature_at s entries w d ≡ τ → ¬ (d.listed.0 < n)
+IsBestOf s entries τ n (Some b) =
+    (d : Divisor s entries b.word) × (signature_at s entries b.word d ≡ τ)
+    × ((v : Word) (e : Divisor s entries v) → signature_at s entries v e ≡ τ → e.listed.0 < n → IsWordLess b.word v ⊎ ((b.word ≡ v) × (number_of s entries b.word d ≤ number_of s entries v e)))
+    × (d.left ≡ b.left) × (number_of s entries b.word d ≡ b.number) × (d.right ≡ b.right) × (d.listed.0 < n)
+
+-- the best multiple with signature τ, and None exactly where there is no multiple
+abbrev pub IsBest : (s : Setting) → List Entry → Monomial → Option Best → Type 0
+IsBest s entries τ None = (w : Word) → ¬ Multiple s entries τ w
+IsBest s entries τ (Some b) = (d : Divisor s entries b.word) × IsBestMultiple s entries τ b.word d × (d.left ≡ b.left) × (number_of s entries b.word d ≡ b.number) × (d.right ≡ b.right)
+
+-- the second where its word is less, and else the first
+abbrev pub best_of : Option Best → Option Best → Option Best
+best_of None next = next
+best_of (Some a) None = Some a
+best_of (Some a) (Some b) = cond (is_lt (compare_words b.word a.word)) (Some b) (Some a)

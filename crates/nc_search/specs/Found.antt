@@ -1,0 +1,27 @@
+-- What searches find, on words and numbers.
+use Rattle.nc_algebra.specs.Words.{Word}
+use Rattle.std.specs.Prelude.{ℕ}
+
+-- what stands before and behind a place
+pub record Around : Type 0 where
+  pub left : Word
+  pub right : Word
+
+-- a divisor of a word: the number of its entry, counted from 1, and what stands around it
+pub record Chosen : Type 0 where
+  pub left : Word
+  pub number : ℕ
+  pub right : Word
+
+-- a multiple of an entry, and its leading word
+pub record Best : Type 0 where
+  pub word : Word
+  pub left : Word
+  pub number : ℕ
+  pub right : Word
+
+-- what stands around two words that meet: before the second one, and behind each
+pub record Meeting : Type 0 where
+  pub before : Word
+  pub behind_first : Word
+  pub behind_second : Word

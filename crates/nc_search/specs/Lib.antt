@@ -1,0 +1,12 @@
+pub mod Found
+pub mod Usable
+pub mod Places
+pub mod Turns
+pub mod Best
+pub mod Covers
+pub mod Outcomes
+pub mod Meetings
+pub mod Nexts
+pub mod Ends
+pub mod Untraced
+pub mod Laws

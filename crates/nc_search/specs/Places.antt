@@ -1,0 +1,36 @@
+-- Places of a word in a word, and what a search for a regular divisor finds.
+use Rattle.nc_algebra.specs.Elements.{IsLess, Setting}
+use Rattle.nc_algebra.specs.Monomials.{Divides, Monomial, times}
+use Rattle.nc_algebra.specs.Words.{Word}
+use Rattle.nc_search.specs.Found.{Around, Chosen}
+use Rattle.nc_theory.specs.Divisors.{Divisor, IsChosenDivisor, RegularDivisor, number_of}
+use Rattle.nc_theory.specs.States.{Entry}
+use Rattle.std.specs.Prelude.{List, None, Option, Some, length, ℕ, ◌++◌, ◌≡◌, ◌≤◌}
+
+-- what stands around v in w, after so many letters
+abbrev pub IsPlace : Word → Word → ℕ → Option Around → Type 0
+IsPlace v w at None = (x y : Word) → x ++ (v ++ y) ≡ w → ¬ (length x ≡ at)
+IsPlace v w at (Some a) = (a.left ++ (v ++ a.right) ≡ w) × (length a.left ≡ at)
+
+-- there, with a signature below τ
+abbrev pub IsRegularPlace : Setting → Monomial → Word → Monomial → Word → ℕ → Option Around → Type 0
+IsRegularPlace s σ v τ w at None = (x y : Word) → x ++ (v ++ y) ≡ w → length x ≡ at → ¬ IsLess s (times x σ y) τ
+IsRegularPlace s σ v τ w at (Some a) = (a.left ++ (v ++ a.right) ≡ w) × (length a.left ≡ at) × IsLess s (times a.left σ a.right) τ
+
+-- the leftmost such place
+abbrev pub IsFirstPlace : Setting → Monomial → Word → Monomial → Word → Option Around → Type 0
+IsFirstPlace s σ v τ w None = (x y : Word) → x ++ (v ++ y) ≡ w → ¬ IsLess s (times x σ y) τ
+IsFirstPlace s σ v τ w (Some a) =
+    (a.left ++ (v ++ a.right) ≡ w) × IsLess s (times a.left σ a.right) τ
+    × ((x y : Word) → x ++ (v ++ y) ≡ w → IsLess s (times x σ y) τ → length a.left ≤ length x)
+
+-- the chosen divisor among those with a signature below τ, and None exactly where there is no regular divisor
+abbrev pub IsChoice : Setting → List Entry → Monomial → Word → Option Chosen → Type 0
+IsChoice s entries τ w None = ¬ RegularDivisor s entries τ w
+IsChoice s entries τ w (Some c) =
+    (d : Divisor s entries w) × IsChosenDivisor s entries (λ σ. IsLess s σ τ) w d × (d.left ≡ c.left) × (number_of s entries w d ≡ c.number) × (d.right ≡ c.right)
+
+-- the words around a divisor of a monomial
+abbrev pub IsQuotient : Monomial → Monomial → Option Around → Type 0
+IsQuotient σ τ None = ¬ Divides σ τ
+IsQuotient σ τ (Some a) = times a.left σ a.right ≡ τ

@@ -1,0 +1,35 @@
+//! What searches over a state of a run find: the definitions and lemmas that the programs share which run the procedure, and
+//! the laws of states that keep no traces.
+#![tactic(auto)]
+
+ghost use Rattle.nc_search.specs.Laws.{CandidateFactsLaw, NextFactsLaw, SnapshotFactsLaw, TracesDoNotMatter, UntracedRunsLaw, UntracedStepsLaw};
+
+/// A state says the same with and without its traces.
+pub fn traces_do_not_matter()
+    ensures { TracesDoNotMatter }
+{}
+
+/// The sequential run without traces: it opens, goes on with each outcome, and is one.
+pub fn untraced_runs()
+    ensures { UntracedRunsLaw }
+{}
+
+/// What a program may count on that goes on with a state of the run, without traces.
+pub fn snapshot_facts()
+    ensures { SnapshotFactsLaw }
+{}
+
+/// The same of each candidate.
+pub fn candidate_facts()
+    ensures { CandidateFactsLaw }
+{}
+
+/// The same of the next signature.
+pub fn next_facts()
+    ensures { NextFactsLaw }
+{}
+
+/// How a run without traces goes on, step by step, and which signatures wait then.
+pub fn untraced_steps()
+    ensures { UntracedStepsLaw }
+{}
