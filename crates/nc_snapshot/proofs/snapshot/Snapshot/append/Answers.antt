@@ -1,0 +1,19 @@
+use Rattle.nc_snapshot.proofs.Limits.{found_counts}
+use Rattle.nc_snapshot.proofs.Steps.{added_degrees, added_stands, added_state}
+use Rattle.nc_snapshot.proofs.snapshot.Snapshot.append.Goals as goal
+use Rattle.std.proofs.Common.{arith, refl}
+
+pub add-requires-clause-covered : goal.add-requires-clause-covered
+add-requires-clause-covered c = omega (arith, found_counts _ c.self.inside.found refl c.self.invariant.0)
+
+pub add-requires-clause-settled : goal.add-requires-clause-settled
+add-requires-clause-settled c = omega (arith, found_counts _ c.self.inside.found refl c.self.invariant.0)
+
+pub invariant_of-self-2 : goal.invariant_of-self-2
+invariant_of-self-2 c = (
+  added_stands c.self.inside.problem.value c.self.inside.handled c.self.inside.found c.add.new.self c.args.sig.value c.args.outcome c.args.self.now c.self.view_is c.self.invariant.0 c.self.invariant.1 c.requires.degree c.requires.next c.requires.steps c.requires.outcome c.in_ok-add.ensures.added,
+  added_degrees c.self.inside.problem.value c.self.inside.handled c.self.inside.found c.add.new.self c.args.sig.value c.args.outcome c.args.self.now c.self.view_is c.self.invariant.0 c.self.invariant.1 c.requires.degree c.requires.next c.requires.steps c.requires.outcome c.in_ok-add.ensures.added,
+)
+
+pub returns-clause-state : goal.returns-clause-state
+returns-clause-state c = added_state c.self.inside.problem.value c.self.inside.handled c.self.inside.found c.add.new.self c.args.sig.value c.args.outcome c.args.self.now c.self.view_is c.self.invariant.0 c.self.invariant.1 c.requires.degree c.requires.next c.requires.steps c.requires.outcome c.in_ok-add.ensures.added

@@ -1,0 +1,15 @@
+//! What a run has found, without traces: snapshots that share what stands.
+#![tactic(auto)]
+
+mod entry;
+mod found;
+mod outcome;
+mod snapshot;
+#[cfg(test)]
+mod tests;
+mod trace;
+
+pub use entry::{Entry, Syzygy};
+pub use outcome::{Listed, Outcome};
+pub use snapshot::Snapshot;
+pub use trace::{Start, Step, StepList, Trace};
