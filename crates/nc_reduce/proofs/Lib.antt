@@ -1,0 +1,4 @@
+pub mod Snapshots
+pub mod Starts
+pub mod Choices
+pub mod Turns

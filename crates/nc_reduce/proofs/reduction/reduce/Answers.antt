@@ -1,0 +1,18 @@
+use Rattle.nc_algebra.specs.Monomials.{monomial_of}
+use Rattle.nc_algebra.specs.Polynomials.{IsNormal}
+use Rattle.nc_algebra.specs.Problems.{setting_of}
+use Rattle.nc_reduce.proofs.Snapshots.{snapshot_usable}
+use Rattle.nc_reduce.proofs.Starts.{start_normal, start_readable, start_small}
+use Rattle.nc_search.specs.Usable.{HasSmallWords}
+use Rattle.nc_snapshot.specs.Traces.{start_of}
+use Rattle.std.proofs.Common.{subst, sym}
+use Rattle.nc_reduce.proofs.reduction.reduce.Goals as goal
+
+pub start_poly-requires : goal.start_poly-requires
+start_poly-requires c = start_readable (setting_of c.args.snapshot.now.problem) c.problem-problem.ensures.snapshot.problem.setting c.args.snapshot.now.state.entries (snapshot_usable c.args.snapshot.now c.problem-problem.ensures.snapshot) (monomial_of c.args.sig.now) c.requires.usable (start_of c.args.start) c.requires.start
+
+pub reduce_all-requires-clause-normal : goal.reduce_all-requires-clause-normal
+reduce_all-requires-clause-normal c = subst (IsNormal c.args.snapshot.now.problem.problem.setting.prime) (sym c.in_ok-f.ensures) (start_normal (setting_of c.args.snapshot.now.problem) c.problem-problem.ensures.snapshot.problem.setting c.args.snapshot.now.state.entries (snapshot_usable c.args.snapshot.now c.problem-problem.ensures.snapshot) (monomial_of c.args.sig.now) c.requires.usable (start_of c.args.start) c.requires.start)
+
+pub reduce_all-requires-clause-small : goal.reduce_all-requires-clause-small
+reduce_all-requires-clause-small c = subst (HasSmallWords c.args.snapshot.now.problem.problem.setting) (sym c.in_ok-f.ensures) (start_small (setting_of c.args.snapshot.now.problem) c.problem-problem.ensures.snapshot.problem.setting c.args.snapshot.now.state.entries (snapshot_usable c.args.snapshot.now c.problem-problem.ensures.snapshot) (monomial_of c.args.sig.now) c.requires.usable (start_of c.args.start) c.requires.start)

@@ -1,0 +1,116 @@
+//! One step.
+
+ghost use Rattle.nc_algebra.specs.Polynomials.{AreResidues, IsNormal, coefficient, leading, normal_form, polynomial_times};
+ghost use Rattle.nc_algebra.specs.Sums.{minus};
+ghost use Rattle.nc_algebra.specs.Words.{OccursAt};
+ghost use Rattle.std.specs.Prelude.{All, IfOk, OnOk, [], length, ◌%◌, ◌*◌, ◌+◌, ◌++◌, ◌<◌, ◌≡◌, ◌≢◌, ◌≤◌};
+
+use nc_field::{Prime, Residue};
+use nc_index::Hit;
+use nc_poly::{Heap, Poly, Term};
+use nc_snapshot::Step;
+use nc_words::{Letter, Word};
+use std::alloc::{AllocError, Global};
+
+/// The residue that times the second gives the first.
+fn quotient(p: Prime, a: Residue, b: Residue) -> Residue
+    requires first { a < p }
+    requires some { 0 < b }
+    requires second { b < p }
+    ensures below { result < p }
+    ensures quotient { result * b % p ≡ a }
+{
+    p.mul(a, p.inverse(b))
+}
+
+/// The leading term.
+fn lead_of(p: Prime, f: &Poly) -> &Term
+    requires normal { IsNormal p f.now }
+    requires some { f.now ≢ [] }
+    ensures word { result.now.key ≡ leading p f.now }
+    ensures coefficient { result.now.coefficient ≡ coefficient f.now (leading p f.now) }
+    ensures nonzero { 0 < result.now.coefficient }
+    ensures residue { result.now.coefficient < p }
+{
+    match f.lead() {
+        Some(lead) => lead,
+        None => unreachable!(),
+    }
+}
+
+/// The coefficient.
+fn coefficient_of(t: &Term) -> Residue
+    ensures { result ≡ t.now.coefficient }
+{
+    t.coefficient
+}
+
+/// What stands before and behind the place of the part.
+fn around<'a>(word: &'a [Letter], part: &[Letter], place: usize) -> (&'a [Letter], &'a [Letter])
+    requires { OccursAt part.now word.now place }
+    ensures spells { result.0.now ++ (part.now ++ result.1.now) ≡ word.now }
+    ensures place { length result.0.now ≡ place }
+{
+    let (front, rest) = word.split_at(place);
+    (front, &rest[part.len()..])
+}
+
+/// The word of these letters.
+fn word_of(alloc: Global, letters: &[Letter]) -> Result<Word, AllocError>
+    requires { length letters.now ≤ 200000 }
+    ensures { IfOk result (λ w. w ≡ letters.now) }
+{
+    Word::join(alloc, &[], &[], letters)
+}
+
+/// The step that subtracts from c times the word: the multiple of the polynomial whose leading word stands at the hit's
+/// place, with the coefficient that takes the word off.
+pub(crate) fn step_at(
+    alloc: Global,
+    p: Prime,
+    c: Residue,
+    word: &Word,
+    divisor: &Poly,
+    hit: Hit,
+) -> Result<Step, AllocError>
+    requires residue { c < p }
+    requires normal { IsNormal p divisor.now }
+    requires some { divisor.now ≢ [] }
+    requires stands { OccursAt (leading p divisor.now) word.now hit.place }
+    ensures spells { IfOk result (λ s. s.left ++ (leading p divisor.now ++ s.right) ≡ word.now) }
+    ensures place { IfOk result (λ s. length s.left ≡ hit.place) }
+    ensures number { IfOk result (λ s. s.number ≡ hit.number) }
+    ensures below { IfOk result (λ s. s.coefficient < p) }
+    ensures cancels { IfOk result (λ s. s.coefficient * coefficient divisor.now (leading p divisor.now) % p ≡ c) }
+{
+    let lead = lead_of(p, divisor);
+    let coefficient = quotient(p, c, coefficient_of(lead));
+    let (front, back) = around(word.letters(), lead.letters(), hit.place);
+    let left = word_of(alloc, front)?;
+    let right = word_of(alloc, back)?;
+    Ok(Step {
+        coefficient,
+        left,
+        number: hit.number,
+        right,
+    })
+}
+
+/// Subtracts the step's multiple of the divisor.
+pub(crate) fn subtract(
+    alloc: Global,
+    p: Prime,
+    step: &Step,
+    divisor: &Poly,
+    rest: &mut Heap,
+) -> Result<(), AllocError>
+    requires factor { step.now.coefficient < p }
+    requires residues { AreResidues p rest.old }
+    requires other_residues { AreResidues p divisor.now }
+    requires few { All (λ t. length step.now.left + length t.key + length step.now.right ≤ 200000) divisor.now }
+    ensures { OnOk result (rest.new ≡ normal_form p (minus p rest.old step.now.coefficient (polynomial_times step.now.left divisor.now step.now.right))) }
+{
+    let left = step.left.letters();
+    let right = step.right.letters();
+    rest.sub_multiple(alloc, p, step.coefficient, left, divisor, right)
+}
