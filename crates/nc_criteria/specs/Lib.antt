@@ -1,0 +1,4 @@
+pub mod Leads
+pub mod Pairs
+pub mod Multiples
+pub mod Searches

@@ -1,0 +1,13 @@
+//! Criteria: what settles a signature before anything is reduced.
+#![tactic(auto)]
+
+mod lead;
+mod multiple;
+mod syzygy;
+mod trivial;
+
+pub use multiple::{Multiple, best_multiple, best_multiple_law};
+pub use syzygy::syzygy_divides;
+
+#[cfg(test)]
+mod tests;
