@@ -1,0 +1,7 @@
+-- Sides of an ambiguity.
+use Rattle.nc_algebra.specs.Monomials.{Sig, sig_times}
+use Rattle.nc_overlap.specs.declared.side.Side.{Side}
+
+-- the multiple that the side stands for
+abbrev pub side_sig : Side → Sig
+side_sig x = sig_times x.left.now x.sig.now x.right.now

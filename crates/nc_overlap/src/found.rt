@@ -1,0 +1,142 @@
+//! The search for the ambiguities of a new entry.
+
+#[cfg(test)]
+mod tests;
+
+ghost use Rattle.nc_algebra.specs.Elements.{HasDegree};
+ghost use Rattle.nc_algebra.specs.Monomials.{compare_sigs, monomial_of};
+ghost use Rattle.nc_algebra.specs.Problems.{IsWithin};
+ghost use Rattle.nc_overlap.specs.Overlaps.{Adds, AddsMeetings, AreNewSignatures, IsLedBy, IsSignatureOver, MeetsEither};
+ghost use Rattle.nc_overlap.specs.Sides.{side_sig};
+ghost use Rattle.nc_search.specs.Meetings.{MeetAt};
+ghost use Rattle.nc_theory.specs.States.{Entry};
+ghost use Rattle.std.specs.Arc.{arc_value};
+ghost use Rattle.std.specs.List.Sorted.{IsStrictlySortedBy};
+ghost use Rattle.std.specs.Prelude.{All, IfOk, OnOk, get_or, length, map, ◌-◌, ◌<◌, ◌≡◌, ◌≤◌};
+
+use crate::meeting::{Lead, greater_side};
+use crate::side::Side;
+use nc_module::Problem;
+use nc_sig::Sig;
+use nc_snapshot::Snapshot;
+use nc_words::Word;
+use std::alloc::{AllocError, Global};
+use std::sync::Arc;
+
+/// Adds what the side stands for, if it lies within the bound.
+fn add_side(
+    alloc: Global,
+    problem: &Problem,
+    found: &mut Vec<Arc<Sig>>,
+    side: &Side,
+) -> Result<(), AllocError>
+    requires over { IsSignatureOver problem.now.problem.setting side.now.sig.now }
+    ensures { OnOk result (Adds problem.now.problem (λ ρ. ρ ≡ monomial_of (side_sig side.now)) (map arc_value found.old.items) (map arc_value found.new.items)) }
+{
+    if side.is_within(problem) {
+        let sig = side.make(alloc, problem)?;
+        found.push(Arc::new(alloc, sig)?)?;
+    }
+    Ok(())
+}
+
+/// Adds the signature where the second leading word begins so many letters behind the beginning of the first one.
+fn add_at(
+    alloc: Global,
+    problem: &Problem,
+    found: &mut Vec<Arc<Sig>>,
+    first: &Lead,
+    second: &Lead,
+    at: usize,
+) -> Result<(), AllocError>
+    requires first { IsSignatureOver problem.now.problem.setting first.now.sig.now }
+    requires second { IsSignatureOver problem.now.problem.setting second.now.sig.now }
+    requires within { at < length first.now.word.now }
+    ensures { OnOk result ((e f : Entry) → IsLedBy problem.now.problem.setting first.now e → IsLedBy problem.now.problem.setting second.now f → Adds problem.now.problem (MeetAt problem.now.problem.setting e f at) (map arc_value found.old.items) (map arc_value found.new.items)) }
+{
+    match greater_side(first, second, at) {
+        Some(side) => add_side(alloc, problem, found, &side),
+        None => Ok(()),
+    }
+}
+
+/// Adds the signatures where the second leading word begins within the first one.
+fn add_pair(
+    alloc: Global,
+    problem: &Problem,
+    found: &mut Vec<Arc<Sig>>,
+    first: &Lead,
+    second: &Lead,
+) -> Result<(), AllocError>
+    requires first { IsSignatureOver problem.now.problem.setting first.now.sig.now }
+    requires second { IsSignatureOver problem.now.problem.setting second.now.sig.now }
+    ensures { OnOk result (AddsMeetings problem.now.problem first.now second.now (map arc_value found.old.items) (map arc_value found.new.items)) }
+{
+    for at in 0..first.word.len() {
+        add_at(alloc, problem, found, first, second, at)?;
+    }
+    Ok(())
+}
+
+/// The leading word of the entry with this number, and its signature.
+fn lead_of(snapshot: &Snapshot, n: u32) -> Lead<'_>
+    requires some { 1 ≤ n }
+    requires within { n ≤ length snapshot.now.state.entries }
+    ensures lead { (d : Entry) → IsLedBy snapshot.now.problem.problem.setting result (get_or snapshot.now.state.entries (n - 1) d) }
+    ensures over { IsSignatureOver snapshot.now.problem.problem.setting result.sig.now }
+{
+    let _problem = snapshot.problem();
+    let entry = snapshot.entry(n);
+    let Some(term) = entry.poly().lead() else {
+        unreachable!()
+    };
+    Lead {
+        word: term.letters(),
+        sig: entry.sig(),
+    }
+}
+
+/// Adds the signatures where an entry's leading word begins within the new one, or the new one within that.
+fn add_entries(
+    alloc: Global,
+    snapshot: &Snapshot,
+    found: &mut Vec<Arc<Sig>>,
+    new: &Lead,
+) -> Result<(), AllocError>
+    requires { IsSignatureOver snapshot.now.problem.problem.setting new.now.sig.now }
+    ensures { OnOk result ((e : Entry) → IsLedBy snapshot.now.problem.problem.setting new.now e → Adds snapshot.now.problem.problem (MeetsEither snapshot.now.problem.problem.setting snapshot.now.state.entries e) (map arc_value found.old.items) (map arc_value found.new.items)) }
+{
+    let problem: &Problem = snapshot.problem();
+    for index in 0..snapshot.entries() {
+        let entry = lead_of(snapshot, index + 1);
+        add_pair(alloc, problem, found, &entry, new)?;
+        add_pair(alloc, problem, found, new, &entry)?;
+    }
+    Ok(())
+}
+
+/// The signatures within the bound of all ambiguities of a new entry with this leading word and this signature: with
+/// each entry of the snapshot, and with itself. Ascending, each once.
+pub fn signatures(
+    alloc: Global,
+    snapshot: &Snapshot,
+    lead: &Word,
+    sig: &Arc<Sig>,
+) -> Result<Vec<Arc<Sig>>, AllocError>
+    requires within { IsWithin snapshot.now.problem.problem (monomial_of sig.now.value) }
+    requires degree { HasDegree snapshot.now.problem.problem.setting sig.now.value }
+    ensures ascending { IfOk result (λ l. IsStrictlySortedBy compare_sigs (map arc_value l.items)) }
+    ensures degrees { IfOk result (λ l. All (HasDegree snapshot.now.problem.problem.setting) (map arc_value l.items)) }
+    ensures exact { IfOk result (λ l. AreNewSignatures snapshot.now.problem.problem snapshot.now.state.entries lead.now (monomial_of sig.now.value) (map arc_value l.items)) }
+{
+    let new = Lead {
+        word: lead.letters(),
+        sig,
+    };
+    let mut found = Vec::new(alloc);
+    add_pair(alloc, snapshot.problem(), &mut found, &new, &new)?;
+    add_entries(alloc, snapshot, &mut found, &new)?;
+    found.sort_unstable();
+    found.dedup();
+    Ok(found)
+}
