@@ -1,0 +1,89 @@
+//! The first signature of a problem that was worked out by hand.
+
+ghost use Rattle.nc_algebra.specs.Elements.{IsGenerator};
+ghost use Rattle.nc_theory.specs.Runs.{opening};
+ghost use Rattle.std.specs.Prelude.{IfOk, length, ◌≡◌, ◌≤◌};
+
+use crate::handle;
+use nc_field::Prime;
+use nc_index::Leads;
+use nc_module::{Alphabet, Bound, Name, Problem, Setting};
+use nc_poly::{Poly, Term};
+use nc_sig::Sig;
+use nc_snapshot::{Outcome, Snapshot, Start};
+use nc_words::{Letter, Word};
+use std::alloc::{AllocError, Global};
+use std::sync::Arc;
+use std::test::Fail;
+
+/// The name that the bytes are.
+fn name(bytes: &[u8]) -> Result<Name, Fail>
+    ensures { IfOk result (λ n. n ≡ bytes.now) }
+{
+    Ok(Name::of(bytes).ok_or("no name")?)
+}
+
+/// The polynomial x x - y.
+fn square(alloc: Global, p: Prime) -> Result<Poly, Fail>
+    requires { p ≡ 101 }
+{
+    let x = Letter::of(0, 1).ok_or("no such letter")?;
+    let y = Letter::of(1, 1).ok_or("no such letter")?;
+    let mut terms = Vec::new(alloc);
+    terms.push(Term::of(1, Word::join(alloc, &[x], &[x], &[])?))?;
+    terms.push(Term::of(100, Word::join(alloc, &[y], &[], &[])?))?;
+    Ok(Poly::of_terms(p, terms))
+}
+
+/// The problem with that generator, to degree 10.
+fn problem(alloc: Global) -> Result<Problem, Fail> {
+    let p = Prime::of(101).ok_or("listed")?;
+    let names = vec![in alloc; name(b"x")?, name(b"y")?]?;
+    let weights = vec![in alloc; 1, 1]?;
+    if !Alphabet::takes(&names, &weights) {
+        return Err("no alphabet".into());
+    }
+    let alphabet = Alphabet::of(names, weights);
+    let generators = vec![in alloc; square(alloc, p)?]?;
+    if !Setting::takes(p, &alphabet, &generators) {
+        return Err("no setting".into());
+    }
+    let setting = Setting::of(p, alphabet, generators);
+    let _prime = setting.prime();
+    Ok(Problem::of(setting, Bound::Degree(10), 100))
+}
+
+/// What becomes of the signature of the first generator, where nothing is handled; None where it lies beyond the bound.
+fn handle_first(alloc: Global, snapshot: &Snapshot) -> Result<Option<Outcome>, AllocError>
+    requires opening { snapshot.now.state ≡ opening }
+    requires generator { IsGenerator snapshot.now.problem.problem.setting 1 }
+{
+    let problem = snapshot.problem();
+    let weight = problem.setting().weight(1);
+    let sig = Sig::of(weight, 1, Word::empty(alloc), Word::empty(alloc));
+    if !problem.within(&sig) {
+        return Ok(None);
+    }
+    let outcome = handle(alloc, snapshot, &Leads::empty(alloc), &sig)?;
+    Ok(Some(outcome))
+}
+
+#[test]
+fn the_first_generator_is_an_entry(rt: HostRuntime) -> Result<(), Fail> {
+    let alloc = rt.alloc();
+    let snapshot = Snapshot::empty(alloc, Arc::new(alloc, problem(alloc)?)?);
+    if snapshot.problem().setting().generators().is_empty() {
+        return Err("no generator".into());
+    }
+    let Some(Outcome::Entry { poly, trace }) = handle_first(alloc, &snapshot)? else {
+        return Err("no entry".into());
+    };
+    let [first, second] = poly.terms() else {
+        return Err("not two terms".into());
+    };
+    assert_eq!(rt; (first.coefficient, first.letters().len()), (1, 2));
+    assert_eq!(rt; (second.coefficient, second.letters().len()), (100, 1));
+    assert!(rt; matches!(trace.start, Start::Generator(1)));
+    assert!(rt; trace.steps.items().is_empty());
+    Ok(())
+}
