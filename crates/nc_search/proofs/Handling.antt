@@ -3,24 +3,22 @@ use Rattle.nc_algebra.proofs.Alphabets.{letter_light, text_word_light}
 use Rattle.nc_algebra.proofs.NormalForms.{normal_form_same}
 use Rattle.nc_algebra.specs.Finite.{AreLetters}
 use Rattle.nc_algebra.proofs.Sums.{coefficient-minus, same_from_zero, zero_mul_left, zero_number}
-use Rattle.nc_algebra.proofs.Words.{weight-append, word_laws}
+use Rattle.nc_algebra.proofs.Words.{word_laws}
 use Rattle.nc_algebra.specs.Alphabets.{Alphabet, IsAlphabet, IsLetterIn, IsTextGenerator, IsTextWord}
 use Rattle.nc_algebra.specs.Settings.{IsSetting, NamedSetting}
 use Rattle.nc_algebra.specs.Elements.{IsGenerator, IsLess, Setting, generator}
 use Rattle.nc_algebra.specs.Monomials.{Monomial, times, unit_monomial}
-use Rattle.nc_algebra.specs.Polynomials.{IsNormal, Polynomial, coefficient, leading, normal_form, polynomial_times}
+use Rattle.nc_algebra.specs.Polynomials.{IsNormal, Polynomial, coefficient, normal_form, polynomial_times}
 use Rattle.nc_algebra.specs.Primes.{IsZero}
 use Rattle.nc_algebra.specs.Sums.{SameSum, minus}
 use Rattle.nc_algebra.specs.Words.{IsWordLess, Word, same_word}
-use Rattle.nc_search.proofs.Quotients.{multiple_fits}
-use Rattle.nc_search.proofs.Small.{few_letters, letters-append, letters_back, letters_front, multiple_small, usable_lead}
+use Rattle.nc_search.proofs.Multiples.{shifted_few, shifted_small}
 use Rattle.nc_search.proofs.Turns.{reduction_same}
 use Rattle.nc_search.specs.Best.{IsBest}
 use Rattle.nc_search.specs.Found.{Best, Chosen}
 use Rattle.nc_search.specs.Outcomes.{outcome_after}
 use Rattle.nc_search.specs.Places.{IsChoice}
 use Rattle.nc_search.specs.Usable.{HasSmallWords, IsSmall, IsUsable, IsUsableSignature}
-use Rattle.nc_algebra.proofs.Leading.{leading-normal}
 use Rattle.nc_theory.proofs.Determinism.{listed_same}
 use Rattle.nc_theory.proofs.Properties.{more_are}
 use Rattle.nc_theory.specs.Divisors.{Multiple, RegularDivisor, multiple_at, number_of}
@@ -28,7 +26,7 @@ use Rattle.nc_theory.specs.Reductions.{ReductionAt}
 use Rattle.nc_theory.specs.Runs.{Handles, Outcome, Starts}
 use Rattle.nc_theory.specs.States.{Entry, Start, State, Step}
 use Rattle.nc_theory.specs.Syzygies.{Covered}
-use Rattle.std.proofs.Common.{List, None, Some, [], ap, ap₂, arith, get_or, inl, inr, length, refl, subst, sym, ℕ, ◌%◌, ◌*◌, ◌+◌, ◌++◌, ◌-◌, ◌<◌, ◌∙◌, ◌∷◌, ◌≡◌, ◌≢◌, ◌≤◌, ◌⊎◌, suc, zero}
+use Rattle.std.proofs.Common.{List, None, Some, [], ap, ap₂, arith, get_or, inl, inr, length, refl, subst, sym, ℕ, ◌%◌, ◌*◌, ◌+◌, ◌-◌, ◌<◌, ◌∙◌, ◌∷◌, ◌≡◌, ◌≢◌, ◌≤◌, ◌⊎◌, suc, zero}
 use Rattle.std.proofs.Math.Nat.{mod-eq_of_lt, mod_self}
 use Rattle.std.proofs.lemmas.List.{get_or_read}
 use Rattle.std.proofs.lemmas.List.Elements.{recursion_from_All}
@@ -113,27 +111,14 @@ module _ (s : Setting) (state : State) (τ : Monomial) (uncovered : ¬ Covered s
       multiple_residues = subst (IsNormal s.prime) (sym of_entry) usable_one.normal
 
       pub multiple_few : All (λ x. length u + length x.key + length v ≤ 200000) f
-      multiple_few = subst (λ (g : Polynomial). All (λ x. length u + length x.key + length v ≤ 200000) g) (sym of_entry) (go e.polynomial refl)
-        where
-          go : (g : Polynomial) → e.polynomial ≡ g → All (λ x. length u + length x.key + length v ≤ 200000) g
-          go [] i = absurd (usable_one.some i)
-          go (t ∷ g) i =
-              let n : IsNormal s.prime (t ∷ g) = subst (IsNormal s.prime) i usable_one.normal in
-              few_letters u v t g 200000 n.0.1 (multiple_fits s e τ u v t.key usable_one limit signed (ap (leading s.prime) i ∙ leading-normal s.prime t g n))
-
-      whole_small : IsSmall (u ++ (leading s.prime e.polynomial ++ v))
-      whole_small = (
-        omega (arith, multiple_fits s e τ u v (leading s.prime e.polynomial) usable_one limit signed refl, weight-append u (leading s.prime e.polynomial ++ v), weight-append (leading s.prime e.polynomial) v),
-        letters-append 64 100 u (leading s.prime e.polynomial ++ v) (letters_front 64 100 u e.signature.left (subst (AreLetters 64 100) (sym (ap (λ σ. σ.left) signed)) limit.left))
-            (letters-append 64 100 (leading s.prime e.polynomial) v (usable_one.letters (leading s.prime e.polynomial) (usable_lead s e usable_one).nonzero) (letters_back 64 100 e.signature.right v (subst (AreLetters 64 100) (sym (ap (λ σ. σ.right) signed)) limit.right))),
-      )
+      multiple_few = subst (λ (g : Polynomial). All (λ x. length u + length x.key + length v ≤ 200000) g) (sym of_entry) (shifted_few s τ limit u v e usable_one signed)
 
       module _ (g : Polynomial) (same : SameSum same_word s.prime g (polynomial_times u f v)) where
         at_entry : SameSum same_word s.prime g (polynomial_times u e.polynomial v)
         at_entry = subst (λ (h : Polynomial). SameSum same_word s.prime g (polynomial_times u h v)) of_entry same
 
         pub start_small : HasSmallWords s g
-        start_small x n = multiple_small s u v (u ++ (leading s.prime e.polynomial ++ v)) e.polynomial usable_one.letters (usable_lead s e usable_one) refl whole_small x (λ z. n (at_entry.at x ∙ z))
+        start_small x n = shifted_small s τ limit u v e usable_one signed x (λ z. n (at_entry.at x ∙ z))
 
         pub multiple_handled : (c : Chosen) (kept : Polynomial) (steps : List Step) (o : Outcome) → IsChoice s state.entries τ w (Some c) → ReductionAt s state.entries τ g kept steps → o ≡ outcome_after (Start.a_multiple b.left b.number b.right) kept steps → Handles s state τ o
         multiple_handled c kept steps o found r h =

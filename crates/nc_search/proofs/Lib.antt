@@ -4,6 +4,7 @@ pub mod Products
 pub mod Small
 pub mod Choices
 pub mod Quotients
+pub mod Multiples
 pub mod Covers
 pub mod Turns
 pub mod Runs
@@ -12,10 +13,14 @@ pub mod Tested
 pub mod Problems
 pub mod Meetings
 pub mod Nexts
+pub mod Letters
 pub mod Reached
 pub mod Untraced
 pub mod UntracedStates
 pub mod UntracedRuns
 pub mod UntracedSteps
+pub mod UntracedBases
+pub mod UntracedEnds
 pub mod Snapshots
+pub mod Named
 pub mod Candidates

@@ -7,7 +7,7 @@ use Rattle.nc_algebra.specs.Monomials.{Divides, Monomial, times}
 use Rattle.nc_algebra.specs.Polynomials.{leading}
 use Rattle.nc_algebra.specs.Words.{IsWordLess, Word, compare_words, word_weight}
 use Rattle.nc_search.proofs.Small.{usable_lead}
-use Rattle.nc_search.specs.Best.{IsAt, IsBest, IsBestOf, best_of}
+use Rattle.nc_search.specs.Best.{IsAt, IsBest, IsBestIn, IsBestOf, best_of}
 use Rattle.nc_search.specs.Found.{Best}
 use Rattle.nc_search.specs.Places.{IsPlace}
 use Rattle.nc_search.specs.Usable.{IsUsable, IsUsableSignature}
@@ -44,56 +44,78 @@ module _ (s : Setting) (entries : List Entry) (τ : Monomial) where
   one_word : (w v : Word) (d : Divisor s entries w) (e : Divisor s entries v) → signature_at s entries w d ≡ τ → signature_at s entries v e ≡ τ → d.listed.0 ≡ e.listed.0 → w ≡ v
   one_word w v d e i j k = (one_multiple s entries τ w v d e i j k).0
 
+  -- a set of multiples, and the same set with that of the entry at n
+  pub record IsWithNext (n : ℕ) (old new : (w : Word) → Divisor s entries w → Type 0) : Type 0 where
+    pub signed : (w : Word) (d : Divisor s entries w) → new w d → signature_at s entries w d ≡ τ
+    pub earlier : (w : Word) (d : Divisor s entries w) → old w d → d.listed.0 < n
+    pub more : (w : Word) (d : Divisor s entries w) → old w d → new w d
+    pub here : (w : Word) (d : Divisor s entries w) → signature_at s entries w d ≡ τ → d.listed.0 ≡ n → new w d
+    pub either : (w : Word) (d : Divisor s entries w) → new w d → old w d ⊎ (d.listed.0 ≡ n)
+
+  module _ (n : ℕ) (old new : (w : Word) → Divisor s entries w → Type 0) (x : IsWithNext n old new) where
+    abbrev IsNoGreater : (w : Word) → Divisor s entries w → (v : Word) → Divisor s entries v → Type 0
+    IsNoGreater w d v e = IsWordLess w v ⊎ ((w ≡ v) × (number_of s entries w d ≤ number_of s entries v e))
+
+    -- the better one of the best of the set and the multiple of the next entry
+    pub better_step : (best next : Option Best) → IsBestIn s entries old best → IsAt s entries τ n next → IsBestIn s entries new (best_of best next)
+    better_step None None p q = λ w d m. go w d m (x.either w d m)
+      where
+        go : (w : Word) (d : Divisor s entries w) → new w d → old w d ⊎ (d.listed.0 ≡ n) → ⊥
+        go w d m (inl k) = p w d k
+        go w d m (inr k) = q w d (x.signed w d m) k
+    better_step None (Some b) p q = (q.0, x.here b.word q.0 q.1 q.2, λ v e m. go v e m (x.either v e m), q.3, q.4, q.5)
+      where
+        go : (v : Word) (e : Divisor s entries v) → new v e → old v e ⊎ (e.listed.0 ≡ n) → IsNoGreater b.word q.0 v e
+        go v e m (inl k) = absurd (p v e k)
+        go v e m (inr k) = inr (one_word b.word v q.0 e q.1 (x.signed v e m) (q.2 ∙ sym k), omega (arith, q.2, k))
+    better_step (Some a) None p q = (p.0, x.more a.word p.0 p.1, λ v e m. go v e m (x.either v e m), p.3, p.4, p.5)
+      where
+        go : (v : Word) (e : Divisor s entries v) → new v e → old v e ⊎ (e.listed.0 ≡ n) → IsNoGreater a.word p.0 v e
+        go v e m (inl k) = p.2 v e k
+        go v e m (inr k) = absurd (q v e (x.signed v e m) k)
+    better_step (Some a) (Some b) p q = pick (is_lt (compare_words b.word a.word)) refl
+      where
+        newer : IsWordLess b.word a.word → (v : Word) (e : Divisor s entries v) → new v e → old v e ⊎ (e.listed.0 ≡ n) → IsNoGreater b.word q.0 v e
+        newer l v e m (inl k) = over (p.2 v e k)
+          where
+            over : IsNoGreater a.word p.0 v e → IsNoGreater b.word q.0 v e
+            over (inl g) = inl (word_trans b.word a.word v l g)
+            over (inr g) = inl (subst (IsWordLess b.word) g.0 l)
+        newer l v e m (inr k) = inr (one_word b.word v q.0 e q.1 (x.signed v e m) (q.2 ∙ sym k), omega (arith, q.2, k))
+
+        older : ¬ IsWordLess b.word a.word → (v : Word) (e : Divisor s entries v) → new v e → old v e ⊎ (e.listed.0 ≡ n) → IsNoGreater a.word p.0 v e
+        older not v e m (inl k) = p.2 v e k
+        older not v e m (inr k) = order (word_total a.word b.word)
+          where
+            same : b.word ≡ v
+            same = one_word b.word v q.0 e q.1 (x.signed v e m) (q.2 ∙ sym k)
+
+            order : IsWordLess a.word b.word ⊎ ((a.word ≡ b.word) ⊎ IsWordLess b.word a.word) → IsNoGreater a.word p.0 v e
+            order (inl l) = inl (subst (IsWordLess a.word) same l)
+            order (inr (inl i)) = inr (i ∙ same, omega (arith, x.earlier a.word p.0 p.1, k))
+            order (inr (inr l)) = absurd (not l)
+
+        pick : (c : Bool) → is_lt (compare_words b.word a.word) ≡ c → IsBestIn s entries new (cond c (Some b) (Some a))
+        pick true i = (q.0, x.here b.word q.0 q.1 q.2, λ v e m. newer (word_less_sound b.word a.word i) v e m (x.either v e m), q.3, q.4, q.5)
+        pick false i = (p.0, x.more a.word p.0 p.1, λ v e m. older (λ l. false≢true (sym i ∙ word_less_complete b.word a.word l)) v e m (x.either v e m), p.3, p.4, p.5)
+
   pub best_step : (n : ℕ) (best next : Option Best) → IsBestOf s entries τ n best → IsAt s entries τ n next → IsBestOf s entries τ (n + 1) (best_of best next)
-  best_step n None None p q = λ w d signed h. go w d signed h (nat_order d.listed.0 n)
+  best_step n = better_step n (λ w d. (signature_at s entries w d ≡ τ) × (d.listed.0 < n)) (λ w d. (signature_at s entries w d ≡ τ) × (d.listed.0 < n + 1)) (record {
+    signed = λ w d m. m.0;
+    earlier = λ w d m. m.1;
+    more = λ w d m. (m.0, omega (arith, m.1));
+    here = λ w d i k. (i, omega (arith, k));
+    either = λ w d m. go w d m (nat_order d.listed.0 n);
+  })
     where
-      go : (w : Word) (d : Divisor s entries w) → signature_at s entries w d ≡ τ → d.listed.0 < n + 1 → (d.listed.0 < n) ⊎ ((d.listed.0 ≡ n) ⊎ (n < d.listed.0)) → ⊥
-      go w d signed h (inl k) = p w d signed k
-      go w d signed h (inr (inl k)) = q w d signed k
-      go w d signed h (inr (inr k)) = omega (arith, h, k)
-  best_step n None (Some b) p q = (q.0, q.1, λ v e j h. go v e j h (nat_order e.listed.0 n), q.3, q.4, q.5, omega (arith, q.2))
-    where
-      go : (v : Word) (e : Divisor s entries v) → signature_at s entries v e ≡ τ → e.listed.0 < n + 1 → (e.listed.0 < n) ⊎ ((e.listed.0 ≡ n) ⊎ (n < e.listed.0)) → IsWordLess b.word v ⊎ ((b.word ≡ v) × (number_of s entries b.word q.0 ≤ number_of s entries v e))
-      go v e j h (inl k) = absurd (p v e j k)
-      go v e j h (inr (inl k)) = inr (one_word b.word v q.0 e q.1 j (q.2 ∙ sym k), omega (arith, q.2, k))
-      go v e j h (inr (inr k)) = absurd (omega (arith, h, k))
-  best_step n (Some a) None p q = (p.0, p.1, λ v e j h. go v e j h (nat_order e.listed.0 n), p.3, p.4, p.5, omega (arith, p.6))
-    where
-      go : (v : Word) (e : Divisor s entries v) → signature_at s entries v e ≡ τ → e.listed.0 < n + 1 → (e.listed.0 < n) ⊎ ((e.listed.0 ≡ n) ⊎ (n < e.listed.0)) → IsWordLess a.word v ⊎ ((a.word ≡ v) × (number_of s entries a.word p.0 ≤ number_of s entries v e))
-      go v e j h (inl k) = p.2 v e j k
-      go v e j h (inr (inl k)) = absurd (q v e j k)
-      go v e j h (inr (inr k)) = absurd (omega (arith, h, k))
-  best_step n (Some a) (Some b) p q = pick (is_lt (compare_words b.word a.word)) refl
-    where
-      newer : IsWordLess b.word a.word → (v : Word) (e : Divisor s entries v) → signature_at s entries v e ≡ τ → e.listed.0 < n + 1 → (e.listed.0 < n) ⊎ ((e.listed.0 ≡ n) ⊎ (n < e.listed.0)) → IsWordLess b.word v ⊎ ((b.word ≡ v) × (number_of s entries b.word q.0 ≤ number_of s entries v e))
-      newer l v e j h (inl k) = over (p.2 v e j k)
-        where
-          over : IsWordLess a.word v ⊎ ((a.word ≡ v) × (number_of s entries a.word p.0 ≤ number_of s entries v e)) → IsWordLess b.word v ⊎ ((b.word ≡ v) × (number_of s entries b.word q.0 ≤ number_of s entries v e))
-          over (inl m) = inl (word_trans b.word a.word v l m)
-          over (inr m) = inl (subst (IsWordLess b.word) m.0 l)
-      newer l v e j h (inr (inl k)) = inr (one_word b.word v q.0 e q.1 j (q.2 ∙ sym k), omega (arith, q.2, k))
-      newer l v e j h (inr (inr k)) = absurd (omega (arith, h, k))
-
-      older : ¬ IsWordLess b.word a.word → (v : Word) (e : Divisor s entries v) → signature_at s entries v e ≡ τ → e.listed.0 < n + 1 → (e.listed.0 < n) ⊎ ((e.listed.0 ≡ n) ⊎ (n < e.listed.0)) → IsWordLess a.word v ⊎ ((a.word ≡ v) × (number_of s entries a.word p.0 ≤ number_of s entries v e))
-      older m v e j h (inl k) = p.2 v e j k
-      older m v e j h (inr (inl k)) = order (word_total a.word b.word)
-        where
-          same : b.word ≡ v
-          same = one_word b.word v q.0 e q.1 j (q.2 ∙ sym k)
-
-          order : IsWordLess a.word b.word ⊎ ((a.word ≡ b.word) ⊎ IsWordLess b.word a.word) → IsWordLess a.word v ⊎ ((a.word ≡ v) × (number_of s entries a.word p.0 ≤ number_of s entries v e))
-          order (inl l) = inl (subst (IsWordLess a.word) same l)
-          order (inr (inl i)) = inr (i ∙ same, omega (arith, p.6, k))
-          order (inr (inr l)) = absurd (m l)
-      older m v e j h (inr (inr k)) = absurd (omega (arith, h, k))
-
-      pick : (c : Bool) → is_lt (compare_words b.word a.word) ≡ c → IsBestOf s entries τ (n + 1) (cond c (Some b) (Some a))
-      pick true i = (q.0, q.1, λ v e j h. newer (word_less_sound b.word a.word i) v e j h (nat_order e.listed.0 n), q.3, q.4, q.5, omega (arith, q.2))
-      pick false i = (p.0, p.1, λ v e j h. older (λ l. false≢true (sym i ∙ word_less_complete b.word a.word l)) v e j h (nat_order e.listed.0 n), p.3, p.4, p.5, omega (arith, p.6))
+      go : (w : Word) (d : Divisor s entries w) → (signature_at s entries w d ≡ τ) × (d.listed.0 < n + 1) → (d.listed.0 < n) ⊎ ((d.listed.0 ≡ n) ⊎ (n < d.listed.0)) → ((signature_at s entries w d ≡ τ) × (d.listed.0 < n)) ⊎ (d.listed.0 ≡ n)
+      go w d m (inl k) = inl (m.0, k)
+      go w d m (inr (inl k)) = inr k
+      go w d m (inr (inr k)) = absurd (omega (arith, m.1, k))
 
   pub best_start : IsBestOf s entries τ 0 None
-  best_start w d signed h = omega (arith, h)
+  best_start w d m = omega (arith, m.1)
 
   pub best_end : (n : ℕ) (best : Option Best) → length entries ≤ n → IsBestOf s entries τ n best → IsBest s entries τ best
-  best_end n None h p = λ w m. p w m.divisor m.signed (omega (arith, h, m.divisor.listed.1))
-  best_end n (Some b) h p = (p.0, record { signed = p.1; least = λ v e j. p.2 v e j (omega (arith, h, e.listed.1)) }, p.3, p.4, p.5)
+  best_end n None h p = λ w m. p w m.divisor (m.signed, omega (arith, h, m.divisor.listed.1))
+  best_end n (Some b) h p = (p.0, record { signed = p.1.0; least = λ v e j. p.2 v e (j, omega (arith, h, e.listed.1)) }, p.3, p.4, p.5)

@@ -1,27 +1,23 @@
 -- What a run over a program's setting reaches: entries that can be used, and signatures that can be handled.
-use Rattle.nc_algebra.proofs.Alphabets.{letter_light}
 use Rattle.nc_algebra.proofs.Degrees.{degrees, labelled_limited}
-use Rattle.nc_algebra.proofs.Finite.{among_contains, contains_among}
-use Rattle.nc_algebra.proofs.Orders.{nat_order}
 use Rattle.nc_algebra.proofs.Ranks.{over_letters}
 use Rattle.nc_algebra.proofs.Sums.{zero_number}
-use Rattle.nc_algebra.specs.Alphabets.{Alphabet, IsAlphabet, IsLetterIn, IsTextWord, letter_at}
 use Rattle.nc_algebra.specs.Elements.{Element, IsGenerator, IsLabelled, IsLess, IsZeroPolynomial, Setting, WordsAre, degree, generator}
-use Rattle.nc_algebra.specs.Finite.{AreLetters, IsLetterOf, IsOver}
-use Rattle.nc_algebra.specs.Lists.{Among}
+use Rattle.nc_algebra.specs.Finite.{AreLetters, IsOver}
 use Rattle.nc_algebra.specs.Monomials.{Monomial, unit_monomial}
-use Rattle.nc_algebra.specs.Polynomials.{IsNormal, Polynomial}
+use Rattle.nc_algebra.specs.Polynomials.{IsNormal}
 use Rattle.nc_algebra.specs.Primes.{IsField}
 use Rattle.nc_algebra.specs.Problems.{Bound, IsInBound, IsWithin, Problem, bound_degree}
 use Rattle.nc_algebra.specs.Settings.{IsSetting, NamedSetting}
-use Rattle.nc_algebra.specs.Words.{Letter, Word}
+use Rattle.nc_algebra.specs.Words.{Word}
+use Rattle.nc_search.proofs.Letters.{generator_over, letter_of}
 use Rattle.nc_search.specs.Ends.{IsHandled}
+use Rattle.nc_search.specs.Named.{letters_of}
 use Rattle.nc_search.specs.Nexts.{IsNextOf}
 use Rattle.nc_search.specs.Usable.{IsUsable, IsUsableSignature}
 use Rattle.nc_theory.proofs.Completeness.{invariant}
 use Rattle.nc_theory.proofs.Counting.{counts}
 use Rattle.nc_theory.proofs.Normal.{kept_normal}
-use Rattle.nc_theory.proofs.Properties.{more_are}
 use Rattle.nc_theory.proofs.Rebuilding.{rebuilt}
 use Rattle.nc_theory.proofs.Steps.{candidate_over, run_over, syzygies_are}
 use Rattle.nc_theory.specs.Ambiguities.{Ambiguity}
@@ -30,61 +26,10 @@ use Rattle.nc_theory.specs.Letters.{AreOver}
 use Rattle.nc_theory.specs.Rebuilding.{Rebuilds}
 use Rattle.nc_theory.specs.Runs.{End, IsCandidate, IsEnd, IsNext, SequentialRun}
 use Rattle.nc_theory.specs.States.{Entry, State, Syzygy}
-use Rattle.std.proofs.Common.{Contains, List, None, Option, Some, [], add-one, ap, arith, get_or, inl, inr, length, refl, subst, suc, sym, zero, ℕ, ◌+◌, ◌<◌, ◌∙◌, ◌∷◌, ◌≡◌, ◌≤◌, ◌⊎◌}
-use Rattle.std.proofs.lemmas.List.Elements.{Contains-append_left, recursion_from_All}
-use Rattle.std.proofs.lemmas.List.{get_or_default, get_or_past}
-use Rattle.std.specs.List.{All, AllByRecursion}
-
--- ---- the letters of a program's words
-
--- the first n letters of an alphabet
-pub letters_to : Alphabet → ℕ → List Letter
-letters_to a zero = []
-letters_to a (suc n) = letter_at a n ∷ letters_to a n
-
--- its letters
-abbrev pub letters_of : Alphabet → List Letter
-letters_of a = letters_to a (length a.names)
-
-letter_among : (a : Alphabet) (n : ℕ) (x : Letter) → x.index < n → x ≡ letter_at a x.index → Among x (letters_to a n)
-unfolding letters_to
-letter_among a zero x h e = absurd (omega (arith, h))
-letter_among a (suc n) x h e = go (nat_order x.index n) (λ l. letter_among a n x l e)
-  where
-    go : (x.index < n) ⊎ ((x.index ≡ n) ⊎ (n < x.index)) → (x.index < n → Among x (letters_to a n)) → (x ≡ letter_at a n) ⊎ Among x (letters_to a n)
-    go (inl l) below = inr (below l)
-    go (inr (inl i)) below = inl (e ∙ ap (letter_at a) i)
-    go (inr (inr l)) below = absurd (omega (arith, h, l))
-
-letter_of : (a : Alphabet) → IsAlphabet a → (n : ℕ) (x : Letter) → n ≤ length a.names → Among x (letters_to a n) → IsLetterOf 64 100 x
-unfolding letters_to
-letter_of a is zero x h k = absurd k
-letter_of a is (suc n) x h (inl e) = subst (IsLetterOf 64 100) (sym e) (omega (arith, h, is.few), letter_light a is (letter_at a n) (omega (arith, h), refl))
-letter_of a is (suc n) x h (inr k) = letter_of a is n x (omega (arith, h)) k
-
-text_over : (a : Alphabet) (w : Word) → AllByRecursion (IsLetterIn a) w → IsOver (letters_of a) w
-text_over a [] l = tt
-text_over a (x ∷ w) l = (among_contains x (letters_of a) (letter_among a (length a.names) x l.0.0 l.0.1), text_over a w l.1)
-
-words_over : (s : Setting) (a : Alphabet) (f : Polynomial) → AllByRecursion (λ t. IsTextWord a t.key) f → WordsAre s (IsOver (letters_of a)) f
-words_over s a [] l = λ w m. absurd (m (zero_number s.prime))
-words_over s a (t ∷ f) l = more_are s (IsOver (letters_of a)) t.coefficient t.key f (text_over a t.key (recursion_from_All (IsLetterIn a) t.key l.0.letters)) (words_over s a f l.1)
-
-generator_over : (s : NamedSetting) → IsSetting s → (i : ℕ) → WordsAre s.setting (IsOver (letters_of s.alphabet)) (generator s.setting i)
-unfolding generator
-generator_over s setting zero = λ w m. absurd (m (zero_number s.setting.prime))
-generator_over s setting (suc i) = go (nat_order i (length s.setting.generators))
-  where
-    listed : i < length s.setting.generators → WordsAre s.setting (IsOver (letters_of s.alphabet)) (get_or s.setting.generators i [])
-    listed l = words_over s.setting s.alphabet (get_or s.setting.generators i []) (recursion_from_All (λ t. IsTextWord s.alphabet t.key) (get_or s.setting.generators i []) (setting.each i [] l).polynomial.words)
-
-    past : length s.setting.generators ≤ i → WordsAre s.setting (IsOver (letters_of s.alphabet)) (get_or s.setting.generators i [])
-    past l = subst (WordsAre s.setting (IsOver (letters_of s.alphabet))) (sym (get_or_past s.setting.generators i [] l)) (λ w m. absurd (m (zero_number s.setting.prime)))
-
-    go : (i < length s.setting.generators) ⊎ ((i ≡ length s.setting.generators) ⊎ (length s.setting.generators < i)) → WordsAre s.setting (IsOver (letters_of s.alphabet)) (get_or s.setting.generators i [])
-    go (inl l) = listed l
-    go (inr (inl e)) = past (omega (arith, e))
-    go (inr (inr l)) = past (omega (arith, l))
+use Rattle.std.proofs.Common.{Contains, List, None, Option, Some, add-one, arith, get_or, inl, inr, length, subst, suc, sym, ℕ, ◌+◌, ◌<◌, ◌≡◌, ◌≤◌, ◌⊎◌}
+use Rattle.std.proofs.lemmas.List.Elements.{Contains-append_left}
+use Rattle.std.proofs.lemmas.List.{get_or_default}
+use Rattle.std.specs.List.{All}
 
 -- ---- a run
 
@@ -107,7 +52,7 @@ module _ (s : NamedSetting) (setting : IsSetting s) (prime_field : IsField s.set
   alive = (invariant P field run).sound.nonzero
 
   letters : (w : Word) → IsOver (letters_of s.alphabet) w → AreLetters 64 100 w
-  letters w o = over_letters 64 100 (letters_of s.alphabet) (λ x k. letter_of s.alphabet setting.alphabet (length s.alphabet.names) x (omega arith) (contains_among x (letters_of s.alphabet) k)) w o
+  letters w o = over_letters 64 100 (letters_of s.alphabet) (letter_of s.alphabet setting.alphabet) w o
 
   entry_normal : (e : Entry) → Contains state.entries e → IsNormal P.setting.prime e.polynomial
   entry_normal e k = go ((rebuilt P field run).entries e k)

@@ -13,9 +13,10 @@ use Rattle.nc_algebra.specs.Words.{IsWordLess, Letter, Word, letter_weight, same
 use Rattle.nc_search.specs.Usable.{HasSmallWords, IsSmall, IsUsable}
 use Rattle.nc_theory.proofs.Properties.{minus_are, times_are}
 use Rattle.nc_theory.specs.States.{Entry}
-use Rattle.std.proofs.Common.{Contains, List, [], ap, arith, inl, inr, length, refl, subst, sym, ℕ, ◌+◌, ◌++◌, ◌<◌, ◌∙◌, ◌∷◌, ◌≡◌, ◌≤◌, ◌⊎◌}
+use Rattle.std.proofs.Common.{Contains, List, Some, [], ap, arith, inl, inr, length, refl, subst, sym, ℕ, ◌+◌, ◌++◌, ◌<◌, ◌∙◌, ◌∷◌, ◌≡◌, ◌≤◌, ◌⊎◌}
 use Rattle.std.proofs.lemmas.List.Elements.{All-from_recursion, recursion_from_All}
-use Rattle.std.specs.List.{All, AllByRecursion}
+use Rattle.std.proofs.lemmas.Option.{get_or_from_slice_get, slice_get_within}
+use Rattle.std.specs.List.{All, AllByRecursion, slice_get}
 
 module _ (k m : ℕ) where
   pub letters_front : (u v : Word) → AreLetters k m (u ++ v) → AreLetters k m u
@@ -119,6 +120,9 @@ usable_nonzero s entries a e k z = go e.polynomial refl
     go : (f : Polynomial) → e.polynomial ≡ f → ⊥
     go [] i = usable_one.some i
     go (t ∷ f) i = (first_leads s t f (subst (IsNormal s.prime) i usable_one.normal)).nonzero (subst (λ g. IsZero s.prime (coefficient g t.key)) i (z t.key))
+
+pub usable_at : (s : Setting) (entries : List Entry) → All (IsUsable s) entries → (i : ℕ) (e : Entry) → slice_get entries i ≡ Some e → IsUsable s e
+usable_at s entries usable i e at = subst (IsUsable s) (get_or_from_slice_get entries i e e at) (usable i e (slice_get_within entries i e at))
 
 pub usable_lead : (s : Setting) (e : Entry) → IsUsable s e → IsLeadingWord s e.polynomial (leading s.prime e.polynomial)
 usable_lead s e u = lead_leads s.prime e.polynomial (usable_nonzero s (e ∷ []) (All-from_recursion (IsUsable s) (e ∷ []) (u, tt)) e (0, omega arith, refl))

@@ -13,13 +13,17 @@ abbrev pub IsAt : (s : Setting) → List Entry → Monomial → ℕ → Option B
 IsAt s entries τ n None = (w : Word) (d : Divisor s entries w) → signature_at s entries w d ≡ τ → ¬ (d.listed.0 ≡ n)
 IsAt s entries τ n (Some b) = (d : Divisor s entries b.word) × (signature_at s entries b.word d ≡ τ) × (d.listed.0 ≡ n) × (d.left ≡ b.left) × (number_of s entries b.word d ≡ b.number) × (d.right ≡ b.right)
 
+-- the best one of a set of divisors: the least word, and of those the earliest entry; None exactly where the set has none
+abbrev pub IsBestIn : (s : Setting) (entries : List Entry) → ((w : Word) → Divisor s entries w → Type 0) → Option Best → Type 0
+IsBestIn s entries set None = (w : Word) (d : Divisor s entries w) → ¬ set w d
+IsBestIn s entries set (Some b) =
+    (d : Divisor s entries b.word) × set b.word d
+    × ((v : Word) (e : Divisor s entries v) → set v e → IsWordLess b.word v ⊎ ((b.word ≡ v) × (number_of s entries b.word d ≤ number_of s entries v e)))
+    × (d.left ≡ b.left) × (number_of s entries b.word d ≡ b.number) × (d.right ≡ b.right)
+
 -- the best multiple of the first n entries
 abbrev pub IsBestOf : (s : Setting) → List Entry → Monomial → ℕ → Option Best → Type 0
-IsBestOf s entries τ n None = (w : Word) (d : Divisor s entries w) → signature_at s entries w d ≡ τ → ¬ (d.listed.0 < n)
-IsBestOf s entries τ n (Some b) =
-    (d : Divisor s entries b.word) × (signature_at s entries b.word d ≡ τ)
-    × ((v : Word) (e : Divisor s entries v) → signature_at s entries v e ≡ τ → e.listed.0 < n → IsWordLess b.word v ⊎ ((b.word ≡ v) × (number_of s entries b.word d ≤ number_of s entries v e)))
-    × (d.left ≡ b.left) × (number_of s entries b.word d ≡ b.number) × (d.right ≡ b.right) × (d.listed.0 < n)
+IsBestOf s entries τ n = IsBestIn s entries (λ w d. (signature_at s entries w d ≡ τ) × (d.listed.0 < n))
 
 -- the best multiple with signature τ, and None exactly where there is no multiple
 abbrev pub IsBest : (s : Setting) → List Entry → Monomial → Option Best → Type 0

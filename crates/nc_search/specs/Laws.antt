@@ -1,19 +1,22 @@
 -- The laws that the functions of this crate carry.
 use Rattle.nc_algebra.specs.Elements.{IsLess, Setting}
-use Rattle.nc_algebra.specs.Monomials.{Monomial, unit_monomial}
+use Rattle.nc_algebra.specs.Finite.{monomials_within}
+use Rattle.nc_algebra.specs.Monomials.{Monomial, Sig, unit_monomial}
 use Rattle.nc_algebra.specs.Polynomials.{Polynomial}
 use Rattle.nc_algebra.specs.Primes.{IsPrime}
-use Rattle.nc_algebra.specs.Problems.{IsProblem, IsWithin, NamedProblem, Problem}
+use Rattle.nc_algebra.specs.Problems.{Bound, IsProblem, IsUnder, IsWithin, IsWithinBound, NamedProblem, Problem}
 use Rattle.nc_algebra.specs.Words.{Word}
-use Rattle.nc_search.specs.Untraced.{IsNextOfRun, IsRunOf, IsRunTo, IsSameDivisor, untraced, untraced_entry}
+use Rattle.nc_search.specs.Bases.{AreCanonical, HasBases, HasBasesAt}
+use Rattle.nc_search.specs.Named.{IsOverAlphabet, letters_of}
+use Rattle.nc_search.specs.Untraced.{IsEndOf, IsNextOfRun, IsRunOf, IsRunTo, IsSameDivisor, untraced, untraced_entry}
 use Rattle.nc_search.specs.Usable.{IsUsable, IsUsableSignature}
 use Rattle.nc_theory.specs.Ambiguities.{Ambiguity, NewAmbiguity}
 use Rattle.nc_theory.specs.Divisors.{Divisor, IsBestMultiple, IsChosenDivisor, Multiple, RegularDivisor, signature_at}
 use Rattle.nc_theory.specs.Reductions.{Reduction, ReductionAt}
-use Rattle.nc_theory.specs.Runs.{BringsAmbiguity, Handles, IsCandidate, IsNext, IsWaiting, NoneWaits, Outcome, opening, state_after}
+use Rattle.nc_theory.specs.Runs.{BringsAmbiguity, End, Handles, IsCandidate, IsNext, IsWaiting, NoneWaits, Outcome, opening, state_after}
 use Rattle.nc_theory.specs.States.{Entry, State, Step, Syzygy}
 use Rattle.nc_theory.specs.Syzygies.{Covered}
-use Rattle.std.specs.Prelude.{All, Contains, List, None, Option, Some, length, ℕ, ◌+◌, ◌<◌, ◌↔◌, ◌≡◌, ◌≢◌, ◌⊎◌}
+use Rattle.std.specs.Prelude.{All, Contains, List, None, Option, Some, length, ℕ, ◌+◌, ◌<◌, ◌↔◌, ◌≡◌, ◌≢◌, ◌≤◌, ◌⊎◌}
 
 -- what is said of the one state is said of the other, the traces of new outcomes included
 pub record SameSearches (s : Setting) (state run : State) : Type 0 where
@@ -33,6 +36,9 @@ pub record SameSearches (s : Setting) (state run : State) : Type 0 where
   pub new_ambiguities : (new : Entry) (ρ : Monomial) → NewAmbiguity s state.entries (untraced_entry new) ρ ↔ NewAmbiguity s run.entries new ρ
   pub brings : (τ : Monomial) (o : Outcome) (ρ : Monomial) → BringsAmbiguity s state τ o ρ ↔ BringsAmbiguity s run τ o ρ
   pub after : (τ : Monomial) (o : Outcome) → untraced (state_after state τ o) ≡ untraced (state_after run τ o)
+  pub bases : (b : Bound) → HasBases s state (IsWithinBound s b) ↔ HasBases s run (IsWithinBound s b)
+  pub bases_under : (β : Sig) → HasBases s state (IsUnder s β) ↔ HasBases s run (IsUnder s β)
+  pub canonical : AreCanonical s state ↔ AreCanonical s run
 
 -- so with what a problem's bound lets in
 pub record SameCandidates (P : Problem) (state run : State) : Type 0 where
@@ -42,6 +48,7 @@ pub record SameCandidates (P : Problem) (state run : State) : Type 0 where
   pub waits : (last : Option Monomial) (τ : Monomial) → IsWaiting P state last τ ↔ IsWaiting P run last τ
   pub none : (last : Option Monomial) → NoneWaits P state last ↔ NoneWaits P run last
   pub next : (last : Option Monomial) (τ : Monomial) → IsNext P state last τ ↔ IsNext P run last τ
+  pub bases : (ending : End) → HasBasesAt P state ending ↔ HasBasesAt P run ending
 
 -- a state says the same with and without its traces
 abbrev pub TracesDoNotMatter : Type 0
@@ -100,3 +107,23 @@ abbrev pub UntracedStepsLaw : Type 0
 UntracedStepsLaw = (P : Problem) →
     IsRunTo P 0 opening None
     × (IsPrime P.setting.prime → (n : ℕ) (state : State) (last : Option Monomial) → IsRunTo P n state last → GoesOn P n state last)
+
+-- the state at an end has enough, within the bound or below the next signature
+abbrev pub EndFactsLaw : Type 0
+EndFactsLaw = (P : Problem) → IsPrime P.setting.prime → (n : ℕ) (state : State) (ending : End) → IsEndOf P n state ending → HasBasesAt P state ending
+
+-- a problem has at most one end without traces
+abbrev pub OneUntracedEnd : Type 0
+OneUntracedEnd = (P : Problem) → IsPrime P.setting.prime → (n m : ℕ) (state state' : State) (e e' : End) → IsEndOf P n state e → IsEndOf P m state' e' → (n ≡ m) × (state ≡ state') × (e ≡ e')
+
+-- each entry of a run without traces is the canonical one at its signature
+abbrev pub CanonicalLaw : Type 0
+CanonicalLaw = (P : Problem) → IsPrime P.setting.prime → (n : ℕ) (state : State) → IsRunOf P n state → AreCanonical P.setting state
+
+-- for a problem that a program takes, all words of a run are over its alphabet
+abbrev pub AlphabetLaw : Type 0
+AlphabetLaw = (P : NamedProblem) → IsProblem P → IsPrime P.problem.setting.prime → (n : ℕ) (state : State) → IsRunOf P.problem n state → IsOverAlphabet P state
+
+-- and where as many steps are allowed as its bound has monomials, each end is complete
+abbrev pub EnoughSteps : Type 0
+EnoughSteps = (P : NamedProblem) → IsProblem P → IsPrime P.problem.setting.prime → length (monomials_within P.problem.setting P.problem.bound (letters_of P.alphabet)) ≤ P.problem.steps → (n : ℕ) (state : State) (ending : End) → IsEndOf P.problem n state ending → ending ≡ End.complete

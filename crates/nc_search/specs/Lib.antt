@@ -9,4 +9,6 @@ pub mod Meetings
 pub mod Nexts
 pub mod Ends
 pub mod Untraced
+pub mod Bases
+pub mod Named
 pub mod Laws

@@ -4,7 +4,7 @@ use Rattle.nc_algebra.specs.Monomials.{Monomial}
 use Rattle.nc_algebra.specs.Problems.{Problem}
 use Rattle.nc_algebra.specs.Words.{Word}
 use Rattle.nc_theory.specs.Divisors.{Divisor, number_of}
-use Rattle.nc_theory.specs.Runs.{IsNext, SequentialRun}
+use Rattle.nc_theory.specs.Runs.{End, IsEnd, IsNext, SequentialRun}
 use Rattle.nc_theory.specs.States.{Entry, Start, State, Syzygy, Trace}
 use Rattle.std.specs.Prelude.{List, Option, [], map, ℕ, ◌≡◌}
 
@@ -56,4 +56,10 @@ pub record IsNextOfRun (P : Problem) (n : ℕ) (state : State) (τ : Monomial) :
 pub record IsRunTo (P : Problem) (n : ℕ) (state : State) (last : Option Monomial) : Type 0 where
   pub run : State
   pub runs : SequentialRun P n run last
+  pub stands : state ≡ untraced run
+
+-- the state of the sequential run at the end of its problem, without traces
+pub record IsEndOf (P : Problem) (n : ℕ) (state : State) (ending : End) : Type 0 where
+  pub run : State
+  pub ends : IsEnd P n run ending
   pub stands : state ≡ untraced run

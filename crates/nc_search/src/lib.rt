@@ -2,7 +2,7 @@
 //! the laws of states that keep no traces.
 #![tactic(auto)]
 
-ghost use Rattle.nc_search.specs.Laws.{CandidateFactsLaw, NextFactsLaw, SnapshotFactsLaw, TracesDoNotMatter, UntracedRunsLaw, UntracedStepsLaw};
+ghost use Rattle.nc_search.specs.Laws.{AlphabetLaw, CandidateFactsLaw, CanonicalLaw, EndFactsLaw, EnoughSteps, NextFactsLaw, OneUntracedEnd, SnapshotFactsLaw, TracesDoNotMatter, UntracedRunsLaw, UntracedStepsLaw};
 
 /// A state says the same with and without its traces.
 pub fn traces_do_not_matter()
@@ -32,4 +32,29 @@ pub fn next_facts()
 /// How a run without traces goes on, step by step, and which signatures wait then.
 pub fn untraced_steps()
     ensures { UntracedStepsLaw }
+{}
+
+/// What a state at an end has enough of: all within the bound where the run is complete, and else below the next signature.
+pub fn end_facts()
+    ensures { EndFactsLaw }
+{}
+
+/// A problem has one end, also without traces: one number of steps, one state, one way to end.
+pub fn one_end()
+    ensures { OneUntracedEnd }
+{}
+
+/// Each entry of a run has the one canonical polynomial at its signature.
+pub fn canonical_law()
+    ensures { CanonicalLaw }
+{}
+
+/// All words of a run, and those of its candidates, are over the problem's alphabet.
+pub fn alphabet_law()
+    ensures { AlphabetLaw }
+{}
+
+/// With as many steps as the bound has monomials over the alphabet, each end is complete.
+pub fn enough_steps()
+    ensures { EnoughSteps }
 {}

@@ -1,7 +1,8 @@
 use Rattle.nc_algebra.specs.Words.{Word}
 use Rattle.nc_algebra.specs.Elements.{IsLess, Setting}
-use Rattle.nc_algebra.specs.Problems.{IsWithin, Problem}
+use Rattle.nc_algebra.specs.Problems.{IsUnder, IsWithin, IsWithinBound, Problem}
 use Rattle.nc_search.proofs.Untraced.{moved, moved_ambiguity, moved_best, moved_chosen, moved_multiple, moved_new, moved_reduction, moved_regular, moved_same, other_side, same_signature}
+use Rattle.nc_search.proofs.UntracedBases.{moved_bases, moved_bases_at, moved_canonical}
 use Rattle.nc_search.proofs.UntracedStates.{SameStates, moved_brings, moved_candidate, moved_covered, moved_handles, moved_next, moved_none, same_after, same_entries, untraced_twice}
 use Rattle.nc_search.specs.Laws.{SameCandidates, SameSearches}
 use Rattle.nc_search.specs.Untraced.{IsSameDivisor, SameEntries, untraced, untraced_entry}
@@ -35,6 +36,9 @@ same_searches s state run same = record {
   new_ambiguities = λ new ρ. (moved_new s state.entries run.entries (untraced_entry new) new es refl ρ, moved_new s run.entries state.entries new (untraced_entry new) (sym es) refl ρ);
   brings = λ τ o ρ. (moved_brings s state run same τ o ρ, moved_brings s run state (sym same) τ o ρ);
   after = λ τ o. same_after state run same τ o;
+  bases = λ b. (moved_bases s state run same (IsWithinBound s b), moved_bases s run state (sym same) (IsWithinBound s b));
+  bases_under = λ β. (moved_bases s state run same (IsUnder s β), moved_bases s run state (sym same) (IsUnder s β));
+  canonical = (moved_canonical s state run same, moved_canonical s run state (sym same));
 }
   where
     es : SameEntries state.entries run.entries
@@ -54,6 +58,7 @@ same_candidates P state run same = record {
   waits = λ last τ. (λ c. (moved_candidate P state run same τ c.0, c.1), λ c. (moved_candidate P run state (sym same) τ c.0, c.1));
   none = λ last. (moved_none P state run same last, moved_none P run state (sym same) last);
   next = λ last τ. (moved_next P state run same last τ, moved_next P run state (sym same) last τ);
+  bases = λ e. (moved_bases_at P state run same e, moved_bases_at P run state (sym same) e);
 }
   where
     es : SameEntries state.entries run.entries
