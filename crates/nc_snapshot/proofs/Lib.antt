@@ -1,3 +1,4 @@
 pub mod Founds
 pub mod Limits
 pub mod Steps
+pub mod Snapshots

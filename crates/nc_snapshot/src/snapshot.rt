@@ -1,12 +1,13 @@
 //! Snapshots.
 
-ghost use Rattle.nc_algebra.specs.Elements.{HasDegree};
-ghost use Rattle.nc_algebra.specs.Monomials.{monomial_of};
+ghost use Rattle.nc_algebra.specs.Elements.{HasDegree, IsLess};
+ghost use Rattle.nc_algebra.specs.Monomials.{Monomial, monomial_of};
 ghost use Rattle.nc_algebra.specs.Problems.{IsProblem};
+ghost use Rattle.nc_search.specs.Bases.{AreCanonical};
 ghost use Rattle.nc_search.specs.Untraced.{IsNextOfRun, untraced};
 ghost use Rattle.nc_snapshot.specs.Outcomes.{outcome_of};
 ghost use Rattle.nc_snapshot.specs.Snapshots.{IsSnapshot, entry_of, syzygy_of};
-ghost use Rattle.nc_theory.specs.Runs.{Handles, opening, state_after};
+ghost use Rattle.nc_theory.specs.Runs.{BringsAmbiguity, Handles, opening, state_after};
 ghost use Rattle.std.specs.Prelude.{IfErr, IfOk, OnErr, OnOk, Some, length, slice_get, ◌+◌, ◌-◌, ◌<◌, ◌≡◌, ◌≤◌};
 
 use crate::entry::{Entry, Syzygy};
@@ -140,6 +141,8 @@ impl Snapshot {
         ensures problem { self.new.problem ≡ self.old.problem }
         ensures handled { OnOk result (self.new.handled ≡ self.old.handled + 1) }
         ensures state { OnOk result (self.new.state ≡ untraced (state_after self.old.state (monomial_of sig.value) (outcome_of outcome))) }
+        ensures canonical { OnOk result (AreCanonical self.new.problem.problem.setting self.new.state) }
+        ensures ascent { OnOk result ((ρ : Monomial) → BringsAmbiguity self.old.problem.problem.setting self.old.state (monomial_of sig.value) (outcome_of outcome) ρ → IsLess self.old.problem.problem.setting (monomial_of sig.value) ρ) }
         ensures unchanged { OnErr result (self.new ≡ self.old) }
         ensures returned { IfErr result (λ e. outcome_of e.value ≡ outcome_of outcome) }
     {

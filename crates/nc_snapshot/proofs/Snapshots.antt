@@ -1,0 +1,42 @@
+-- What holds of a snapshot: its prime, its entries, and what an outcome brings.
+use Rattle.nc_algebra.proofs.Primes.{field_from_prime}
+use Rattle.nc_algebra.specs.Elements.{IsLess}
+use Rattle.nc_algebra.specs.Monomials.{Monomial}
+use Rattle.nc_algebra.specs.Primes.{IsField, IsPrime}
+use Rattle.nc_field.proofs.Primes.{listed_is_prime}
+use Rattle.nc_search.proofs.Small.{usable_at}
+use Rattle.nc_search.proofs.Snapshots.{facts}
+use Rattle.nc_search.proofs.UntracedEnds.{canonical}
+use Rattle.nc_search.proofs.UntracedRuns.{same_run}
+use Rattle.nc_search.proofs.UntracedStates.{moved_next}
+use Rattle.nc_search.proofs.UntracedSteps.{goes_on}
+use Rattle.nc_search.specs.Bases.{AreCanonical}
+use Rattle.nc_search.specs.Untraced.{IsNextOfRun}
+use Rattle.nc_search.specs.Usable.{IsUsable}
+use Rattle.nc_snapshot.specs.Snapshots.{IsSnapshot, Snapshot}
+use Rattle.nc_theory.specs.Runs.{BringsAmbiguity, Handles, Outcome}
+use Rattle.nc_theory.specs.States.{Entry}
+use Rattle.std.proofs.Common.{Some, sym, ℕ, ◌≡◌}
+use Rattle.std.specs.List.{All, slice_get}
+
+module _ (s : Snapshot) (h : IsSnapshot s) where
+  pub snapshot_prime : IsPrime s.problem.problem.setting.prime
+  snapshot_prime = listed_is_prime s.problem.problem.setting.prime h.problem.setting.prime
+
+  pub snapshot_field : IsField s.problem.problem.setting.prime
+  snapshot_field = field_from_prime s.problem.problem.setting.prime snapshot_prime
+
+  pub snapshot_usable : All (IsUsable s.problem.problem.setting) s.state.entries
+  snapshot_usable = (facts s.problem h.problem snapshot_prime s.handled s.state h.run).usable
+
+  pub entry_usable : (i : ℕ) (e : Entry) → slice_get s.state.entries i ≡ Some e → IsUsable s.problem.problem.setting e
+  entry_usable = usable_at s.problem.problem.setting s.state.entries snapshot_usable
+
+  pub snapshot_canonical : AreCanonical s.problem.problem.setting s.state
+  snapshot_canonical = canonical s.problem.problem snapshot_prime s.handled s.state h.run
+
+  -- what the outcome of the next signature brings is greater
+  pub snapshot_ascends : (τ : Monomial) (o : Outcome) → IsNextOfRun s.problem.problem s.handled s.state τ → Handles s.problem.problem.setting s.state τ o → (ρ : Monomial) → BringsAmbiguity s.problem.problem.setting s.state τ o ρ → IsLess s.problem.problem.setting τ ρ
+  snapshot_ascends τ o next handles =
+      (goes_on s.problem.problem snapshot_prime s.handled s.state next.last (record { run = next.run; runs = next.runs; stands = next.stands })).ascends τ o
+      (moved_next s.problem.problem next.run s.state (sym (same_run s.state next.run next.stands)) next.last τ next.next) handles
