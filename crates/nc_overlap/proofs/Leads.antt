@@ -5,10 +5,9 @@ use Rattle.nc_algebra.specs.Monomials.{Monomial}
 use Rattle.nc_algebra.specs.Polynomials.{IsNormal, Polynomial, leading}
 use Rattle.nc_algebra.specs.Sums.{Term}
 use Rattle.nc_algebra.specs.Words.{Word}
-use Rattle.nc_field.proofs.Primes.{listed_is_prime}
 use Rattle.nc_search.proofs.Snapshots.{facts}
-use Rattle.nc_search.specs.Usable.{IsUsable}
 use Rattle.nc_search.specs.Untraced.{no_trace}
+use Rattle.nc_snapshot.proofs.Snapshots.{entry_usable, snapshot_prime}
 use Rattle.nc_snapshot.specs.Snapshots.{IsSnapshot, Snapshot}
 use Rattle.nc_theory.specs.States.{Entry}
 use Rattle.std.proofs.Common.{Contains, [], Some, ap, arith, refl, slice_get, subst, ℕ, ◌∙◌, ◌<◌, ◌∷◌, ◌≡◌}
@@ -19,18 +18,15 @@ module _ (x : Snapshot) (is : IsSnapshot x) (i : ℕ) (e : Entry) (at : slice_ge
   abbrev listed : Contains x.state.entries e
   listed = (i, slice_get_within x.state.entries i e at, get_or_from_slice_get x.state.entries i e e at)
 
-  usable : IsUsable x.problem.problem.setting e
-  usable = subst (IsUsable x.problem.problem.setting) listed.2 ((facts x.problem is.problem (listed_is_prime x.problem.problem.setting.prime is.problem.setting.prime) x.handled x.state is.run).usable i e listed.1)
-
   -- its polynomial begins with its leading word
   pub leads : (t : Term Word) (f : Polynomial) → e.polynomial ≡ t ∷ f → leading x.problem.problem.setting.prime e.polynomial ≡ t.key
-  leads t f h = ap (leading x.problem.problem.setting.prime) h ∙ leading-normal x.problem.problem.setting.prime t f (subst (IsNormal x.problem.problem.setting.prime) h usable.normal)
+  leads t f h = ap (leading x.problem.problem.setting.prime) h ∙ leading-normal x.problem.problem.setting.prime t f (subst (IsNormal x.problem.problem.setting.prime) h (entry_usable x is i e at).normal)
 
   pub not_zero : ¬ (e.polynomial ≡ [])
-  not_zero h = usable.some h
+  not_zero = (entry_usable x is i e at).some
 
   pub over : IsGenerator x.problem.problem.setting e.signature.generator
-  over = ((facts x.problem is.problem (listed_is_prime x.problem.problem.setting.prime is.problem.setting.prime) x.handled x.state is.run).entries_within e listed).0.0
+  over = ((facts x.problem is.problem (snapshot_prime x is) x.handled x.state is.run).entries_within e listed).0.0
 
 -- an entry with this leading word and this signature
 pub some_entry : (p : ℕ) → 1 < p → (w : Word) (σ : Monomial) → (e : Entry) × (leading p e.polynomial ≡ w) × (e.signature ≡ σ)

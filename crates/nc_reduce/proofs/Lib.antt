@@ -1,4 +1,3 @@
-pub mod Snapshots
 pub mod Starts
 pub mod Choices
 pub mod Turns

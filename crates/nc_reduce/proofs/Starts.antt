@@ -1,22 +1,19 @@
 -- The polynomial of a start: its words are small, and it is in normal form.
-use Rattle.nc_algebra.proofs.Words.{weight-append}
 use Rattle.nc_algebra.specs.Alphabets.{IsTextGenerator, IsTextWord}
 use Rattle.nc_algebra.specs.Elements.{IsGenerator, Setting, generator}
-use Rattle.nc_algebra.specs.Monomials.{Monomial, times}
-use Rattle.nc_algebra.specs.Polynomials.{AreResidues, IsNormal, Polynomial, leading, polynomial_times}
+use Rattle.nc_algebra.specs.Monomials.{Monomial}
+use Rattle.nc_algebra.specs.Polynomials.{AreResidues, IsNormal, Polynomial, polynomial_times}
 use Rattle.nc_algebra.specs.Settings.{IsSetting, NamedSetting}
 use Rattle.nc_algebra.specs.Words.{Word}
-use Rattle.nc_algebra.proofs.Leading.{leading-normal}
 use Rattle.nc_module.proofs.Settings.{generator_is_text}
 use Rattle.nc_poly.proofs.Shifts.{shifted_descends}
 use Rattle.nc_reduce.specs.Starts.{IsReadable, IsStartAt, polynomial_of, start_polynomial}
 use Rattle.nc_search.proofs.Handling.{text_words}
-use Rattle.nc_search.proofs.Quotients.{multiple_fits}
-use Rattle.nc_search.proofs.Small.{few_letters, letters-append, letters_back, letters_front, multiple_small, usable_lead}
-use Rattle.nc_search.specs.Usable.{HasSmallWords, IsSmall, IsUsable, IsUsableSignature}
-use Rattle.nc_algebra.specs.Finite.{AreLetters}
+use Rattle.nc_search.proofs.Multiples.{shifted_few, shifted_small}
+use Rattle.nc_search.proofs.Small.{usable_at}
+use Rattle.nc_search.specs.Usable.{HasSmallWords, IsUsable, IsUsableSignature}
 use Rattle.nc_theory.specs.States.{Entry, Start}
-use Rattle.std.proofs.Common.{List, Some, [], ap, arith, length, map, refl, subst, sym, suc, zero, ℕ, ◌+◌, ◌++◌, ◌-◌, ◌<◌, ◌∙◌, ◌∷◌, ◌≡◌, ◌≤◌}
+use Rattle.std.proofs.Common.{List, Some, [], ap, arith, length, map, subst, sym, suc, zero, ℕ, ◌+◌, ◌-◌, ◌<◌, ◌∙◌, ◌∷◌, ◌≡◌, ◌≤◌}
 use Rattle.std.proofs.lemmas.List.Elements.{All-from_recursion, recursion_from_All}
 use Rattle.std.proofs.lemmas.Option.{get_or_from_slice_get, slice_get-map, slice_get_within}
 use Rattle.std.specs.List.{All, AllByRecursion, slice_get}
@@ -30,9 +27,6 @@ polynomial_at entries (suc i) e h at =
     let here : slice_get entries i ≡ Some e = subst (λ k. slice_get entries k ≡ Some e) same at in
     get_or_from_slice_get (map (λ (x : Entry). x.polynomial) entries) i e.polynomial [] (slice_get-map (λ (x : Entry). x.polynomial) entries i ∙ ap (option_map (λ (x : Entry). x.polynomial)) here)
 
-pub entry_usable : (s : Setting) (entries : List Entry) → All (IsUsable s) entries → (i : ℕ) (e : Entry) → slice_get entries i ≡ Some e → IsUsable s e
-entry_usable s entries usable i e at = subst (IsUsable s) (get_or_from_slice_get entries i e e at) (usable i e (slice_get_within entries i e at))
-
 -- ---- a generator
 
 module _ (s : NamedSetting) (is : IsSetting s) (i : ℕ) (valid : IsGenerator s.setting i) where
@@ -44,26 +38,7 @@ module _ (s : NamedSetting) (is : IsSetting s) (i : ℕ) (valid : IsGenerator s.
 
 -- ---- a multiple of an entry
 
-module _ (s : Setting) (τ : Monomial) (limit : IsUsableSignature s τ) (u v : Word) (e : Entry) (usable : IsUsable s e) (signed : times u e.signature v ≡ τ) where
-  stands_small : IsSmall (u ++ (leading s.prime e.polynomial ++ v))
-  stands_small = (
-    omega (arith, multiple_fits s e τ u v (leading s.prime e.polynomial) usable limit signed refl, weight-append u (leading s.prime e.polynomial ++ v), weight-append (leading s.prime e.polynomial) v),
-    letters-append 64 100 u (leading s.prime e.polynomial ++ v) (letters_front 64 100 u e.signature.left (subst (AreLetters 64 100) (sym (ap (λ σ. σ.left) signed)) limit.left))
-        (letters-append 64 100 (leading s.prime e.polynomial) v (usable.letters (leading s.prime e.polynomial) (usable_lead s e usable).nonzero) (letters_back 64 100 e.signature.right v (subst (AreLetters 64 100) (sym (ap (λ σ. σ.right) signed)) limit.right))),
-  )
-
-  shifted_small : HasSmallWords s (polynomial_times u e.polynomial v)
-  shifted_small = multiple_small s u v (u ++ (leading s.prime e.polynomial ++ v)) e.polynomial usable.letters (usable_lead s e usable) refl stands_small
-
-  shifted_few : All (λ t. length u + length t.key + length v ≤ 200000) e.polynomial
-  shifted_few = go e.polynomial refl
-    where
-      go : (f : Polynomial) → e.polynomial ≡ f → All (λ t. length u + length t.key + length v ≤ 200000) f
-      go [] i = absurd (usable.some i)
-      go (t ∷ f) i =
-          let n : IsNormal s.prime (t ∷ f) = subst (IsNormal s.prime) i usable.normal in
-          few_letters u v t f 200000 n.0.1 (multiple_fits s e τ u v t.key usable limit signed (ap (leading s.prime) i ∙ leading-normal s.prime t f n))
-
+module _ (s : Setting) (u v : Word) (e : Entry) (usable : IsUsable s e) where
   shifted_residues : AreResidues s.prime (polynomial_times u e.polynomial v)
   shifted_residues = All-from_recursion (λ t. t.coefficient < s.prime) (polynomial_times u e.polynomial v) (go e.polynomial (recursion_from_All (λ t. t.coefficient < s.prime) e.polynomial usable.normal.1))
     where
@@ -82,15 +57,15 @@ module _ (s : NamedSetting) (is : IsSetting s) (entries : List Entry) (usable : 
   start_readable (Start.a_multiple u j v) (e, some, at, signed) = (
     some,
     omega (arith, some, slice_get_within entries (j - 1) e at),
-    subst (λ (f : Polynomial). All (λ t. length u + length t.key + length v ≤ 200000) f) (sym (polynomial_at entries j e some at)) (shifted_few s.setting τ limit u v e (entry_usable s.setting entries usable (j - 1) e at) signed),
+    subst (λ (f : Polynomial). All (λ t. length u + length t.key + length v ≤ 200000) f) (sym (polynomial_at entries j e some at)) (shifted_few s.setting τ limit u v e (usable_at s.setting entries usable (j - 1) e at) signed),
   )
 
   pub start_normal : (start : Start) → IsStartAt s.setting entries τ start → IsNormal s.setting.prime (start_polynomial s.setting entries start)
   start_normal (Start.a_generator i) h = (text s is i h.0).polynomial.normal
   start_normal (Start.a_multiple u j v) (e, some, at, signed) =
-      subst (λ (f : Polynomial). IsNormal s.setting.prime (polynomial_times u f v)) (sym (polynomial_at entries j e some at)) (shifted_normal s.setting τ limit u v e (entry_usable s.setting entries usable (j - 1) e at) signed)
+      subst (λ (f : Polynomial). IsNormal s.setting.prime (polynomial_times u f v)) (sym (polynomial_at entries j e some at)) (shifted_normal s.setting u v e (usable_at s.setting entries usable (j - 1) e at))
 
   pub start_small : (start : Start) → IsStartAt s.setting entries τ start → HasSmallWords s.setting (start_polynomial s.setting entries start)
   start_small (Start.a_generator i) h = generator_small s is i h.0
   start_small (Start.a_multiple u j v) (e, some, at, signed) =
-      subst (λ (f : Polynomial). HasSmallWords s.setting (polynomial_times u f v)) (sym (polynomial_at entries j e some at)) (shifted_small s.setting τ limit u v e (entry_usable s.setting entries usable (j - 1) e at) signed)
+      subst (λ (f : Polynomial). HasSmallWords s.setting (polynomial_times u f v)) (sym (polynomial_at entries j e some at)) (shifted_small s.setting τ limit u v e (usable_at s.setting entries usable (j - 1) e at) signed)

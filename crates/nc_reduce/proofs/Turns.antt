@@ -12,7 +12,7 @@ use Rattle.nc_index.specs.Chosen.{IsChosen, LeadsLaw, leads_of}
 use Rattle.nc_index.specs.Pairs.{IsFirstRegular, Lead}
 use Rattle.nc_index.specs.declared.hit.Hit.{Hit}
 use Rattle.nc_reduce.proofs.Choices.{hit_choice, hit_stands, nothing_chosen, number_some, number_within}
-use Rattle.nc_reduce.proofs.Starts.{entry_usable}
+use Rattle.nc_search.proofs.Small.{usable_at}
 use Rattle.nc_reduce.specs.Turns.{IsTurn}
 use Rattle.nc_reduce.specs.declared.turn.Turn.{Turn}
 use Rattle.nc_reduce.specs.declared.turn.Turn.TheVariants.{Kept, Subtracted}
@@ -67,7 +67,7 @@ module _ (law : LeadsLaw) (s : Setting) (entries : List Entry) (usable : All (Is
     -- its entry's polynomial f, and the setting's prime p, as code reads them
     module _ (e : Entry) (at : slice_get entries (h.number - 1) ≡ Some e) (f : Polynomial) (of_entry : f ≡ e.polynomial) (p : ℕ) (is_prime : p ≡ s.prime) where
       usable_one : IsUsable s e
-      usable_one = entry_usable s entries usable (h.number - 1) e at
+      usable_one = usable_at s entries usable (h.number - 1) e at
 
       pub turn_residue : t.coefficient < p
       turn_residue = subst (λ q. t.coefficient < q) (sym is_prime) (lead_residue s entries usable (monomial_of β) old t others parts normal)

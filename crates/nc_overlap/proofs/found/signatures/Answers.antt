@@ -1,7 +1,7 @@
 use Rattle.nc_algebra.specs.Elements.{HasDegree}
 use Rattle.nc_algebra.specs.Monomials.{Sig, monomial_of}
 use Rattle.nc_algebra.specs.Problems.{NamedProblem, Problem}
-use Rattle.nc_field.proofs.Primes.{listed_is_prime}
+use Rattle.nc_snapshot.proofs.Snapshots.{snapshot_prime}
 use Rattle.nc_overlap.proofs.Leads.{some_entry}
 use Rattle.nc_overlap.proofs.Lists.{all_left, ascending_left, same_left}
 use Rattle.nc_overlap.proofs.New.{found_degrees, found_exact}
@@ -21,7 +21,7 @@ returns-clause-degrees c =
     let x : List Sig = map arc_value c.add_pair.new.found.items in
     let y : List Sig = map arc_value c.add_entries.new.found.items in
     let is : c.deref-2.result.now ≡ c.args.snapshot.now.problem = c.deref-2.ensures ∙ c.problem.ensures.problem in
-    let some = some_entry P.setting.prime (listed_is_prime P.setting.prime c.problem.ensures.snapshot.problem.setting.prime).above_one c.letters.result.now (monomial_of c.deref.result.now) in
+    let some = some_entry P.setting.prime (snapshot_prime c.args.snapshot.now c.problem.ensures.snapshot).above_one c.letters.result.now (monomial_of c.deref.result.now) in
     let led : IsLedBy P.setting l some.0 = record { lead = some.1; signed = some.2 } in
     let itself : AddsMeetings P l l (map arc_value c.new-found.result.items) x = subst (λ (N : NamedProblem). AddsMeetings N.problem l l (map arc_value c.new-found.result.items) x) is c.in_ok-add_pair.ensures in
     all_left arc_value c.add_entries.new.found.items c.sort_unstable.new.self.items c.dedup.new.self.items c.sort_unstable.ensures.permutation c.dedup.ensures.filtered (HasDegree P.setting)

@@ -1,7 +1,7 @@
 use Rattle.nc_algebra.specs.Monomials.{monomial_of}
 use Rattle.nc_algebra.specs.Polynomials.{IsNormal}
 use Rattle.nc_algebra.specs.Problems.{setting_of}
-use Rattle.nc_reduce.proofs.Snapshots.{snapshot_usable}
+use Rattle.nc_snapshot.proofs.Snapshots.{snapshot_usable}
 use Rattle.nc_reduce.proofs.Starts.{start_normal, start_readable, start_small}
 use Rattle.nc_search.specs.Usable.{HasSmallWords}
 use Rattle.nc_snapshot.specs.Traces.{start_of}

@@ -1,7 +1,7 @@
 use Rattle.nc_algebra.specs.Elements.{IsLess}
 use Rattle.nc_algebra.specs.Monomials.{monomial_of}
 use Rattle.nc_algebra.specs.Polynomials.{AreResidues, normal_form}
-use Rattle.nc_reduce.proofs.Snapshots.{snapshot_field, snapshot_usable}
+use Rattle.nc_snapshot.proofs.Snapshots.{snapshot_field, snapshot_usable}
 use Rattle.nc_reduce.proofs.Turns.{turn_leaves}
 use Rattle.nc_reduce.specs.Turns.{IsTurn}
 use Rattle.nc_reduce.specs.declared.turn.Turn.TheVariants.{Kept, Subtracted}

@@ -1,4 +1,4 @@
-use Rattle.nc_reduce.proofs.Snapshots.{snapshot_usable}
+use Rattle.nc_snapshot.proofs.Snapshots.{snapshot_usable}
 use Rattle.nc_reduce.proofs.Turns.{divisor_normal, divisor_some, divisor_stands, hit_turn, hit_within, none_turn, step_few, turn_residue}
 use Rattle.nc_snapshot.specs.Snapshots.{entry_of}
 use Rattle.nc_reduce.proofs.turn.take_turn.Goals as goal
