@@ -1,9 +1,9 @@
 -- What holds of a candidate of a snapshot.
 use Rattle.nc_algebra.specs.Monomials.{Monomial, unit_monomial}
 use Rattle.nc_algebra.specs.Words.{Word}
-use Rattle.nc_field.proofs.Primes.{listed_is_prime}
 use Rattle.nc_search.proofs.Candidates.{candidate_facts}
 use Rattle.nc_search.specs.Laws.{CandidateFacts}
+use Rattle.nc_snapshot.proofs.Snapshots.{snapshot_prime}
 use Rattle.nc_snapshot.specs.Snapshots.{IsSnapshot, Snapshot}
 use Rattle.nc_theory.specs.Divisors.{Multiple}
 use Rattle.nc_theory.specs.Runs.{IsCandidate}
@@ -11,7 +11,7 @@ use Rattle.std.proofs.Common.{ap, inl, inr, sym, ℕ, ◌∙◌, ◌≡◌, ◌�
 
 module _ (s : Snapshot) (h : IsSnapshot s) (τ : Monomial) (c : IsCandidate s.problem.problem s.state τ) where
   pub facts : CandidateFacts s.problem.problem s.state τ
-  facts = candidate_facts s.problem h.problem (listed_is_prime s.problem.problem.setting.prime h.problem.setting.prime) s.handled s.state h.run τ c
+  facts = candidate_facts s.problem h.problem (snapshot_prime s h) s.handled s.state h.run τ c
 
   -- one that is no generator's has a multiple
   pub other_multiple : τ ≢ unit_monomial τ.generator → (w : Word) × Multiple s.problem.problem.setting s.state.entries τ w

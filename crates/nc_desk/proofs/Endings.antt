@@ -5,8 +5,11 @@ use Rattle.nc_desk.proofs.Steps.{least_next, next_of_run}
 use Rattle.nc_desk.specs.Desks.{AreLeft, Waits}
 use Rattle.nc_desk.specs.Ends.{IsEndAt}
 use Rattle.nc_queue.specs.Queues.{IsAscending}
+use Rattle.nc_search.proofs.UntracedEnds.{end_facts}
 use Rattle.nc_search.proofs.UntracedRuns.{same_run}
 use Rattle.nc_search.proofs.UntracedStates.{moved_next, moved_none}
+use Rattle.nc_search.specs.Bases.{HasBasesAt}
+use Rattle.nc_snapshot.proofs.Snapshots.{snapshot_prime}
 use Rattle.nc_snapshot.specs.Snapshots.{IsSnapshot, Snapshot}
 use Rattle.nc_theory.specs.Runs.{End as Ending, IsEnd}
 use Rattle.std.proofs.Common.{Err, List, Ok, OnErr, Result, [], arith, ◌<◌, ◌∷◌, ◌≡◌}
@@ -24,6 +27,9 @@ module _ (s : Snapshot) (h : IsSnapshot s) (ws : List Sig) (left : AreLeft s ws)
     stands = left.run.stands;
   }
 
+  pub complete_bases : ws ≡ [] → HasBasesAt s.problem.problem s.state Ending.complete
+  complete_bases e = end_facts s.problem.problem (snapshot_prime s h) s.handled s.state Ending.complete (complete_end e)
+
   module _ (ascending : IsAscending ws) (σ : Sig) (others : List Sig) (is : ws ≡ σ ∷ others) where
     pub one_waits : Waits s
     one_waits = (monomial_of σ, next_of_run s h (monomial_of σ) (least_next s h ws left ascending σ others is))
@@ -35,3 +41,6 @@ module _ (s : Snapshot) (h : IsSnapshot s) (ws : List Sig) (left : AreLeft s ws)
           (moved_next s.problem.problem s.state left.run.run (same_run s.state left.run.run left.run.stands) left.last (monomial_of σ) (first_next s.problem.problem s.handled s.state left.last ws left.exact ascending σ others is).1);
       stands = left.run.stands;
     }
+
+    pub budget_bases : ¬ (s.handled < s.problem.problem.steps) → HasBasesAt s.problem.problem s.state (Ending.budget (monomial_of σ))
+    budget_bases n = end_facts s.problem.problem (snapshot_prime s h) s.handled s.state (Ending.budget (monomial_of σ)) (budget_end n)

@@ -7,7 +7,8 @@ use Rattle.nc_algebra.specs.Sums.{Term}
 use Rattle.nc_algebra.specs.Words.{Word}
 use Rattle.nc_criteria.specs.Multiples.{BestMultipleLaw, IsBestWithin}
 use Rattle.nc_criteria.specs.declared.multiple.Multiple.{Multiple}
-use Rattle.nc_reduce.proofs.Starts.{entry_usable, polynomial_at}
+use Rattle.nc_reduce.proofs.Starts.{polynomial_at}
+use Rattle.nc_search.proofs.Small.{usable_at}
 use Rattle.nc_reduce.specs.Starts.{IsReadable, IsStartAt, polynomial_of, start_polynomial}
 use Rattle.nc_search.proofs.Handling.{handled}
 use Rattle.nc_search.specs.Outcomes.{outcome_after}
@@ -25,7 +26,7 @@ use Rattle.std.specs.List.{All, slice_get}
 
 module _ (s : Setting) (entries : List Entry) (usable : All (IsUsable s) entries) (u v : Word) (j : ℕ) (readable : IsReadable s entries (Start.a_multiple u j v)) (e : Entry) (at : slice_get entries (j - 1) ≡ Some e) where
   usable_one : IsUsable s e
-  usable_one = entry_usable s entries usable (j - 1) e at
+  usable_one = usable_at s entries usable (j - 1) e at
 
   read : polynomial_of entries j ≡ e.polynomial
   read = polynomial_at entries j e readable.0 at

@@ -3,12 +3,10 @@ use Rattle.nc_algebra.proofs.Leading.{leading-normal}
 use Rattle.nc_algebra.specs.Elements.{HasDegree, generator_weight}
 use Rattle.nc_algebra.specs.Monomials.{Monomial, Sig, monomial_of, sig_of}
 use Rattle.nc_algebra.specs.Polynomials.{IsNormal, Polynomial, leading}
-use Rattle.nc_algebra.specs.Primes.{IsPrime}
 use Rattle.nc_algebra.specs.Sums.{Term}
 use Rattle.nc_algebra.specs.Words.{Word}
 use Rattle.nc_desk.specs.Desks.{IsNextAt, LeadsOf}
 use Rattle.nc_desk.specs.Steps.{AreNews, IsBrought}
-use Rattle.nc_field.proofs.Primes.{listed_is_prime}
 use Rattle.nc_index.specs.Chosen.{lead_of, leads_of}
 use Rattle.nc_index.specs.Pairs.{Lead}
 use Rattle.nc_overlap.proofs.Lists.{image, preimage}
@@ -18,6 +16,7 @@ use Rattle.nc_search.proofs.UntracedSteps.{goes_on}
 use Rattle.nc_search.specs.Laws.{GoesOn}
 use Rattle.nc_search.specs.Untraced.{IsRunOf, IsRunTo, untraced, untraced_entry}
 use Rattle.nc_search.specs.Usable.{IsUsable}
+use Rattle.nc_snapshot.proofs.Snapshots.{snapshot_prime}
 use Rattle.nc_snapshot.specs.Snapshots.{IsSnapshot, Snapshot}
 use Rattle.nc_theory.specs.Runs.{Handles, Outcome, state_after}
 use Rattle.nc_theory.specs.States.{Entry, Trace}
@@ -29,11 +28,8 @@ use Rattle.std.specs.List.{All}
 -- ---- what the next signature is
 
 module _ (s : Snapshot) (h : IsSnapshot s) (τ : Monomial) (x : IsNextAt s τ) where
-  prime : IsPrime s.problem.problem.setting.prime
-  prime = listed_is_prime s.problem.problem.setting.prime h.problem.setting.prime
-
   goes : GoesOn s.problem.problem s.handled s.state x.last
-  goes = goes_on s.problem.problem prime s.handled s.state x.last x.run
+  goes = goes_on s.problem.problem (snapshot_prime s h) s.handled s.state x.last x.run
 
   -- ---- a new entry
 
@@ -45,7 +41,7 @@ module _ (s : Snapshot) (h : IsSnapshot s) (τ : Monomial) (x : IsNextAt s τ) w
     usable =
         let later : IsRunTo s.problem.problem (s.handled + 1) (untraced (state_after s.state τ (Outcome.an_entry f trace))) (Some τ) = goes.step τ (Outcome.an_entry f trace) x.next handles in
         let run : IsRunOf s.problem.problem (s.handled + 1) (untraced (state_after s.state τ (Outcome.an_entry f trace))) = record { run = later.run; last = Some τ; runs = later.runs; stands = later.stands } in
-        let all : All (IsUsable s.problem.problem.setting) (map untraced_entry (s.state.entries ++ new ∷ [])) = (facts s.problem h.problem prime (s.handled + 1) (untraced (state_after s.state τ (Outcome.an_entry f trace))) run).usable in
+        let all : All (IsUsable s.problem.problem.setting) (map untraced_entry (s.state.entries ++ new ∷ [])) = (facts s.problem h.problem (snapshot_prime s h) (s.handled + 1) (untraced (state_after s.state τ (Outcome.an_entry f trace))) run).usable in
         let c : Contains (map untraced_entry (s.state.entries ++ new ∷ [])) (untraced_entry new) = image untraced_entry (s.state.entries ++ new ∷ []) new (Contains-push s.state.entries new) in
         subst (IsUsable s.problem.problem.setting) c.2 (all c.0 (untraced_entry new) c.1)
 

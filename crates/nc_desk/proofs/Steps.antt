@@ -1,16 +1,15 @@
 -- A step of a snapshot and of what is kept beside it.
 use Rattle.nc_algebra.specs.Elements.{HasDegree, Setting}
 use Rattle.nc_algebra.specs.Monomials.{Monomial, Sig, monomial_of}
-use Rattle.nc_algebra.specs.Primes.{IsPrime}
 use Rattle.nc_desk.proofs.Left.{first_next, later_run, left_later, none_next}
 use Rattle.nc_desk.specs.Desks.{AreLeft, IsNextAt, LeadsOf, Waits}
 use Rattle.nc_desk.specs.Steps.{AreNews, IsAdvance, IsBrought, IsStep}
-use Rattle.nc_field.proofs.Primes.{listed_is_prime}
 use Rattle.nc_index.specs.Chosen.{lead_of, leads_of}
 use Rattle.nc_index.specs.Pairs.{Lead}
 use Rattle.nc_queue.specs.Queues.{IsAscending, IsUnion}
 use Rattle.nc_search.proofs.UntracedSteps.{goes_on}
 use Rattle.nc_search.specs.Untraced.{IsNextOfRun, untraced, untraced_entry}
+use Rattle.nc_snapshot.proofs.Snapshots.{snapshot_prime}
 use Rattle.nc_snapshot.specs.Snapshots.{IsSnapshot, Snapshot}
 use Rattle.nc_theory.specs.Runs.{Handles, Outcome, state_after}
 use Rattle.nc_theory.specs.States.{Entry}
@@ -22,7 +21,7 @@ untraced_leads s [] = refl
 untraced_leads s (e ∷ es) = ap (λ (ls : List Lead). lead_of s e ∷ ls) (untraced_leads s es)
 
 pub next_of_run : (s : Snapshot) → IsSnapshot s → (τ : Monomial) → IsNextAt s τ → IsNextOfRun s.problem.problem s.handled s.state τ
-next_of_run s h τ x = (goes_on s.problem.problem (listed_is_prime s.problem.problem.setting.prime h.problem.setting.prime) s.handled s.state x.last x.run).next τ x.next
+next_of_run s h τ x = (goes_on s.problem.problem (snapshot_prime s h) s.handled s.state x.last x.run).next τ x.next
 
 -- what was appended and inserted
 module _ (s : Snapshot) (τ : Monomial) (o : Outcome) (handles : Handles s.problem.problem.setting s.state τ o) (later : Snapshot) (problem : later.problem ≡ s.problem) (handled : later.handled ≡ s.handled + 1) (is : later.state ≡ untraced (state_after s.state τ o)) where
@@ -50,11 +49,8 @@ module _ (s : Snapshot) (τ : Monomial) (o : Outcome) (handles : Handles s.probl
 -- ---- the desk's parts
 
 module _ (s : Snapshot) (h : IsSnapshot s) (ws : List Sig) (left : AreLeft s ws) where
-  prime : IsPrime s.problem.problem.setting.prime
-  prime = listed_is_prime s.problem.problem.setting.prime h.problem.setting.prime
-
   pub some_left : Waits s → ws ≡ [] → ⊥
-  some_left w e = none_next s.problem.problem s.handled s.state left.last ws left.exact e prime left.run w.0 w.1
+  some_left w e = none_next s.problem.problem s.handled s.state left.last ws left.exact e (snapshot_prime s h) left.run w.0 w.1
 
   module _ (ascending : IsAscending ws) (σ : Sig) (others : List Sig) (is : ws ≡ σ ∷ others) where
     pub least_degree : HasDegree s.problem.problem.setting σ
@@ -78,8 +74,8 @@ module _ (s : Snapshot) (h : IsSnapshot s) (ws : List Sig) (left : AreLeft s ws)
       pub left_then : (first : Sig) (rest : List Sig) → new ≡ first ∷ rest → AreLeft later rest
       left_then first rest taken = subst (λ (t : Snapshot). AreLeft t rest) (sym a.snapshot) (record {
         last = Some (monomial_of σ);
-        run = later_run s.problem.problem s.handled s.state left.last ws left.exact prime left.run ascending σ others is a.outcome a.handles new a.ascending a.added first rest taken;
-        exact = left_later s.problem.problem s.handled s.state left.last ws left.exact prime left.run ascending σ others is a.outcome a.handles new a.ascending a.added first rest taken;
+        run = later_run s.problem.problem s.handled s.state left.last ws left.exact (snapshot_prime s h) left.run ascending σ others is a.outcome a.handles new a.ascending a.added first rest taken;
+        exact = left_later s.problem.problem s.handled s.state left.last ws left.exact (snapshot_prime s h) left.run ascending σ others is a.outcome a.handles new a.ascending a.added first rest taken;
       })
 
       pub some_then : new ≡ [] → ⊥

@@ -1,16 +1,14 @@
 -- How a run on one thread ends.
 use Rattle.nc_algebra.specs.Elements.{HasDegree, Setting}
 use Rattle.nc_algebra.specs.Monomials.{monomial_of}
-use Rattle.nc_algebra.specs.Problems.{Problem}
 use Rattle.nc_desk.specs.Desks.{LeadsOf, MayStep}
 use Rattle.nc_desk.specs.declared.finished.End.{End}
 use Rattle.nc_desk.specs.declared.finished.End.TheVariants.{Budget, Complete}
 use Rattle.nc_index.specs.Pairs.{Lead}
-use Rattle.nc_search.specs.Untraced.{untraced}
+use Rattle.nc_search.specs.Untraced.{IsEndOf}
 use Rattle.nc_snapshot.specs.Snapshots.{Snapshot}
-use Rattle.nc_theory.specs.Runs.{End as Ending, IsEnd}
-use Rattle.nc_theory.specs.States.{State}
-use Rattle.std.specs.Prelude.{List, None, Option, Some, ℕ, ◌≡◌}
+use Rattle.nc_theory.specs.Runs.{End as Ending}
+use Rattle.std.specs.Prelude.{List, None, Option, Some, ℕ}
 
 -- the variants as the theory has them
 abbrev pub end_of : End → Ending
@@ -22,13 +20,7 @@ abbrev pub HasEndDegree : Setting → End → Type 0
 HasEndDegree s Complete = Unit {0}
 HasEndDegree s (Budget σ) = HasDegree s σ.value
 
--- the state is that of the sequential run at the end of its problem, without traces
-pub record IsEndOf (P : Problem) (n : ℕ) (state : State) (ending : Ending) : Type 0 where
-  pub run : State
-  pub ends : IsEnd P n run ending
-  pub stands : state ≡ untraced run
-
--- the same of a snapshot
+-- the snapshot's state is that at the end of its problem
 abbrev pub IsEndAt : Snapshot → Ending → Type 0
 IsEndAt s ending = IsEndOf s.problem.problem s.handled s.state ending
 

@@ -1,8 +1,9 @@
 //! The desk on one thread.
 
 ghost use Rattle.nc_desk.specs.Desks.{IsLater, LeadsOf, MayStep, Waits};
-ghost use Rattle.nc_desk.specs.Ends.{IsEndIfAny};
+ghost use Rattle.nc_desk.specs.Ends.{IsEndAt, IsEndIfAny};
 ghost use Rattle.nc_desk.specs.Steps.{IsStep};
+ghost use Rattle.nc_search.specs.Bases.{AreCanonical, HasBasesAt};
 ghost use Rattle.nc_theory.specs.Runs.{opening};
 ghost use Rattle.std.specs.Prelude.{IfErr, IfOk, IsTrue, OnErr, OnOk, ◌+◌, ◌<◌, ◌↔◌, ◌≡◌, ◌≤◌};
 
@@ -142,6 +143,9 @@ impl Desk {
         requires begun { begun ≤ self.snapshot.handled }
         ensures snapshot { result.snapshot ≡ self.snapshot }
         ensures driven { result.driven + begun ≡ self.snapshot.handled }
+        ensures bases { HasBasesAt result.snapshot.problem.problem result.snapshot.state result.ending }
+        ensures canonical { AreCanonical result.snapshot.problem.problem.setting result.snapshot.state }
+        ensures ended { IsEndAt result.snapshot result.ending }
     {
         let _problem = self.snapshot.problem();
         let _least = self.waiting.least();
@@ -164,6 +168,9 @@ impl Desk {
     pub fn drive(self) -> Result<Finished, (Desk, AllocError)>
         ensures problem { IfOk result (λ f. f.snapshot.problem ≡ self.snapshot.problem) }
         ensures driven { IfOk result (λ f. f.driven + self.snapshot.handled ≡ f.snapshot.handled) }
+        ensures bases { IfOk result (λ f. HasBasesAt f.snapshot.problem.problem f.snapshot.state f.ending) }
+        ensures canonical { IfOk result (λ f. AreCanonical f.snapshot.problem.problem.setting f.snapshot.state) }
+        ensures ended { IfOk result (λ f. IsEndAt f.snapshot f.ending) }
         ensures later { IfErr result (λ e. IsLater self e.0) }
     {
         let begun = self.snapshot.handled();

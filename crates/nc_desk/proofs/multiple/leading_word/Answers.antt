@@ -1,7 +1,7 @@
 use Rattle.nc_algebra.specs.Polynomials.{leading}
 use Rattle.nc_algebra.specs.Words.{Word}
 use Rattle.nc_desk.proofs.Multiples.{lead_few, lead_is, some_terms}
-use Rattle.nc_reduce.proofs.Snapshots.{snapshot_usable}
+use Rattle.nc_snapshot.proofs.Snapshots.{snapshot_usable}
 use Rattle.nc_reduce.specs.Starts.{polynomial_of}
 use Rattle.nc_snapshot.specs.Snapshots.{entry_of}
 use Rattle.std.proofs.Common.{IfOk, length, refl, subst, sym, ◌+◌, ◌++◌, ◌∙◌, ◌≡◌, ◌≤◌}
