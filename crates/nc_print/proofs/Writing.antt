@@ -7,7 +7,7 @@ use Rattle.nc_algebra.specs.Settings.{NamedSetting}
 use Rattle.nc_algebra.specs.Sums.{Term}
 use Rattle.nc_algebra.specs.Words.{Word}
 use Rattle.nc_module.specs.Modules.{element_of}
-use Rattle.nc_print.specs.Printing.{certificate_text, ended, line_lines, poly_text, setting_lines, term_line, terms_text}
+use Rattle.nc_print.specs.Printing.{certificate_text, ended, line_lines, module_term_text, poly_text, setting_lines, term_line, terms_text}
 use Rattle.std.proofs.Common.{Err, List, Ok, Result, [], ap, append_assoc, codes, get_or, if◌then◌else◌, is_ok, length, map, refl, sym, take, ℕ, ◌++◌, ◌+◌, ◌<◌, ◌∙◌, ◌∷◌, ◌≡◌, ◌≤◌}
 use Rattle.std.proofs.lemmas.List.{append-nil, map-append, take_all, take_more}
 use Rattle.std.proofs.lemmas.List.Concat.{flat_map-append}
@@ -69,6 +69,18 @@ bare_lines names (t ∷ terms) = ap (λ (ls : List (List ℕ)). bare_line names 
 -- all lines
 pub bare_lines_end : (names : List (List ℕ)) (terms : List (Term Sig)) (i : ℕ) (old new : List ℕ) → length terms ≤ i → new ≡ old ++ ended (map (bare_line names) (take i terms)) → new ≡ old ++ ended (map (term_line names) (element_of terms))
 bare_lines_end names terms i old new long is = is ∙ ap (λ (ls : List (List ℕ)). old ++ ended ls) (ap (map (bare_line names)) (take_all i terms long) ∙ bare_lines names terms)
+
+-- the text of a term, whose degree is not printed
+abbrev pub bare_text : List (List ℕ) → Term Sig → List ℕ
+bare_text names t = module_term_text names (record { coefficient = t.coefficient; key = monomial_of t.key })
+
+bare_texts : (names : List (List ℕ)) (terms : List (Term Sig)) → map (bare_text names) terms ≡ map (module_term_text names) (element_of terms)
+bare_texts names [] = refl
+bare_texts names (t ∷ terms) = ap (λ (ls : List (List ℕ)). bare_text names t ∷ ls) (bare_texts names terms)
+
+-- all texts
+pub bare_texts_end : (names : List (List ℕ)) (terms : List (Term Sig)) (i : ℕ) (old new : List ℕ) → length terms ≤ i → new ≡ old ++ flat_map (λ y. codes " + " ++ y) (map (bare_text names) (take i terms)) → new ≡ old ++ flat_map (λ y. codes " + " ++ y) (map (module_term_text names) (element_of terms))
+bare_texts_end names terms i old new long is = is ∙ ap (λ (ls : List (List ℕ)). old ++ flat_map (λ y. codes " + " ++ y) ls) (ap (map (bare_text names)) (take_all i terms long) ∙ bare_texts names terms)
 
 -- ---- certificates
 

@@ -1,4 +1,4 @@
--- The printed forms of words, polynomials, monomials and certificates.
+-- The printed forms of words, polynomials, monomials, module elements and certificates.
 use Rattle.nc_algebra.specs.Alphabets.{Alphabet}
 use Rattle.nc_algebra.specs.Certificates.{Certificate, Factor, Part}
 use Rattle.nc_algebra.specs.Elements.{Element}
@@ -41,6 +41,15 @@ poly_text names (t ∷ f) = joined (codes " + ") (map (term_text names) (t ∷ f
 -- the left word, the generator's number in brackets, the right word
 abbrev pub sig_text : List (List ℕ) → Monomial → List ℕ
 sig_text names σ = word_text names σ.left ++ (codes " [" ++ (decimal σ.generator ++ (codes "] " ++ word_text names σ.right)))
+
+-- the monomial alone where the coefficient is 1, else behind the coefficient
+abbrev pub module_term_text : List (List ℕ) → Term Monomial → List ℕ
+module_term_text names t = (if t.coefficient == 1 then [] else decimal t.coefficient ++ codes "*") ++ sig_text names t.key
+
+-- the terms joined by ` + `; zero is `0`
+abbrev pub module_text : List (List ℕ) → Element → List ℕ
+module_text names [] = codes "0"
+module_text names (t ∷ α) = joined (codes " + ") (map (module_term_text names) (t ∷ α))
 
 -- ---- the lines of a certificate
 

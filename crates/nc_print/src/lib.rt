@@ -1,7 +1,8 @@
-//! The printed forms of polynomials, monomials and certificates.
+//! The printed forms of polynomials, monomials, module elements and certificates.
 #![tactic(auto)]
 
 mod certificate;
+mod module;
 mod monomial;
 mod polynomial;
 mod setting;
@@ -10,6 +11,7 @@ mod terms;
 mod tests;
 
 pub use certificate::write_certificate;
+pub use module::write_module;
 pub use monomial::write_sig;
-pub use polynomial::write_poly;
+pub use polynomial::{push_number, write_poly, write_word};
 pub use terms::write_terms;

@@ -293,3 +293,42 @@ fn terms_of_elements(rt: HostRuntime) -> Result<(), Fail> {
     }
     Ok(())
 }
+
+/// What is written of an element.
+fn module_text(alloc: Global, names: &[Name], m: &Module) -> Result<Vec<u8>, Fail> {
+    let count = names.len();
+    if !m
+        .terms()
+        .iter()
+        .all(|t| has_names(count, t.at.left.letters()))
+        || !m
+            .terms()
+            .iter()
+            .all(|t| has_names(count, t.at.right.letters()))
+    {
+        return Err("names".into());
+    }
+    let mut out = Vec::new(alloc);
+    write_module(&mut out, names, m)?;
+    Ok(out)
+}
+
+#[test]
+fn elements(rt: HostRuntime) -> Result<(), Fail> {
+    let alloc = rt.alloc();
+    let alphabet = alphabet(alloc, 1)?;
+    let empty: &[(Residue, &[u8], &[u8])] = &[];
+    for (terms, want) in [
+        (empty, "0"),
+        (&[(5, b"", b"")], "5*1 [1] 1"),
+        (
+            &[(100, b"", b"x"), (1, b"xy", b"")],
+            "x*y [1] 1 + 100*1 [1] x",
+        ),
+    ] {
+        let m = module(alloc, &alphabet, terms)?;
+        let text = module_text(alloc, alphabet.names(), &m)?;
+        assert_eq!(rt; text.as_slice(), want.as_bytes(), "{want}");
+    }
+    Ok(())
+}
