@@ -1,0 +1,71 @@
+-- What the code's steps do to the sum of a trace.
+use Rattle.nc_algebra.proofs.Lists.{same-refl}
+use Rattle.nc_algebra.specs.Elements.{Element, HasDegree, Setting, element_times, generator_weight}
+use Rattle.nc_algebra.specs.Monomials.{Sig, compare_sigs, same_monomial, unit_monomial}
+use Rattle.nc_algebra.specs.Sums.{SameSum, Term, minus}
+use Rattle.nc_algebra.specs.Words.{Word, word_weight}
+use Rattle.nc_cofactor.proofs.Listing.{less_steps-push}
+use Rattle.nc_cofactor.proofs.Sums.{sum_begins, sum_ends, sum_steps}
+use Rattle.nc_cofactor.specs.Sums.{IsAddable, IsPlaced, IsSum, elements_of}
+use Rattle.nc_module.specs.Modules.{element_of, module_multiples, same_sig}
+use Rattle.nc_poly.specs.Ordered.{AreResiduesBy, Descends}
+use Rattle.nc_theory.specs.Labels.{label_at, less_steps}
+use Rattle.nc_theory.specs.States.{Step}
+use Rattle.std.proofs.Common.{List, [], ap, arith, get_or, length, refl, subst, sym, take, ℕ, ◌%◌, ◌+◌, ◌++◌, ◌-◌, ◌<◌, ◌∙◌, ◌∷◌, ◌≡◌, ◌≤◌}
+use Rattle.std.proofs.Math.ListN.{get_or-map}
+use Rattle.std.proofs.lemmas.List.{take_all, take_more}
+use Rattle.std.proofs.lemmas.List.Elements.{All-from_recursion}
+
+module _ (s : Setting) where
+  -- the generator by itself
+  pub unit_sum : (i w : ℕ) (left right : Word) (at : Sig) (new : List (Term Sig)) → 1 < s.prime → left ≡ [] → right ≡ [] → w ≡ generator_weight s i → at ≡ record { degree = word_weight left + w + word_weight right; generator = i; left = left; right = right } → new ≡ record { coefficient = 1; key = at } ∷ [] → IsSum s (record { coefficient = 1; key = unit_monomial i } ∷ []) new
+  unit_sum i w left right at new one l r weight is pushed =
+      let σ : Sig = record { degree = word_weight [] + generator_weight s i + word_weight []; generator = i; left = []; right = [] } in
+      let same : at ≡ σ = is ∙ (λ x. record { degree = word_weight (l x) + weight x + word_weight (r x); generator = i; left = l x; right = r x }) in
+      let terms : List (Term Sig) = record { coefficient = 1; key = σ } ∷ [] in
+      let whole : new ≡ terms = pushed ∙ ap (λ (k : Sig). record { coefficient = 1; key = k } ∷ []) same in
+      subst (IsSum s (record { coefficient = 1; key = unit_monomial i } ∷ [])) (sym whole) (record {
+        same = same-refl same_monomial s.prime (record { coefficient = 1; key = unit_monomial i } ∷ []);
+        descends = (omega arith, tt, tt);
+        residues = All-from_recursion (λ (t : Term Sig). t.coefficient < s.prime) terms (one, tt);
+        degrees = All-from_recursion (λ (t : Term Sig). HasDegree s t.key) terms (refl, tt);
+      })
+
+  module _ (labels : List (List (Term Sig))) (u : Word) (j : ℕ) (v : Word) (placed : IsPlaced s labels u j v) (m : List (Term Sig)) (is : m ≡ get_or labels (j - 1) []) where
+    pub addable : IsAddable s u m v
+    addable = subst (λ (l : List (Term Sig)). IsAddable s u l v) (sym is) placed.addable
+
+    same_place : SameSum same_monomial s.prime (element_of m) (label_at (elements_of labels) j)
+    same_place =
+        subst (λ (α : Element). SameSum same_monomial s.prime (element_of m) α) (ap element_of is ∙ sym (get_or-map element_of labels (j - 1) [])) (same-refl same_monomial s.prime (element_of m))
+
+    -- the multiple of a label
+    pub begun : (old new : List (Term Sig)) → 1 < s.prime → old ≡ [] → SameSum same_sig s.prime new (module_multiples s.prime 1 u m v ++ old) → Descends compare_sigs new → AreResiduesBy s.prime new → IsSum s (element_times u (label_at (elements_of labels) j) v) new
+    begun old new one none e d residues =
+        sum_begins s (label_at (elements_of labels) j) u m v new (omega arith) addable same_place
+        (subst (λ (l : List (Term Sig)). SameSum same_sig s.prime new (module_multiples s.prime 1 u m v ++ l)) none e) d residues
+
+    -- less a multiple of one
+    pub stepped : (c k p : ℕ) (old new : List (Term Sig)) (α : Element) → c < s.prime → p ≡ s.prime → k ≡ (p - c) % p → SameSum same_sig s.prime new (module_multiples s.prime k u m v ++ old) → Descends compare_sigs new → AreResiduesBy s.prime new → IsSum s α old → IsSum s (minus s.prime α c (element_times u (label_at (elements_of labels) j) v)) new
+    stepped c k p old new α small prime negative e d residues h =
+        sum_steps s α (label_at (elements_of labels) j) c u m v old new small addable same_place
+        (subst (λ n. SameSum same_sig s.prime new (module_multiples s.prime n u m v ++ old)) (negative ∙ ap (λ n. (n - c) % n) prime) e) d residues h
+
+  -- the code's step, by the step of the trace
+  pub taken : (labels : List (List (Term Sig))) (step : Step) (u : Word) (j : ℕ) (v : Word) (c k p : ℕ) (m old new : List (Term Sig)) → u ≡ step.left → j ≡ step.number → v ≡ step.right → c ≡ step.coefficient → m ≡ get_or labels (j - 1) [] → step.coefficient < s.prime → p ≡ s.prime → k ≡ (p - c) % p → IsPlaced s labels step.left step.number step.right → SameSum same_sig s.prime new (module_multiples s.prime k u m v ++ old) → Descends compare_sigs new → AreResiduesBy s.prime new → (α : Element) → IsSum s α old → IsSum s (minus s.prime α step.coefficient (element_times step.left (label_at (elements_of labels) step.number) step.right)) new
+  taken labels step u j v c k p m old new left number right factor is small prime negative placed e d residues α h =
+      stepped labels step.left step.number step.right placed m (is ∙ ap (λ i. get_or labels (i - 1) []) number) step.coefficient k p old new α small prime (negative ∙ ap (λ n. (p - n) % p) factor)
+      (subst (λ (w : Word). SameSum same_sig s.prime new (module_multiples s.prime k step.left m w ++ old)) right (subst (λ (w : Word). SameSum same_sig s.prime new (module_multiples s.prime k w m v ++ old)) left e)) d residues h
+
+-- all steps of a trace
+pub all_steps : (s : Setting) (ls : List Element) (α : Element) (steps : List Step) (i : ℕ) (old new : List (Term Sig)) → length steps ≤ i → 1 < s.prime → SameSum same_sig s.prime new old → Descends compare_sigs new → AreResiduesBy s.prime new → IsSum s (less_steps s.prime ls α (take i steps)) old → IsSum s (less_steps s.prime ls α steps) new
+all_steps s ls α steps i old new long one e d residues h =
+    sum_ends s (less_steps s.prime ls α steps) old new (omega arith) e d residues
+    (subst (λ (l : List Step). IsSum s (less_steps s.prime ls α l) old) (take_all i steps long) h)
+
+-- one step more of a trace
+pub one_more : (s : Setting) (ls : List Element) (α : Element) (steps : List Step) (i : ℕ) (t : Step) (old new : List (Term Sig)) → i < length steps → t ≡ get_or steps i t → ((β : Element) → IsSum s β old → IsSum s (minus s.prime β t.coefficient (element_times t.left (label_at ls t.number) t.right)) new) → IsSum s (less_steps s.prime ls α (take i steps)) old → IsSum s (less_steps s.prime ls α (take (i + 1) steps)) new
+one_more s ls α steps i t old new within is takes h =
+    subst (λ (β : Element). IsSum s β new)
+    (sym (ap (less_steps s.prime ls α) (take_more steps i t within ∙ ap (λ (x : Step). take i steps ++ (x ∷ [])) (sym is)) ∙ less_steps-push s.prime ls α (take i steps) t))
+    (takes (less_steps s.prime ls α (take i steps)) h)

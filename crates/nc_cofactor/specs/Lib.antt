@@ -1,0 +1,9 @@
+pub mod Traces
+pub mod Rebuilding
+pub mod Labels
+pub mod Terms
+pub mod Expanding
+pub mod Laws
+pub mod Sums
+pub mod Needed
+pub mod Letters

@@ -1,0 +1,139 @@
+//! The traces of the entries that an item needs.
+
+ghost use Rattle.nc_cofactor.specs.Needed.{AreNeeded, IsMarked, IsSlot, MarksMore, StepsName};
+ghost use Rattle.nc_cofactor.specs.Terms.{Names, StartNames};
+ghost use Rattle.nc_cofactor.specs.Traces.{IsListed};
+ghost use Rattle.nc_index.specs.Chosen.{leads_of};
+ghost use Rattle.nc_snapshot.specs.Traces.{start_of};
+ghost use Rattle.std.specs.Prelude.{All, IfOk, IsTrue, false, length, ℕ, ◌≡◌, ◌≤◌, ◌↔◌};
+
+use crate::trace::trace_of;
+use nc_index::Leads;
+use nc_snapshot::{Listed, Snapshot, Start, Step, Trace};
+use std::alloc::{AllocError, Global};
+
+/// Whether an entry is marked.
+fn is_marked(marks: &[bool], number: u32) -> bool
+    requires some { 1 ≤ number }
+    requires within { number ≤ length marks.now }
+    ensures { IsTrue result ↔ IsMarked marks.now number }
+{
+    marks[number as usize - 1]
+}
+
+/// Marks an entry.
+fn set_mark(marks: &mut [bool], number: u32)
+    requires some { 1 ≤ number }
+    requires within { number ≤ length marks.old }
+    ensures { MarksMore marks.old marks.new (λ j. number ≡ j) }
+{
+    marks[number as usize - 1] = true;
+}
+
+/// Marks the entry that the start names, if it names one.
+fn mark_start(marks: &mut [bool], start: &Start)
+    requires { (j : ℕ) → StartNames (start_of start.now) j → (1 ≤ j) × (j ≤ length marks.old) }
+    ensures { MarksMore marks.old marks.new (StartNames (start_of start.now)) }
+{
+    if let Start::Multiple { number, .. } = start {
+        set_mark(marks, *number);
+    }
+}
+
+/// Marks the entries that the steps name.
+fn mark_steps(marks: &mut [bool], steps: &[Step])
+    requires some { All (λ step. 1 ≤ step.number) steps.now }
+    requires within { All (λ step. step.number ≤ length marks.old) steps.now }
+    ensures { MarksMore marks.old marks.new (StepsName steps.now) }
+{
+    for step in steps {
+        set_mark(marks, step.number);
+    }
+}
+
+/// Marks the entries that the trace names.
+fn mark(marks: &mut [bool], trace: &Trace)
+    requires { (j : ℕ) → Names trace.now j → (1 ≤ j) × (j ≤ length marks.old) }
+    ensures { MarksMore marks.old marks.new (Names trace.now) }
+{
+    mark_start(marks, &trace.start);
+    mark_steps(marks, trace.steps.items());
+}
+
+/// The trace of an entry that is marked. What it names is marked then.
+fn slot_at(
+    alloc: Global,
+    snapshot: &Snapshot,
+    leads: &Leads,
+    marks: &mut [bool],
+    number: u32,
+) -> Result<Option<Trace>, AllocError>
+    requires leads { leads.now ≡ leads_of snapshot.now.problem.problem.setting snapshot.now.state.entries }
+    requires some { 1 ≤ number }
+    requires within { number ≤ length snapshot.now.state.entries }
+    requires size { length marks.old ≡ length snapshot.now.state.entries }
+    ensures { IfOk result (IsSlot snapshot.now.problem.problem snapshot.now.handled marks.old marks.new number) }
+{
+    let _problem = snapshot.problem();
+    if !is_marked(marks, number) {
+        return Ok(None);
+    }
+    let trace = trace_of(alloc, snapshot, leads, Listed::Entry(number))?;
+    mark(marks, &trace);
+    Ok(Some(trace))
+}
+
+/// The trace of an item, and of each entry that it needs, from the last entry to the first. No entry is marked before.
+fn find(
+    alloc: Global,
+    snapshot: &Snapshot,
+    leads: &Leads,
+    listed: Listed,
+    marks: &mut [bool],
+) -> Result<(Trace, Vec<Option<Trace>>), AllocError>
+    requires leads { leads.now ≡ leads_of snapshot.now.problem.problem.setting snapshot.now.state.entries }
+    requires listed { IsListed snapshot.now.state listed }
+    requires size { length marks.old ≡ length snapshot.now.state.entries }
+    requires unmarked { All (λ mark. mark ≡ false) marks.old }
+    ensures { IfOk result (λ found. AreNeeded snapshot.now.problem.problem snapshot.now.handled listed found.0 found.1.items) }
+{
+    let _problem = snapshot.problem();
+    let trace = trace_of(alloc, snapshot, leads, listed)?;
+    mark(marks, &trace);
+    let mut stack = Vec::new(alloc);
+    let mut left = snapshot.entries();
+    while left > 0 {
+        let slot = slot_at(alloc, snapshot, leads, marks, left)?;
+        stack.push(slot)?;
+        left -= 1;
+    }
+    Ok((trace, stack))
+}
+
+/// So many marks, none of them set.
+fn no_marks(alloc: Global, count: u32) -> Result<Vec<bool>, AllocError>
+    ensures size { IfOk result (λ marks. length marks.items ≡ count) }
+    ensures unmarked { IfOk result (λ marks. All (λ mark. mark ≡ false) marks.items) }
+{
+    let mut marks = Vec::new(alloc);
+    for _ in 0..count {
+        marks.push(false)?;
+    }
+    Ok(marks)
+}
+
+/// The trace of an item, and of each entry that it needs, from the last entry to the first. A trace names earlier entries
+/// alone, so one pass finds all.
+pub(crate) fn needed(
+    alloc: Global,
+    snapshot: &Snapshot,
+    leads: &Leads,
+    listed: Listed,
+) -> Result<(Trace, Vec<Option<Trace>>), AllocError>
+    requires leads { leads.now ≡ leads_of snapshot.now.problem.problem.setting snapshot.now.state.entries }
+    requires listed { IsListed snapshot.now.state listed }
+    ensures { IfOk result (λ found. AreNeeded snapshot.now.problem.problem snapshot.now.handled listed found.0 found.1.items) }
+{
+    let mut marks = no_marks(alloc, snapshot.entries())?;
+    find(alloc, snapshot, leads, listed, marks.as_mut_slice())
+}

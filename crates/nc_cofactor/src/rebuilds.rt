@@ -1,0 +1,99 @@
+//! Traces, made again from a signature and the entries with lesser ones.
+
+ghost use Rattle.nc_algebra.specs.Elements.{HasDegree, IsGenerator};
+ghost use Rattle.nc_algebra.specs.Monomials.{monomial_of, unit_monomial};
+ghost use Rattle.nc_algebra.specs.Polynomials.{Polynomial};
+ghost use Rattle.nc_cofactor.specs.Rebuilding.{AreLesser, HasStart, IsStartOver};
+ghost use Rattle.nc_cofactor.specs.Traces.{IsListedSignature};
+ghost use Rattle.nc_criteria.specs.Multiples.{IsBestWithin};
+ghost use Rattle.nc_index.specs.Chosen.{leads_of};
+ghost use Rattle.nc_snapshot.specs.Traces.{start_of};
+ghost use Rattle.nc_theory.specs.Rebuilding.{Rebuilds};
+ghost use Rattle.nc_theory.specs.States.{Start as Beginning};
+ghost use Rattle.std.specs.Prelude.{IfOk, IsTrue, Some, drop, length, take, ◌≡◌, ◌≢◌, ◌≤◌, ◌↔◌};
+
+use nc_criteria::{Multiple, best_multiple};
+use nc_index::Leads;
+use nc_reduce::{Reduced, reduce};
+use nc_sig::Sig;
+use nc_snapshot::{Snapshot, Start, Trace};
+use nc_words::Word;
+use std::alloc::{AllocError, Global};
+
+/// Whether the signature is its generator by itself.
+fn is_unit(sig: &Sig) -> bool
+    ensures { IsTrue result ↔ (monomial_of sig.now ≡ unit_monomial sig.now.generator) }
+{
+    sig.left.letters().is_empty() && sig.right.letters().is_empty()
+}
+
+/// The best multiple of the first entries.
+fn best_of_first(snapshot: &Snapshot, sig: &Sig, entries: u32) -> Multiple
+    requires few { entries ≤ length snapshot.now.state.entries }
+    requires start { HasStart snapshot.now.problem.problem.setting snapshot.now.state.entries (monomial_of sig.now) entries }
+    requires other { monomial_of sig.now ≢ unit_monomial sig.now.generator }
+    ensures { IsBestWithin snapshot.now.problem.problem.setting snapshot.now.state.entries (monomial_of sig.now) 0 entries (Some result) }
+{
+    match best_multiple(snapshot, sig, 0, entries) {
+        Some(best) => best,
+        None => unreachable!(),
+    }
+}
+
+/// The start at this multiple.
+fn multiple_start(alloc: Global, sig: &Sig, best: &Multiple) -> Result<Start, AllocError>
+    requires left { best.now.left ≤ length sig.now.left }
+    requires right { best.now.right ≤ length sig.now.right }
+    ensures { IfOk result (λ a. start_of a ≡ Beginning.a_multiple (take best.now.left sig.now.left) best.now.number (drop best.now.right sig.now.right)) }
+{
+    let left = &sig.left.letters()[..best.left];
+    let right = &sig.right.letters()[best.right..];
+    let left = Word::join(alloc, left, &[], &[])?;
+    let right = Word::join(alloc, right, &[], &[])?;
+    Ok(Start::Multiple {
+        left,
+        number: best.number,
+        right,
+    })
+}
+
+/// What is reduced at the signature over the first entries.
+fn start_over(
+    alloc: Global,
+    snapshot: &Snapshot,
+    sig: &Sig,
+    entries: u32,
+) -> Result<Start, AllocError>
+    requires few { entries ≤ length snapshot.now.state.entries }
+    requires start { HasStart snapshot.now.problem.problem.setting snapshot.now.state.entries (monomial_of sig.now) entries }
+    requires generator { IsGenerator snapshot.now.problem.problem.setting sig.now.generator }
+    ensures { IfOk result (λ a. IsStartOver snapshot.now.problem.problem.setting snapshot.now.state.entries (monomial_of sig.now) entries (start_of a)) }
+{
+    if is_unit(sig) {
+        return Ok(Start::Generator(sig.generator));
+    }
+    let best = best_of_first(snapshot, sig, entries);
+    multiple_start(alloc, sig, &best)
+}
+
+/// The trace that handling the signature over the first entries gives, where these are the ones with lesser signatures.
+///
+/// The leads are those of all entries: one whose signature is not lesser reduces nothing at this one.
+pub fn rebuild(
+    alloc: Global,
+    snapshot: &Snapshot,
+    leads: &Leads,
+    sig: &Sig,
+    entries: u32,
+) -> Result<Trace, AllocError>
+    requires leads { leads.now ≡ leads_of snapshot.now.problem.problem.setting snapshot.now.state.entries }
+    requires degree { HasDegree snapshot.now.problem.problem.setting sig.now }
+    requires listed { IsListedSignature snapshot.now.state (monomial_of sig.now) }
+    requires lesser { AreLesser snapshot.now.problem.problem.setting snapshot.now.state.entries (monomial_of sig.now) entries }
+    ensures { IfOk result (λ t. (f : Polynomial) × Rebuilds snapshot.now.problem.problem.setting snapshot.now.state.entries (monomial_of sig.now) t f) }
+{
+    let _problem = snapshot.problem();
+    let start = start_over(alloc, snapshot, sig, entries)?;
+    let Reduced { poly: _, trace } = reduce(alloc, snapshot, leads, start, sig)?;
+    Ok(trace)
+}

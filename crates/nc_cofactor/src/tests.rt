@@ -1,0 +1,74 @@
+ghost use Rattle.std.specs.Prelude.{IfOk, length, ◌≡◌, ◌≤◌};
+
+use super::*;
+use nc_field::Prime;
+use nc_index::Leads;
+use nc_module::{Alphabet, Bound, Name, Problem, Setting};
+use nc_poly::{Poly, Term};
+use nc_snapshot::{Listed, Snapshot};
+use nc_words::{Letter, Word};
+use std::alloc::Global;
+use std::sync::Arc;
+use std::test::Fail;
+
+/// The name that the bytes are.
+fn name(bytes: &[u8]) -> Result<Name, Fail>
+    ensures { IfOk result (λ n. n ≡ bytes.now) }
+{
+    Ok(Name::of(bytes).ok_or("no name")?)
+}
+
+/// The polynomial x.
+fn letter(alloc: Global, p: Prime) -> Result<Poly, Fail>
+    requires { p ≡ 101 }
+{
+    let x = Letter::of(0, 1).ok_or("no such letter")?;
+    let mut terms = Vec::new(alloc);
+    terms.push(Term::of(1, Word::join(alloc, &[x], &[], &[])?))?;
+    Ok(Poly::of_terms(p, terms))
+}
+
+/// The problem with that generator, to degree 4.
+fn problem(alloc: Global) -> Result<Problem, Fail> {
+    let p = Prime::of(101).ok_or("listed")?;
+    let names = vec![in alloc; name(b"x")?]?;
+    let weights = vec![in alloc; 1]?;
+    if !Alphabet::takes(&names, &weights) {
+        return Err("no alphabet".into());
+    }
+    let alphabet = Alphabet::of(names, weights);
+    let generators = vec![in alloc; letter(alloc, p)?]?;
+    if !Setting::takes(p, &alphabet, &generators) {
+        return Err("no setting".into());
+    }
+    let setting = Setting::of(p, alphabet, generators);
+    let _prime = setting.prime();
+    Ok(Problem::of(setting, Bound::Degree(4), 100))
+}
+
+#[test]
+fn nothing_has_no_labels(rt: HostRuntime) -> Result<(), Fail> {
+    let alloc = rt.alloc();
+    let snapshot = Snapshot::empty(alloc, Arc::new(alloc, problem(alloc)?)?);
+    let leads = Leads::empty(alloc);
+    let Ok(labels) = Labels::of(alloc, &snapshot, &leads, 0) else {
+        return Err("no labels of entries".into());
+    };
+    let Ok(syzygies) = labels.syzygies(alloc, &snapshot, &leads, 0) else {
+        return Err("no labels of syzygies".into());
+    };
+    assert!(rt; syzygies.is_empty());
+    Ok(())
+}
+
+#[test]
+fn faults_are_shown(rt: HostRuntime) -> Result<(), Fail> {
+    let alloc = rt.alloc();
+    let fault = CofactorFault::TooMany {
+        listed: Listed::Syzygy(3),
+        terms: 7,
+    };
+    let text = format!(in alloc; "{fault}, {}", CofactorFault::OutOfMemory)?;
+    assert_eq!(rt; text.as_str(), "Syzygy(3) has 7 terms, out of memory");
+    Ok(())
+}
