@@ -1,0 +1,55 @@
+-- The lines of the report on a run.
+--   end_line                  how the run ended
+--   counts_line               how many signatures were handled, and what became of them
+--   entry_line, syzygy_line   an item behind its number
+--   numbered                  the lines of all items, each with its number
+--   run_lines                 all lines of a report
+--   run_report                the report as a text
+use Rattle.nc_algebra.specs.Monomials.{Monomial}
+use Rattle.nc_print.specs.Printing.{ended, poly_text, sig_text}
+use Rattle.nc_theory.specs.Runs.{End}
+use Rattle.nc_theory.specs.States.{Entry, State, Syzygy}
+use Rattle.std.specs.Prelude.{List, [], codes, decimal, length, ℕ, ◌++◌, ◌+◌, ◌∷◌}
+
+-- the next signature where the steps were used up
+abbrev pub end_line : List (List ℕ) → End → List ℕ
+end_line names End.complete = codes "end complete"
+end_line names (End.budget τ) = codes "end budget " ++ sig_text names τ
+
+-- the handled signatures, and what became of them
+abbrev pub counts_line : ℕ → State → List ℕ
+counts_line handled state =
+    codes "handled "
+    ++ (decimal handled
+    ++ (codes " entries "
+    ++ (decimal (length state.entries)
+    ++ (codes " syzygies "
+    ++ (decimal (length state.syzygies)
+    ++ (codes " covered "
+    ++ (decimal state.covered
+    ++ (codes " settled "
+    ++ decimal state.settled))))))))
+
+-- an entry with its number: its signature and its polynomial
+abbrev pub entry_line : List (List ℕ) → ℕ → Entry → List ℕ
+entry_line names k e = codes "entry " ++ (decimal k ++ (codes ": " ++ (sig_text names e.signature ++ (codes " : " ++ poly_text names e.polynomial))))
+
+-- a syzygy with its number: its signature
+abbrev pub syzygy_line : List (List ℕ) → ℕ → Syzygy → List ℕ
+syzygy_line names k h = codes "syzygy " ++ (decimal k ++ (codes ": " ++ sig_text names h.signature))
+
+-- the lines of each item, with its number, counted from k
+abbrev pub numbered : {X : Type 0} → (ℕ → X → List (List ℕ)) → ℕ → List X → List (List ℕ)
+numbered lines k [] = []
+numbered lines k (x ∷ xs) = lines k x ++ numbered lines (k + 1) xs
+
+-- the end, the counts, and the lines of the entries and of the syzygies, each with its number
+abbrev pub run_lines : List (List ℕ) → (ℕ → Entry → List (List ℕ)) → (ℕ → Syzygy → List (List ℕ)) → ℕ → State → End → List (List ℕ)
+run_lines names of_entry of_syzygy handled state ending =
+    end_line names ending
+    ∷ counts_line handled state
+    ∷ (numbered of_entry 1 state.entries ++ numbered of_syzygy 1 state.syzygies)
+
+-- each line is ended by a line feed
+abbrev pub run_report : List (List ℕ) → (ℕ → Entry → List (List ℕ)) → (ℕ → Syzygy → List (List ℕ)) → ℕ → State → End → List ℕ
+run_report names of_entry of_syzygy handled state ending = ended (run_lines names of_entry of_syzygy handled state ending)

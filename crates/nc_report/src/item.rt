@@ -1,0 +1,51 @@
+//! The lines of entries and syzygies.
+
+ghost use Rattle.nc_report.specs.Reports.{entry_line, syzygy_line};
+ghost use Rattle.nc_snapshot.specs.Snapshots.{entry_of, syzygy_of};
+ghost use Rattle.std.specs.Prelude.{All, OnOk, [], length, ◌++◌, ◌<◌, ◌∷◌, ◌≡◌};
+
+use nc_module::Name;
+use nc_print::{push_number, write_poly, write_sig};
+use nc_snapshot::{Entry, Syzygy};
+use std::alloc::AllocError;
+
+/// Appends the line of an entry behind its number. Each letter needs a name. After `Err` the text in `out` may be part of
+/// it.
+pub fn write_entry(
+    out: &mut Vec<u8>,
+    names: &[Name],
+    number: u32,
+    entry: &Entry,
+) -> Result<(), AllocError>
+    requires left { All (λ x. x.index < length names.now) entry.now.sig.left }
+    requires right { All (λ x. x.index < length names.now) entry.now.sig.right }
+    requires words { All (λ t. All (λ x. x.index < length names.now) t.key) entry.now.polynomial }
+    ensures { OnOk result (out.new.items ≡ out.old.items ++ (entry_line names.now number (entry_of entry.now) ++ 10 ∷ [])) }
+{
+    out.extend_from_slice(b"entry ")?;
+    push_number(out, number)?;
+    out.extend_from_slice(b": ")?;
+    write_sig(out, names, entry.sig())?;
+    out.extend_from_slice(b" : ")?;
+    write_poly(out, names, entry.poly())?;
+    out.extend_from_slice(b"\n")
+}
+
+/// Appends the line of a syzygy behind its number. Each letter needs a name. After `Err` the text in `out` may be part of
+/// it.
+pub fn write_syzygy(
+    out: &mut Vec<u8>,
+    names: &[Name],
+    number: u32,
+    syzygy: &Syzygy,
+) -> Result<(), AllocError>
+    requires left { All (λ x. x.index < length names.now) syzygy.now.left }
+    requires right { All (λ x. x.index < length names.now) syzygy.now.right }
+    ensures { OnOk result (out.new.items ≡ out.old.items ++ (syzygy_line names.now number (syzygy_of syzygy.now) ++ 10 ∷ [])) }
+{
+    out.extend_from_slice(b"syzygy ")?;
+    push_number(out, number)?;
+    out.extend_from_slice(b": ")?;
+    write_sig(out, names, syzygy.sig())?;
+    out.extend_from_slice(b"\n")
+}
