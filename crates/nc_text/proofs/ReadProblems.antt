@@ -7,16 +7,17 @@ use Rattle.nc_algebra.specs.Settings.{IsSetting, NamedSetting}
 use Rattle.nc_module.proofs.Settings.{generator_weighs}
 use Rattle.nc_text.proofs.ReadCertificates.{at_line_reads, setting_lines_read}
 use Rattle.nc_text.proofs.ReadRows.{IsTextMonomial, checked_reads, mono_reads}
-use Rattle.nc_text.specs.Problems.{bound_line, steps_in, steps_line}
+use Rattle.nc_text.specs.Laws.{ReadsProblems}
+use Rattle.nc_text.specs.Problems.{ProblemText, bound_line, claim_at, problem_at, reads_problem, steps_in, steps_line}
 use Rattle.nc_text.specs.Rows.{below_at, bound_at, checked, degree_at, mono_at, steps_at}
 use Rattle.nc_text.specs.Settings.{setting_lines}
 use Rattle.nc_tokens.proofs.Steps.{on_any, on_bind, on_choice, on_weaker}
-use Rattle.nc_tokens.specs.Lines.{Row, Written, a_line, at_line, the_line}
+use Rattle.nc_tokens.specs.Lines.{Row, Written, a_line, at_line, lines, the_end, the_line, written}
 use Rattle.nc_tokens.specs.Tokens.{Name, Token}
 use Rattle.nc_tokens.specs.Wanted.{end_at, literal_at}
 use Rattle.nc_tokens.specs.declared.fault.Kind.{Kind}
 use Rattle.nc_tokens.specs.declared.fault.TextFault.{TextFault}
-use Rattle.std.proofs.Common.{IfOk, List, None, Ok, Option, Result, Some, arith, bytes_eq, codes, length, ltb, subst, ℕ, ◌+◌, ◌∷◌, ◌≡◌, ◌≤◌}
+use Rattle.std.proofs.Common.{Bool, IfOk, List, None, Ok, Option, Result, Some, arith, bytes_eq, codes, length, ltb, subst, ℕ, ◌+◌, ◌∷◌, ◌≡◌, ◌≤◌}
 use Rattle.std.proofs.lemmas.Bool.{ltb-true}
 
 -- a bound of a problem over the setting
@@ -74,3 +75,15 @@ is_problem s b n w one two three e f g =
     let is : IsSetting s = subst (λ (r : Result (NamedSetting × Written) TextFault). IfOk r (λ x. IsSetting x.0)) e (setting_lines_read w) in
     let bound : IsBound s b = subst (λ (r : Result (Bound × Written) TextFault). IfOk r (λ x. IsBound s x.0)) f (bound_line_reads s one is) in
     record { setting = is; bound = bound.over; limited = bound.limited; few = subst (λ (r : Result (ℕ × Written) TextFault). IfOk r (λ x. x.0 ≤ 1000000000)) g (steps_line_reads two) }
+
+problem_reads : (wants_claim : Bool) (w : Written) → IfOk (problem_at wants_claim w) (λ t. IsProblem t.problem)
+unfolding problem_at
+problem_reads wants_claim w =
+    on_bind _ _ (setting_lines w) _ (setting_lines_read w) (λ setting is.
+    on_bind _ _ (bound_line setting.0.alphabet (length setting.0.setting.generators) setting.1) _ (bound_line_reads setting.0 setting.1 is) (λ bound h.
+    on_bind _ _ (steps_line bound.1) _ (steps_line_reads bound.1) (λ steps few.
+    on_bind _ _ (claim_at wants_claim setting.0.setting.prime setting.0.alphabet steps.1) _ (on_any (claim_at wants_claim setting.0.setting.prime setting.0.alphabet steps.1)) (λ claim _.
+    on_bind _ _ (the_end claim.1) _ (on_any (the_end claim.1)) (λ _ _. record { setting = is; bound = h.over; limited = h.limited; few = few })))))
+
+pub reads_problems : ReadsProblems
+reads_problems wants_claim bytes t e = subst (λ (r : Result ProblemText TextFault). IfOk r (λ x. IsProblem x.problem)) e (problem_reads wants_claim (written 1 (lines bytes)))

@@ -4,15 +4,17 @@ use Rattle.nc_algebra.specs.Certificates.{Certificate, IsTextCertificate, elemen
 use Rattle.nc_algebra.specs.Elements.{Element, IsGenerator}
 use Rattle.nc_algebra.specs.Monomials.{Monomial}
 use Rattle.nc_algebra.specs.Polynomials.{Polynomial}
+use Rattle.nc_algebra.specs.Problems.{IsProblem}
 use Rattle.nc_algebra.specs.Settings.{IsSetting, NamedSetting}
 use Rattle.nc_algebra.specs.Words.{Word}
 use Rattle.nc_print.specs.Printing.{certificate_text, poly_text, sig_text, terms_text}
 use Rattle.nc_text.specs.Certificates.{reads_certificate}
 use Rattle.nc_text.specs.Patterns.{word_by_patterns}
+use Rattle.nc_text.specs.Problems.{ProblemText, reads_problem}
 use Rattle.nc_text.specs.Reading.{factors_at, poly_at}
 use Rattle.nc_text.specs.Rows.{mono_at}
 use Rattle.nc_tokens.specs.Tokens.{Token, tokens}
-use Rattle.std.specs.Prelude.{List, Ok, length, ℕ, ◌≡◌, ◌≤◌}
+use Rattle.std.specs.Prelude.{Bool, List, Ok, length, ℕ, ◌≡◌, ◌≤◌}
 
 -- What is printed of a certificate is read as that certificate.
 -- A line's number is read where it has at most 18 digits; so the lines are no more than those that the code keeps.
@@ -39,6 +41,10 @@ OneCertificate = (c d : Certificate) → IsTextCertificate c → IsTextCertifica
 -- What is read is a certificate.
 abbrev pub ReadsCertificates : Type 0
 ReadsCertificates = (bytes : List ℕ) (c : Certificate) → reads_certificate bytes ≡ Ok c → IsTextCertificate c
+
+-- What is read is a problem.
+abbrev pub ReadsProblems : Type 0
+ReadsProblems = (wants_claim : Bool) (bytes : List ℕ) (t : ProblemText) → reads_problem wants_claim bytes ≡ Ok t → IsProblem t.problem
 
 -- A word read by patterns on its tokens is one read factor after factor.
 abbrev pub SameWords : Type 0

@@ -2,7 +2,7 @@
 //! and the laws of what is read and what is printed.
 #![tactic(auto)]
 
-ghost use Rattle.nc_text.specs.Laws.{OneCertificate, ReadsCertificates, ReadsMonomials, ReadsPolynomials, ReadsTerms, ReadsWhatIsPrinted, SameWords};
+ghost use Rattle.nc_text.specs.Laws.{OneCertificate, ReadsCertificates, ReadsMonomials, ReadsPolynomials, ReadsProblems, ReadsTerms, ReadsWhatIsPrinted, SameWords};
 
 mod certificate;
 mod lines;
@@ -16,7 +16,7 @@ mod tests;
 mod word;
 
 pub use certificate::{MAX_BYTES, read_certificate};
-pub use nc_print::{write_certificate, write_poly, write_sig};
+pub use nc_print::{write_certificate, write_module, write_poly, write_sig};
 pub use nc_tokens::{Kind, ReadFault, TextFault};
 pub use problem::{ProblemText, read_problem};
 
@@ -48,6 +48,11 @@ pub fn one_certificate()
 /// What is read of a text is a certificate.
 pub fn reads_certificates()
     ensures { ReadsCertificates }
+{}
+
+/// What is read of a text is a problem.
+pub fn reads_problems()
+    ensures { ReadsProblems }
 {}
 
 /// A word read by patterns on its tokens is one read factor after factor.
