@@ -1,175 +1,109 @@
--- The answer of a run by its bytes.
-use Rattle.nc_algebra.specs.Certificates.{Certificate, rest_of}
-use Rattle.nc_algebra.specs.Polynomials.{Polynomial}
+-- The answers of commands by the bytes of their inputs.
+use Rattle.nc_algebra.specs.Finite.{monomials_within}
+use Rattle.nc_algebra.specs.Problems.{IsProblem, NamedProblem}
 use Rattle.nc_io.specs.Adds.{Adds}
 use Rattle.nc_io.specs.Causes.{Rose}
 use Rattle.nc_io.specs.Pieces.{TakesWhole}
-use Rattle.nc_text.proofs.ReadCertificates.{reads_certificates}
-use Rattle.nc_text.specs.Certificates.{reads_certificate}
-use Rattle.nc_tokens.specs.declared.fault.TextFault.{TextFault}
-use Rattle.nc_cert.proofs.Beyond.{much_found, within_none}
-use Rattle.nc_cert.proofs.Limits.{limit_law}
-use Rattle.nc_cert.proofs.Rests.{nothing_from_valid, valid_from_nothing}
-use Rattle.nc_cert.specs.Beyond.{first_beyond}
-use Rattle.nc_cert.specs.Charges.{Charge, IsTooMuch}
-use Rattle.nc_cert.specs.Checking.{certificate_charges}
-use Rattle.nc_top.specs.Laws.{FaultlessRuns, OneAnswer}
-use Rattle.nc_top.specs.Reports.{bad_text_report, invalid_report, report_of, report_of_rest, report_of_text, report_of_work}
-use Rattle.nc_top.specs.Run.{IsAnswer, IsReported, IsText, IsWithinWork}
-use Rattle.nc_top.specs.Statuses.{status_of, status_of_rest, status_of_text, status_of_work}
+use Rattle.nc_options.specs.declared.options.BasisOptions.{BasisOptions}
+use Rattle.nc_options.specs.declared.options.Options.{Options}
+use Rattle.nc_options.specs.declared.options.Options.TheVariants.{Basis, Check, Demo, Member}
+use Rattle.nc_search.proofs.Named.{complete}
+use Rattle.nc_search.specs.Named.{letters_of}
+use Rattle.nc_search.specs.Untraced.{untraced}
+use Rattle.nc_theory.specs.Runs.{End}
+use Rattle.nc_top.proofs.BasisAnswers.{Known, basis_answer, err_or_ok, known, one_basis, prime_of, problem_of_text, same_problem}
+use Rattle.nc_top.proofs.CheckAnswers.{check_answer, one_check}
+use Rattle.nc_snapshot.specs.declared.outcome.Listed.{Listed}
+use Rattle.nc_top.specs.Basis.{IsBasis, IsComplete, IsProblemText, IsTooManyTerms, status_at}
+use Rattle.nc_top.specs.Laws.{CompleteRuns, FaultlessRuns, OneAnswer}
+use Rattle.nc_top.specs.Run.{IsAnswer, IsReported, Runs}
 use Rattle.nc_top.specs.declared.status.Status.{Status}
-use Rattle.nc_top.specs.declared.status.Status.TheVariants.{BadText, Done, Invalid, OutOfMemory, ReadFault, TooLarge, TooMuch, Usage, WriteFault}
-use Rattle.std.proofs.Common.{Bool, Err, List, None, Ok, Some, [], ap, ap₂, append-nil, arith, codes, false, if◌then◌else◌, inl, inr, length, length-append, nat_lt, refl, subst, sym, true, ℕ, ◌+◌, ◌++◌, ◌∙◌, ◌∷◌, ◌<◌, ◌≡◌, ◌≤◌, ◌⊎◌}
-use Rattle.std.proofs.lemmas.Bool.{cases_lt, le-ltb, lt-ltb}
+use Rattle.nc_top.specs.declared.status.Status.TheVariants.{Done, OutOfMemory, TooLarge, TooMany}
+use Rattle.std.proofs.Common.{List, None, Some, [], ap, append-nil, arith, codes, inl, inr, length, length-append, refl, subst, sym, ℕ, ◌+◌, ◌++◌, ◌∙◌, ◌<◌, ◌≡◌, ◌≤◌, ◌⊎◌}
+use Rattle.std.proofs.lemmas.Bool.{cases_lt}
 use Rattle.std.specs.declared.option.Option.{Option}
-use Rattle.std.specs.declared.result.Result.{Result}
-
--- status and report by functions are these two
-abbrev Told : List ℕ → Status → List ℕ → Type 0
-Told bytes status report = (status ≡ status_of bytes) × (report ≡ report_of bytes)
-
--- ---- few bytes, or too many
-
-few_told : (bytes : List ℕ) (r : Result Certificate TextFault) (status : Status) (report : List ℕ) → length bytes ≤ 16777216 → reads_certificate bytes ≡ r → status ≡ status_of_text r → report ≡ report_of_text r → Told bytes status report
-few_told bytes r status report small read told written =
-    let few : nat_lt 16777216 (length bytes) ≡ false = le-ltb 16777216 (length bytes) small in (
-      told ∙ (ap status_of_text (sym read) ∙ ap (λ (b : Bool). if b then TooLarge else status_of_text (reads_certificate bytes)) (sym few)),
-      written ∙ (ap report_of_text (sym read) ∙ ap (λ (b : Bool). if b then codes "too large\n" else report_of_text (reads_certificate bytes)) (sym few)),
-    )
-
-many_told : (bytes : List ℕ) (status : Status) (report : List ℕ) → 16777216 < length bytes → status ≡ TooLarge → report ≡ codes "too large\n" → Told bytes status report
-many_told bytes status report large told written =
-    let many : nat_lt 16777216 (length bytes) ≡ true = lt-ltb 16777216 (length bytes) large in (
-      told ∙ ap (λ (b : Bool). if b then TooLarge else status_of_text (reads_certificate bytes)) (sym many),
-      written ∙ ap (λ (b : Bool). if b then codes "too large\n" else report_of_text (reads_certificate bytes)) (sym many),
-    )
-
--- ---- work within the limit, or too much
-
--- the charges of the parts of a certificate
-abbrev Charges : Certificate → List Charge
-Charges c = certificate_charges c
-
-abbrev beyond : Certificate → Option Charge
-beyond c = first_beyond 100000000 0 (Charges c)
-
-within_told : (bytes : List ℕ) (c : Certificate) (status : Status) (report : List ℕ) → IsText bytes c → IsWithinWork c → status ≡ status_of_rest (rest_of c.setting.setting c.claim c.lines)
-    → report ≡ report_of_rest c.setting.alphabet.names (rest_of c.setting.setting c.claim c.lines) → Told bytes status report
-within_told bytes c status report text within told written =
-    let f : Polynomial = rest_of c.setting.setting c.claim c.lines in
-    let none : beyond c ≡ None = within_none 100000000 (Charges c) within in
-    few_told bytes (Ok c) status report text.small text.read (told ∙ ap (λ (o : Option Charge). status_of_work o f) (sym none)) (written ∙ ap (λ (o : Option Charge). report_of_work c.setting.alphabet.names o f) (sym none))
-
-much_told : (bytes : List ℕ) (line charge : ℕ) (report : List ℕ) → IsAnswer bytes (TooMuch line charge) report → Told bytes (TooMuch line charge) report
-much_told bytes line charge report h =
-    let c : Certificate = h.certificate in
-    let f : Polynomial = rest_of c.setting.setting c.claim c.lines in
-    let found : beyond c ≡ Some (record { line = line; amount = charge }) = much_found 100000000 (Charges c) line charge h.much in
-    few_told bytes (Ok c) (TooMuch line charge) report h.text.small h.text.read (ap (λ (o : Option Charge). status_of_work o f) (sym found)) (h.written ∙ ap (λ (o : Option Charge). report_of_work c.setting.alphabet.names o f) (sym found))
-
--- ---- valid, or not
-
-done_told : (bytes : List ℕ) (report : List ℕ) → IsAnswer bytes Done report → Told bytes Done report
-done_told bytes report h =
-    let c : Certificate = h.certificate in
-    let nothing : rest_of c.setting.setting c.claim c.lines ≡ [] = nothing_from_valid c (rest_of c.setting.setting c.claim c.lines) (reads_certificates bytes c h.text.read).certificate refl h.valid in
-    within_told bytes c Done report h.text h.within (ap status_of_rest (sym nothing)) (h.written ∙ ap (report_of_rest c.setting.alphabet.names) (sym nothing))
-
-something : (c : Certificate) (f : Polynomial) (report : List ℕ) → ¬ (f ≡ []) → report ≡ invalid_report c.setting.alphabet.names f → (Invalid ≡ status_of_rest f) × (report ≡ report_of_rest c.setting.alphabet.names f)
-something c [] report h e = absurd (h refl)
-something c (t ∷ f) report h e = (refl, e)
-
-invalid_told : (bytes : List ℕ) (report : List ℕ) → IsAnswer bytes Invalid report → Told bytes Invalid report
-invalid_told bytes report h =
-    let c : Certificate = h.certificate in
-    let f : Polynomial = rest_of c.setting.setting c.claim c.lines in
-    let some = something c f report (λ e. h.invalid (valid_from_nothing c f (reads_certificates bytes c h.text.read).certificate refl e)) h.written in
-    within_told bytes c Invalid report h.text h.within some.0 some.1
-
-bad_text_told : (bytes : List ℕ) (line kind : ℕ) (report : List ℕ) → IsAnswer bytes (BadText line kind) report → Told bytes (BadText line kind) report
-bad_text_told bytes line kind report h = few_told bytes (Err h.fault) (BadText line kind) report h.small h.read (ap₂ BadText h.at_line h.of_kind) (h.written ∙ ap₂ bad_text_report h.at_line h.of_kind)
-
-told_by_functions : (bytes : List ℕ) (status : Status) (report : List ℕ) → IsAnswer bytes status report → Told bytes status report
-told_by_functions bytes Done report h = done_told bytes report h
-told_by_functions bytes Invalid report h = invalid_told bytes report h
-told_by_functions bytes (BadText line kind) report h = bad_text_told bytes line kind report h
-told_by_functions bytes TooLarge report h = many_told bytes TooLarge report h.large refl h.written
-told_by_functions bytes (TooMuch line charge) report h = much_told bytes line charge report h
-told_by_functions bytes Usage report h = absurd h
-told_by_functions bytes ReadFault report h = absurd h
-told_by_functions bytes WriteFault report h = absurd h
-told_by_functions bytes OutOfMemory report h = absurd h
-
--- ---- each input has an answer
-
-by_rest : (bytes : List ℕ) (c : Certificate) (f : Polynomial) → IsText bytes c → IsWithinWork c → f ≡ rest_of c.setting.setting c.claim c.lines → IsAnswer bytes (status_of_rest f) (report_of_rest c.setting.alphabet.names f)
-by_rest bytes c [] text within is = record { certificate = c; text = text; within = within; valid = valid_from_nothing c [] (reads_certificates bytes c text.read).certificate is refl; written = refl }
-by_rest bytes c (t ∷ f) text within is = record { certificate = c; text = text; within = within; invalid = λ valid. none t f (nothing_from_valid c (t ∷ f) (reads_certificates bytes c text.read).certificate is valid); written = ap (invalid_report c.setting.alphabet.names) is }
-  where
-    none : {A : Type 0} (t : A) (f : List A) → t ∷ f ≡ [] → ⊥
-    none t f e = absurd cc
-
-by_work : (bytes : List ℕ) (c : Certificate) → IsText bytes c → IsWithinWork c ⊎ ((k : ℕ) × (t : ℕ) × IsTooMuch 100000000 (Charges c) k t)
-    → IsAnswer bytes (status_of_work (beyond c) (rest_of c.setting.setting c.claim c.lines)) (report_of_work c.setting.alphabet.names (beyond c) (rest_of c.setting.setting c.claim c.lines))
-by_work bytes c text (inl within) =
-    let f : Polynomial = rest_of c.setting.setting c.claim c.lines in
-    subst (λ (o : Option Charge). IsAnswer bytes (status_of_work o f) (report_of_work c.setting.alphabet.names o f)) (sym (within_none 100000000 (Charges c) within)) (by_rest bytes c f text within refl)
-by_work bytes c text (inr (k, t, much)) =
-    let f : Polynomial = rest_of c.setting.setting c.claim c.lines in
-    subst (λ (o : Option Charge). IsAnswer bytes (status_of_work o f) (report_of_work c.setting.alphabet.names o f)) (sym (much_found 100000000 (Charges c) k t much)) (record { certificate = c; text = text; much = much; written = refl })
-
-by_text : (bytes : List ℕ) (r : Result Certificate TextFault) → length bytes ≤ 16777216 → reads_certificate bytes ≡ r → IsAnswer bytes (status_of_text r) (report_of_text r)
-by_text bytes (Ok c) small read = by_work bytes c record { small = small; read = read } (limit_law 100000000 (Charges c)).either
-by_text bytes (Err fault) small read = record { fault = fault; small = small; read = read; at_line = refl; of_kind = refl; written = refl }
-
-by_size : (bytes : List ℕ) → (16777216 < length bytes) ⊎ (length bytes ≤ 16777216) → IsAnswer bytes (status_of bytes) (report_of bytes)
-by_size bytes (inr small) =
-    let told = few_told bytes (reads_certificate bytes) (status_of_text (reads_certificate bytes)) (report_of_text (reads_certificate bytes)) small refl refl refl in
-    subst (IsAnswer bytes (status_of bytes)) told.1 (subst (λ (s : Status). IsAnswer bytes s (report_of_text (reads_certificate bytes))) told.0 (by_text bytes (reads_certificate bytes) small refl))
-by_size bytes (inl large) =
-    let told = many_told bytes TooLarge (codes "too large\n") large refl refl in
-    subst (IsAnswer bytes (status_of bytes)) told.1 (subst (λ (s : Status). IsAnswer bytes s (codes "too large\n")) told.0 record { large = large; written = refl })
 
 pub one_answer : OneAnswer
-one_answer bytes status report = (
-  told_by_functions bytes status report,
-  λ told. subst (IsAnswer bytes status) (sym told.1) (subst (λ (s : Status). IsAnswer bytes s (report_of bytes)) (sym told.0) (by_size bytes (cases_lt 16777216 (length bytes)))),
-)
+one_answer (Basis options) runs bytes = (basis_answer options bytes, one_basis options bytes)
+one_answer (Member options) runs bytes = absurd runs
+one_answer Check runs bytes = (check_answer bytes, one_check bytes)
+one_answer (Demo options) runs bytes = absurd runs
 
 -- ---- runs in which nothing fails
 
+-- too many bytes are told as such, whatever the command
+large_answer : (options : Options) → Runs options → (bytes : List ℕ) → 16777216 < length bytes → IsAnswer options bytes TooLarge (codes "too large\n")
+large_answer (Basis options) runs bytes large = record { large = large; written = refl }
+large_answer (Member options) runs bytes large = absurd runs
+large_answer Check runs bytes large = record { large = large; written = refl }
+large_answer (Demo options) runs bytes large = absurd runs
+
 -- the first 16,777,217 bytes have the answer of all bytes
-same_answer : (bytes taken : List ℕ) (left : Option (List ℕ)) → TakesWhole (Some bytes) left taken 16777217 → (status_of taken ≡ status_of bytes) × (report_of taken ≡ report_of bytes)
-same_answer bytes taken None h = absurd h.taken
-same_answer bytes taken (Some ys) h = by_end (cases_lt (length taken) 16777217)
+same_answer : (options : Options) → Runs options → (bytes taken : List ℕ) (left : Option (List ℕ)) → TakesWhole (Some bytes) left taken 16777217
+    → (status : Status) (report : List ℕ) → IsAnswer options taken status report → IsAnswer options bytes status report
+same_answer options runs bytes taken None h status report a = absurd h.taken
+same_answer options runs bytes taken (Some ys) h status report a = by_end (cases_lt (length taken) 16777217)
   where
     split : bytes ≡ taken ++ ys
     split = h.taken
 
-    by_end : (length taken < 16777217) ⊎ (16777217 ≤ length taken) → (status_of taken ≡ status_of bytes) × (report_of taken ≡ report_of bytes)
+    by_end : (length taken < 16777217) ⊎ (16777217 ≤ length taken) → IsAnswer options bytes status report
     by_end (inl short) =
         let whole : bytes ≡ taken = split ∙ (ap (λ (l : List ℕ). taken ++ l) (h.whole short) ∙ append-nil taken) in
-        (ap status_of (sym whole), ap report_of (sym whole))
+        subst (λ (l : List ℕ). IsAnswer options l status report) (sym whole) a
     by_end (inr long) =
         let all : length bytes ≡ length taken + length ys = ap length split ∙ length-append taken ys in
-        let one = many_told taken TooLarge (codes "too large\n") (omega (arith, long)) refl refl in
-        let other = many_told bytes TooLarge (codes "too large\n") (omega (arith, all, long)) refl refl in
-        (sym one.0 ∙ other.0, sym one.1 ∙ other.1)
+        let one = (one_answer options runs taken).1 TooLarge status (codes "too large\n") report (large_answer options runs taken (omega (arith, long))) a in
+        subst (λ (s : Status). IsAnswer options bytes s report) one.0 (subst (λ (r : List ℕ). IsAnswer options bytes TooLarge r) one.1 (large_answer options runs bytes (omega (arith, all, long))))
 
 not_risen : (n : ℕ) → Rose n n → ⊥
 not_risen n rose = absurd (omega (arith, rose))
 
 pub faultless_runs : FaultlessRuns
-faultless_runs bytes left_after written_before written_after source sink result (inl (told, rose, nothing)) = absurd (not_risen source rose)
-faultless_runs bytes left_after written_before written_after source sink result (inr (inl memory)) = inl memory
-faultless_runs bytes left_after written_before written_after source sink result (inr (inr h)) = by_report h.reported
+faultless_runs options runs bytes left_after written_before written_after source sink result (inl (told, rose, nothing)) = absurd (not_risen source rose)
+faultless_runs options runs bytes left_after written_before written_after source sink result (inr (inl memory)) = inl memory
+faultless_runs options runs bytes left_after written_before written_after source sink result (inr (inr h)) = by_report h.reported
   where
-    told : Told h.bytes h.status h.report
-    told = told_by_functions h.bytes h.status h.report h.answer
+    here : IsAnswer options bytes h.status h.report
+    here = same_answer options runs bytes h.bytes left_after h.taken h.status h.report h.answer
 
-    same : (status_of h.bytes ≡ status_of bytes) × (report_of h.bytes ≡ report_of bytes)
-    same = same_answer bytes h.bytes left_after h.taken
-
-    by_report : IsReported written_before written_after sink sink h.report h.status result → ((result ≡ OutOfMemory) × Adds written_before written_after []) ⊎ ((result ≡ status_of bytes) × Adds written_before written_after (report_of bytes))
-    by_report (inl (is, adds)) = inr (is ∙ (told.0 ∙ same.0), subst (Adds written_before written_after) (told.1 ∙ same.1) adds)
+    by_report : IsReported written_before written_after sink sink h.report h.status result
+        → ((result ≡ OutOfMemory) × Adds written_before written_after []) ⊎ ((report : List ℕ) × IsAnswer options bytes result report × Adds written_before written_after report)
+    by_report (inl (is, adds)) = inr (h.report, subst (λ (s : Status). IsAnswer options bytes s h.report) (sym is) here, adds)
     by_report (inr (is, rose, front)) = absurd (not_risen sink rose)
+
+-- ---- runs with enough steps
+
+module _ (options : BasisOptions) (bytes : List ℕ) (P : NamedProblem) (text : IsProblemText bytes P) (enough : length (monomials_within P.problem.setting P.problem.bound (letters_of P.alphabet)) ≤ P.problem.steps) where
+  complete_end : (e : End) (report : List ℕ) → IsBasis options bytes e report → e ≡ End.complete
+  complete_end e report h = subst Ends (same_problem bytes h.problem P h.text text) (λ is few. complete h.problem is (prime_of h.problem is) few h.handled (untraced h.run) e (record { run = h.run; ends = h.ends; stands = refl })) (problem_of_text bytes P text) enough
+    where
+      Ends : NamedProblem → Type 0
+      Ends Q = IsProblem Q → length (monomials_within Q.problem.setting Q.problem.bound (letters_of Q.alphabet)) ≤ Q.problem.steps → e ≡ End.complete
+
+  abbrev Whole : Status → List ℕ → Type 0
+  Whole status report = ((status ≡ Done) × IsComplete options bytes report) ⊎ ((named : Listed) × (terms : ℕ) × (status ≡ TooMany named terms) × IsTooManyTerms options bytes named terms report)
+
+  whole : (status : Status) (report : List ℕ) → Known options bytes status report → Whole status report
+  whole status report (Known.is_large large) = absurd (omega (arith, large.large, text.small))
+  whole status report (Known.is_bad line kind bad) = absurd (err_or_ok (sym bad.read ∙ text.read))
+  whole status report (Known.ended_at e h) = let ends : e ≡ End.complete = complete_end e report h in inl (ap status_at ends, subst (λ (x : End). IsBasis options bytes x report) ends h)
+  whole status report (Known.is_many named terms h) = inr (named, terms, refl, h)
+
+  module _ (result : Status) (written_before written_after : Option (List ℕ)) where
+    abbrev Wanted : Type 0
+    Wanted =
+        ((result ≡ OutOfMemory) × Adds written_before written_after [])
+        ⊎ (((result ≡ Done) × ((report : List ℕ) × IsComplete options bytes report × Adds written_before written_after report))
+        ⊎ ((named : Listed) × (terms : ℕ) × (result ≡ TooMany named terms) × ((report : List ℕ) × IsTooManyTerms options bytes named terms report × Adds written_before written_after report)))
+
+    by_whole : (report : List ℕ) → Adds written_before written_after report → Whole result report → Wanted
+    by_whole report adds (inl (is, h)) = inr (inl (is, (report, h, adds)))
+    by_whole report adds (inr (named, terms, is, h)) = inr (inr (named, terms, is, (report, h, adds)))
+
+    by_answer : ((result ≡ OutOfMemory) × Adds written_before written_after []) ⊎ ((report : List ℕ) × IsAnswer (Basis options) bytes result report × Adds written_before written_after report) → Wanted
+    by_answer (inl memory) = inl memory
+    by_answer (inr (report, a, adds)) = by_whole report adds (whole result report (known options bytes result report a))
+
+pub complete_runs : CompleteRuns
+complete_runs options bytes P text enough left_after written_before written_after source sink result ran = by_answer options bytes P text enough result written_before written_after (faultless_runs (Basis options) tt bytes left_after written_before written_after source sink result ran)

@@ -1,19 +1,38 @@
 -- The laws that the functions of this crate carry.
+use Rattle.nc_algebra.specs.Finite.{monomials_within}
+use Rattle.nc_algebra.specs.Problems.{NamedProblem}
 use Rattle.nc_io.specs.Adds.{Adds}
-use Rattle.nc_top.specs.Reports.{report_of}
-use Rattle.nc_top.specs.Run.{IsAnswer, Ran}
-use Rattle.nc_top.specs.Statuses.{status_of}
+use Rattle.nc_options.specs.declared.options.BasisOptions.{BasisOptions}
+use Rattle.nc_options.specs.declared.options.Options.{Options}
+use Rattle.nc_options.specs.declared.options.Options.TheVariants.{Basis}
+use Rattle.nc_search.specs.Named.{letters_of}
+use Rattle.nc_snapshot.specs.declared.outcome.Listed.{Listed}
+use Rattle.nc_top.specs.Basis.{IsComplete, IsProblemText, IsTooManyTerms}
+use Rattle.nc_top.specs.Run.{IsAnswer, Ran, Runs}
 use Rattle.nc_top.specs.declared.status.Status.{Status}
-use Rattle.nc_top.specs.declared.status.Status.TheVariants.{OutOfMemory}
-use Rattle.std.specs.Prelude.{List, Some, [], ℕ, ◌≡◌, ◌↔◌, ◌⊎◌}
+use Rattle.nc_top.specs.declared.status.Status.TheVariants.{Done, OutOfMemory, TooMany}
+use Rattle.std.specs.Prelude.{List, Some, [], length, ℕ, ◌≡◌, ◌≤◌, ◌⊎◌}
 use Rattle.std.specs.declared.option.Option.{Option}
 
--- the bytes have one status and one report
+-- for each command that runs, the bytes have one status and one report
 abbrev pub OneAnswer : Type 0
-OneAnswer = (bytes : List ℕ) (status : Status) (report : List ℕ) → IsAnswer bytes status report ↔ ((status ≡ status_of bytes) × (report ≡ report_of bytes))
+OneAnswer = (options : Options) → Runs options → (bytes : List ℕ) →
+    ((status : Status) × (report : List ℕ) × IsAnswer options bytes status report)
+    × ((status status' : Status) (report report' : List ℕ) → IsAnswer options bytes status report → IsAnswer options bytes status' report' → (status ≡ status') × (report ≡ report'))
 
 -- where the source tells its bytes and no failure was counted, status and report are those of all these bytes, unless memory ran out
 abbrev pub FaultlessRuns : Type 0
-FaultlessRuns = (bytes : List ℕ) (left_after written_before written_after : Option (List ℕ)) (source sink : ℕ) (result : Status)
-    → Ran (Some bytes) left_after written_before written_after source source sink sink result
-    → ((result ≡ OutOfMemory) × Adds written_before written_after []) ⊎ ((result ≡ status_of bytes) × Adds written_before written_after (report_of bytes))
+FaultlessRuns = (options : Options) → Runs options → (bytes : List ℕ) (left_after written_before written_after : Option (List ℕ)) (source sink : ℕ) (result : Status)
+    → Ran options (Some bytes) left_after written_before written_after source source sink sink result
+    → ((result ≡ OutOfMemory) × Adds written_before written_after []) ⊎ ((report : List ℕ) × IsAnswer options bytes result report × Adds written_before written_after report)
+
+-- and where these bytes are a problem that allows as many steps as its bound has module monomials, `basis` answers with the whole report,
+-- or names a label that is to be shown and has too many terms
+abbrev pub CompleteRuns : Type 0
+CompleteRuns = (options : BasisOptions) (bytes : List ℕ) (P : NamedProblem) → IsProblemText bytes P
+    → length (monomials_within P.problem.setting P.problem.bound (letters_of P.alphabet)) ≤ P.problem.steps
+    → (left_after written_before written_after : Option (List ℕ)) (source sink : ℕ) (result : Status)
+    → Ran (Basis options) (Some bytes) left_after written_before written_after source source sink sink result
+    → ((result ≡ OutOfMemory) × Adds written_before written_after [])
+    ⊎ (((result ≡ Done) × ((report : List ℕ) × IsComplete options bytes report × Adds written_before written_after report))
+    ⊎ ((named : Listed) × (terms : ℕ) × (result ≡ TooMany named terms) × ((report : List ℕ) × IsTooManyTerms options bytes named terms report × Adds written_before written_after report)))

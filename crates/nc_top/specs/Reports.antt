@@ -1,18 +1,22 @@
 -- What a run writes.
---   invalid_report    what is written for a certificate that is not valid
---   bad_text_report   what is written for a text that is no certificate
---   too_much_report   what is written for a certificate that asks for too much work
---   report_of         the report of `check` for the bytes of its input
-use Rattle.nc_algebra.specs.Certificates.{Certificate, rest_of}
+--   invalid_report     what is written for a certificate that is not valid
+--   bad_text_report    what is written for a text that is not what the command reads
+--   too_much_report    what is written for a certificate that asks for too much work
+--   too_many_report    what is written where a label has more terms than the limit
+--   basis_report       what is written of a run of a problem: its end, its counts, its entries and its syzygies, with what is
+--                      shown of their cofactors
 use Rattle.nc_algebra.specs.Polynomials.{Polynomial}
-use Rattle.nc_cert.specs.Beyond.{first_beyond}
-use Rattle.nc_cert.specs.Charges.{Charge}
-use Rattle.nc_cert.specs.Checking.{certificate_charges}
-use Rattle.nc_print.specs.Printing.{poly_text}
-use Rattle.nc_text.specs.Certificates.{reads_certificate}
-use Rattle.nc_tokens.specs.Kinds.{number_of}
-use Rattle.nc_tokens.specs.declared.fault.TextFault.{TextFault}
-use Rattle.std.specs.Prelude.{Err, List, None, Ok, Option, Result, Some, [], codes, decimal, if◌then◌else◌, length, nat_lt, ℕ, ◌++◌, ◌∷◌}
+use Rattle.nc_algebra.specs.Elements.{Element}
+use Rattle.nc_options.specs.declared.options.Cofactors.{Cofactors}
+use Rattle.nc_options.specs.declared.options.Cofactors.TheVariants.{Full, Omitted, Trace as TraceOf}
+use Rattle.nc_print.specs.Printing.{module_text, poly_text}
+use Rattle.nc_report.specs.Reports.{entry_line, run_report, syzygy_line}
+use Rattle.nc_report.specs.Traces.{trace_text}
+use Rattle.nc_snapshot.specs.declared.outcome.Listed.{Listed}
+use Rattle.nc_snapshot.specs.declared.outcome.Listed.TheVariants.{Claim, Entry as EntryOf, Syzygy as SyzygyOf}
+use Rattle.nc_theory.specs.Runs.{End}
+use Rattle.nc_theory.specs.States.{Entry, State, Syzygy, Trace}
+use Rattle.std.specs.Prelude.{List, [], codes, decimal, ℕ, ◌++◌, ◌∷◌}
 
 -- the line `invalid`, and what is left of the claim
 abbrev pub invalid_report : List (List ℕ) → Polynomial → List ℕ
@@ -26,19 +30,32 @@ bad_text_report line kind = codes "bad text line " ++ (decimal line ++ (codes " 
 abbrev pub too_much_report : ℕ → ℕ → List ℕ
 too_much_report line charge = codes "too much work: line " ++ (decimal line ++ (codes " needs " ++ (decimal charge ++ codes "\n")))
 
--- ---- the report by the bytes
+-- ---- runs
 
-abbrev pub report_of_rest : List (List ℕ) → Polynomial → List ℕ
-report_of_rest names [] = codes "valid\n"
-report_of_rest names (t ∷ f) = invalid_report names (t ∷ f)
+-- an item
+abbrev pub item_text : Listed → ℕ → List ℕ
+item_text (EntryOf k) terms = codes "entry " ++ (decimal k ++ (codes " has " ++ decimal terms))
+item_text (SyzygyOf k) terms = codes "syzygy " ++ (decimal k ++ (codes " has " ++ decimal terms))
+item_text Claim terms = codes "claim has " ++ decimal terms
 
-abbrev pub report_of_work : List (List ℕ) → Option Charge → Polynomial → List ℕ
-report_of_work names (Some c) rest = too_much_report c.line c.amount
-report_of_work names None rest = report_of_rest names rest
+-- the item whose label has more terms than the limit, and how many
+abbrev pub too_many_report : Listed → ℕ → List ℕ
+too_many_report listed terms = codes "too many terms: " ++ (item_text listed terms ++ codes "\n")
 
-abbrev pub report_of_text : Result Certificate TextFault → List ℕ
-report_of_text (Ok c) = report_of_work c.setting.alphabet.names (first_beyond 100000000 0 (certificate_charges c)) (rest_of c.setting.setting c.claim c.lines)
-report_of_text (Err fault) = bad_text_report fault.line (number_of fault.kind)
+-- what is shown behind an item: nothing, the trace, or the label
+abbrev pub cofactor_lines : Cofactors → List (List ℕ) → Trace → Element → List (List ℕ)
+cofactor_lines Omitted names t label = []
+cofactor_lines TraceOf names t label = (codes "trace " ++ trace_text names t) ∷ []
+cofactor_lines Full names t label = (codes "label " ++ module_text names label) ∷ []
 
-abbrev pub report_of : List ℕ → List ℕ
-report_of bytes = if nat_lt 16777216 (length bytes) then codes "too large\n" else report_of_text (reads_certificate bytes)
+-- an entry, and what is shown behind it
+abbrev pub entry_lines : Cofactors → List (List ℕ) → (Listed → Element) → ℕ → Entry → List (List ℕ)
+entry_lines cofactors names labels k e = entry_line names k e ∷ cofactor_lines cofactors names e.trace (labels (EntryOf k))
+
+-- a syzygy, and what is shown behind it
+abbrev pub syzygy_lines : Cofactors → List (List ℕ) → (Listed → Element) → ℕ → Syzygy → List (List ℕ)
+syzygy_lines cofactors names labels k h = syzygy_line names k h ∷ cofactor_lines cofactors names h.trace (labels (SyzygyOf k))
+
+-- the end line, the counts line, and the lines of each entry and of each syzygy
+abbrev pub basis_report : Cofactors → List (List ℕ) → (Listed → Element) → ℕ → State → End → List ℕ
+basis_report cofactors names labels handled run ending = run_report names (entry_lines cofactors names labels) (syzygy_lines cofactors names labels) handled run ending

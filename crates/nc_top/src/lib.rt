@@ -1,16 +1,21 @@
-//! The commands of the program: the check of a certificate, and the run over a source and a sink.
+//! The commands of the program: the basis of a problem, the check of a certificate, and the run over a source and a sink.
 #![tactic(auto)]
 
-ghost use Rattle.nc_top.specs.Laws.{FaultlessRuns, OneAnswer};
+ghost use Rattle.nc_top.specs.Laws.{CompleteRuns, FaultlessRuns, OneAnswer};
 
+mod basis;
+mod check;
+mod input;
+mod item;
+mod listing;
 mod run;
+mod shown;
 mod status;
 
 pub use run::run_alone;
 pub use status::{Status, code_of};
 
-/// The bytes that are read determine the status and the report.
-#[tactic(auto, using(crate::proofs::Answers::one_answer))]
+/// For each command that runs, the bytes that are read determine the status and the report.
 pub fn one_answer()
     ensures { OneAnswer }
 {}
@@ -18,6 +23,11 @@ pub fn one_answer()
 /// A run in which nothing fails answers for all bytes of its source.
 pub fn faultless_runs()
     ensures { FaultlessRuns }
+{}
+
+/// A problem that allows as many steps as its bound has module monomials is answered with the whole report, or with a label that has too many terms.
+pub fn complete_runs()
+    ensures { CompleteRuns }
 {}
 
 #[cfg(test)]

@@ -3,19 +3,26 @@
 ghost use Rattle.nc_top.specs.Statuses.{code_of};
 ghost use Rattle.std.specs.Prelude.{◌≡◌};
 
+use nc_snapshot::Listed;
+
 /// How a run ended.
 #[derive(Clone, Copy, Debug, PartialEq, Eq)]
 pub enum Status {
-    /// The certificate is valid.
+    /// `basis`: the run is complete; the report lists what it found. `check`: the certificate is valid.
     Done,
     /// The certificate is not valid; the report has the rest of the claim.
     Invalid,
+    /// The steps of the problem were used up before its run was complete; the report names the next signature and lists what
+    /// was found.
+    Budget,
+    /// `basis --cofactors full`: the label of this entry or syzygy has so many terms, more than the limit; no other is told.
+    TooMany { listed: Listed, terms: u64 },
     /// Checking the certificate asks for more work than the limit: the line of the first part that passes it, and the
     /// charge up to that part.
     TooMuch { line: u32, charge: u128 },
-    /// The words are no command; nothing was read.
+    /// The words are no command that runs; nothing was read.
     Usage,
-    /// The bytes are no text of a certificate: the line of the first fault, and the number of its kind.
+    /// The bytes are no text of what the command reads: the line of the first fault, and the number of its kind.
     BadText { line: u64, kind: u8 },
     /// The source has more bytes than a text may have.
     TooLarge,
@@ -36,7 +43,7 @@ pub fn code_of(status: Status) -> u8
         Status::Invalid => 1,
         Status::Usage => 2,
         Status::BadText { .. } | Status::TooLarge => 3,
-        Status::TooMuch { .. } => 4,
+        Status::Budget | Status::TooMany { .. } | Status::TooMuch { .. } => 4,
         Status::ReadFault => 5,
         Status::WriteFault => 6,
         Status::OutOfMemory => 7,

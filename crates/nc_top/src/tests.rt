@@ -4,6 +4,9 @@ use std::alloc::Global;
 use std::io;
 use std::test::Fail;
 
+mod basis;
+mod cofactors;
+
 const HEAD: &str = "certificate 1\nfield 101\nletters x y\ngenerator x\ngenerator x + 1\n";
 
 const TERMS: &str = "claim y\nterm 1 1 [2] y\nterm 100 1 [1] y\nend\n";
@@ -490,7 +493,10 @@ fn other_words_are_usage(rt: HostRuntime) -> Result<(), Fail> {
         "check --help",
         "check --",
         "Check",
-        "basis",
+        "basis --cofactors all",
+        "basis --workers 0",
+        "basis --limit +5",
+        "basis -- x",
         "member",
         "demo 1",
         "unknown",
@@ -565,6 +571,14 @@ fn statuses_have_their_codes(rt: HostRuntime) {
         (Status::Usage, 2),
         (Status::BadText { line: 7, kind: 2 }, 3),
         (Status::TooLarge, 3),
+        (Status::Budget, 4),
+        (
+            Status::TooMany {
+                listed: nc_snapshot::Listed::Claim,
+                terms: 7,
+            },
+            4,
+        ),
         (Status::TooMuch { line: 1, charge: 7 }, 4),
         (Status::ReadFault, 5),
         (Status::WriteFault, 6),

@@ -3,7 +3,7 @@ use Rattle.nc_algebra.specs.Polynomials.{Polynomial}
 use Rattle.nc_cert.proofs.Letters.{rest_named}
 use Rattle.std.proofs.Common.{List, ap, length, subst, sym, ℕ, ◌<◌, ◌∙◌}
 use Rattle.std.specs.List.{All}
-use Rattle.nc_top.proofs.run.invalid_report.Goals as goal
+use Rattle.nc_top.proofs.check.invalid_report.Goals as goal
 
 pub write_poly-requires : goal.write_poly-requires
 write_poly-requires c =

@@ -1,0 +1,20 @@
+-- Inputs that are not what a command reads.
+use Rattle.nc_tokens.specs.Kinds.{number_of}
+use Rattle.nc_tokens.specs.declared.fault.TextFault.{TextFault}
+use Rattle.nc_top.specs.Reports.{bad_text_report}
+use Rattle.std.specs.Prelude.{Err, List, codes, length, ℕ, ◌<◌, ◌≡◌, ◌≤◌}
+use Rattle.std.specs.declared.result.Result.{Result}
+
+-- the bytes are no such text, and are not too many: the first fault
+pub record IsBadText {T : Type 0} (reads : List ℕ → Result T TextFault) (bytes : List ℕ) (line kind : ℕ) (report : List ℕ) : Type 0 where
+  pub fault : TextFault
+  pub small : length bytes ≤ 16777216
+  pub read : reads bytes ≡ Err fault
+  pub at_line : line ≡ fault.line
+  pub of_kind : kind ≡ number_of fault.kind
+  pub written : report ≡ bad_text_report line kind
+
+-- the bytes are too many, whatever they are
+pub record IsTooLarge (bytes report : List ℕ) : Type 0 where
+  pub large : 16777216 < length bytes
+  pub written : report ≡ codes "too large\n"
