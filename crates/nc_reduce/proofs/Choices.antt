@@ -1,48 +1,37 @@
 -- The divisor that the leads give is the one that a reduction chooses.
-use Rattle.nc_algebra.specs.Elements.{HasDegree, IsLess, Setting, generator_weight}
-use Rattle.nc_algebra.specs.Monomials.{Monomial, Sig, monomial_of, sig_of}
+use Rattle.nc_algebra.specs.Elements.{Setting}
+use Rattle.nc_algebra.specs.Monomials.{Sig}
 use Rattle.nc_algebra.specs.Polynomials.{leading}
 use Rattle.nc_algebra.specs.Words.{OccursAt, Word}
 use Rattle.nc_index.specs.Chosen.{IsBelowSig, IsChosen}
 use Rattle.nc_index.specs.declared.hit.Hit.{Hit}
-use Rattle.nc_module.proofs.Bounds.{less_from_sigs, sigs_from_less}
 use Rattle.nc_search.proofs.Places.{one_place}
-use Rattle.nc_search.specs.Places.{IsChoice}
+use Rattle.nc_search.specs.Places.{IsChoiceOf}
 use Rattle.nc_theory.proofs.Determinism.{listed_same}
 use Rattle.nc_theory.specs.States.{Entry}
-use Rattle.std.proofs.Common.{List, None, Some, ap, arith, length, refl, sym, ℕ, ◌++◌, ◌-◌, ◌∙◌, ◌≡◌, ◌≤◌}
+use Rattle.std.proofs.Common.{List, Some, ap, arith, length, sym, ℕ, ◌++◌, ◌-◌, ◌∙◌, ◌≡◌, ◌≤◌}
 use Rattle.std.proofs.lemmas.Option.{get_or_from_slice_get, slice_get_within}
 use Rattle.std.specs.List.{slice_get}
 
-module _ (s : Setting) (entries : List Entry) (β : Sig) (degree : HasDegree s β) where
-  less : (σ : Monomial) → IsBelowSig s β σ → IsLess s σ (monomial_of β)
-  less σ h = less_from_sigs s (sig_of (generator_weight s) σ) β refl degree h
+module _ (s : Setting) (entries : List Entry) (β : Sig) (w : Word) (h : Hit) (found : IsChosen s entries w β (Some h)) where
+  pub number_some : 1 ≤ h.number
+  number_some = omega (arith, found.2)
 
-  below : (σ : Monomial) → IsLess s σ (monomial_of β) → IsBelowSig s β σ
-  below σ h = sigs_from_less s (sig_of (generator_weight s) σ) β refl degree h
+  pub number_within : h.number ≤ length entries
+  number_within = omega (arith, found.2, found.0.listed.1)
 
-  pub nothing_chosen : (w : Word) → IsChosen s entries w β None → IsChoice s entries (monomial_of β) w None
-  nothing_chosen w none r = none r.divisor (below _ r.below)
+  -- the entry that is read
+  module _ (e : Entry) (at : slice_get entries (h.number - 1) ≡ Some e) where
+    entry_is : found.0.entry ≡ e
+    entry_is = listed_same entries found.0.entry e found.0.listed (h.number - 1, slice_get_within entries (h.number - 1) e at, get_or_from_slice_get entries (h.number - 1) e e at) (omega (arith, found.2))
 
-  module _ (w : Word) (h : Hit) (found : IsChosen s entries w β (Some h)) where
-    pub number_some : 1 ≤ h.number
-    number_some = omega (arith, found.2)
+    spells : found.0.left ++ (leading s.prime e.polynomial ++ found.0.right) ≡ w
+    spells = ap (λ (x : Entry). found.0.left ++ (leading s.prime x.polynomial ++ found.0.right)) (sym entry_is) ∙ found.0.spells
 
-    pub number_within : h.number ≤ length entries
-    number_within = omega (arith, found.2, found.0.listed.1)
+    pub hit_stands : OccursAt (leading s.prime e.polynomial) w h.place
+    hit_stands = (found.0.left, found.0.right, sym spells, found.3)
 
-    -- the entry that is read
-    module _ (e : Entry) (at : slice_get entries (h.number - 1) ≡ Some e) where
-      entry_is : found.0.entry ≡ e
-      entry_is = listed_same entries found.0.entry e found.0.listed (h.number - 1, slice_get_within entries (h.number - 1) e at, get_or_from_slice_get entries (h.number - 1) e e at) (omega (arith, found.2))
-
-      spells : found.0.left ++ (leading s.prime e.polynomial ++ found.0.right) ≡ w
-      spells = ap (λ (x : Entry). found.0.left ++ (leading s.prime x.polynomial ++ found.0.right)) (sym entry_is) ∙ found.0.spells
-
-      pub hit_stands : OccursAt (leading s.prime e.polynomial) w h.place
-      hit_stands = (found.0.left, found.0.right, sym spells, found.3)
-
-      pub hit_choice : (u : Word) (n : ℕ) (v : Word) → u ++ (leading s.prime e.polynomial ++ v) ≡ w → length u ≡ h.place → n ≡ h.number → IsChoice s entries (monomial_of β) w (Some (record { left = u; number = n; right = v }))
-      hit_choice u n v stands place number =
-          let around : (found.0.left ≡ u) × (found.0.right ≡ v) = one_place (leading s.prime e.polynomial) w found.0.left found.0.right u v spells stands (found.3 ∙ sym place) in
-          (found.0, record { allowed = less _ found.1.allowed; least = λ d l. found.1.least d (below _ l) }, around.0, found.2 ∙ sym number, around.1)
+    pub hit_choice : (u : Word) (n : ℕ) (v : Word) → u ++ (leading s.prime e.polynomial ++ v) ≡ w → length u ≡ h.place → n ≡ h.number → IsChoiceOf s entries (IsBelowSig s β) w (Some (record { left = u; number = n; right = v }))
+    hit_choice u n v stands place number =
+        let around : (found.0.left ≡ u) × (found.0.right ≡ v) = one_place (leading s.prime e.polynomial) w found.0.left found.0.right u v spells stands (found.3 ∙ sym place) in
+        (found.0, found.1, around.0, found.2 ∙ sym number, around.1)

@@ -1,3 +1,4 @@
 pub mod Starts
 pub mod Choices
 pub mod Turns
+pub mod Limits

@@ -2,16 +2,16 @@
 use Rattle.nc_algebra.proofs.NormalForms.{normal_form_only}
 use Rattle.nc_algebra.proofs.Sums.{coefficient-minus}
 use Rattle.nc_algebra.proofs.Words.{word_laws}
-use Rattle.nc_algebra.specs.Elements.{HasDegree, Setting}
-use Rattle.nc_algebra.specs.Monomials.{Monomial, Sig, monomial_of}
+use Rattle.nc_algebra.specs.Elements.{Setting}
+use Rattle.nc_algebra.specs.Monomials.{Sig}
 use Rattle.nc_algebra.specs.Polynomials.{IsNormal, Polynomial, coefficient, leading, normal_form, polynomial_times}
 use Rattle.nc_algebra.specs.Primes.{IsField}
 use Rattle.nc_algebra.specs.Sums.{Term, is_at, minus}
 use Rattle.nc_algebra.specs.Words.{IsWordLess, OccursAt, Word, same_word}
-use Rattle.nc_index.specs.Chosen.{IsChosen, LeadsLaw, leads_of}
+use Rattle.nc_index.specs.Chosen.{IsBelowSig, IsChosen, LeadsLaw, leads_of}
 use Rattle.nc_index.specs.Pairs.{IsFirstRegular, Lead}
 use Rattle.nc_index.specs.declared.hit.Hit.{Hit}
-use Rattle.nc_reduce.proofs.Choices.{hit_choice, hit_stands, nothing_chosen, number_some, number_within}
+use Rattle.nc_reduce.proofs.Choices.{hit_choice, hit_stands, number_some, number_within}
 use Rattle.nc_search.proofs.Small.{usable_at}
 use Rattle.nc_reduce.specs.Turns.{IsTurn}
 use Rattle.nc_reduce.specs.declared.turn.Turn.{Turn}
@@ -19,7 +19,7 @@ use Rattle.nc_reduce.specs.declared.turn.Turn.TheVariants.{Kept, Subtracted}
 use Rattle.nc_search.proofs.Choices.{chosen_few, kept_turn, lead_residue, subtracted_turn}
 use Rattle.nc_search.proofs.Turns.{IsLeft, kept_leaves, subtracted_leaves}
 use Rattle.nc_search.specs.Found.{Chosen}
-use Rattle.nc_search.specs.Places.{IsChoice}
+use Rattle.nc_search.specs.Places.{IsChoiceOf}
 use Rattle.nc_search.specs.Turns.{IsKept, IsSubtracted}
 use Rattle.nc_search.specs.Usable.{HasSmallWords, IsUsable}
 use Rattle.nc_theory.specs.States.{Entry, Step}
@@ -43,15 +43,15 @@ rest_is p t f n = normal_form_only p (minus p (t ∷ f) 1 (t ∷ [])) f some (n.
     same w = sym (ap (λ n. n % p) (coefficient-minus same_word IsWordLess word_laws p (t ∷ f) 1 (t ∷ []) w ∙ whole (p - 1) (t.coefficient * is_at same_word w t.key) (coefficient f w) (omega (arith, some))) ∙ add-mul-mod_self_left _ _ _)
 
 -- a polynomial with this greatest term, and what the leads give for its word x
-module _ (law : LeadsLaw) (s : Setting) (entries : List Entry) (usable : All (IsUsable s) entries) (β : Sig) (degree : HasDegree s β) (leads : List Lead) (are : leads ≡ leads_of s entries)
+module _ (law : LeadsLaw) (s : Setting) (entries : List Entry) (usable : All (IsUsable s) entries) (β : Sig) (leads : List Lead) (are : leads ≡ leads_of s entries)
     (old : Polynomial) (normal : IsNormal s.prime old) (t : Term Word) (others : Polynomial) (parts : old ≡ t ∷ others) (x : Word) (is_word : x ≡ t.key) where
   chosen : (answer : Option Hit) → IsFirstRegular leads x β answer → IsChosen s entries t.key β answer
   chosen answer first = law s entries t.key β answer (subst (λ l. IsFirstRegular l t.key β answer) are (subst (λ w. IsFirstRegular leads w β answer) is_word first))
 
-  pub none_turn : IsFirstRegular leads x β None → (u : Term Word) (new : Polynomial) → old ≡ u ∷ new → IsKept s entries (monomial_of β) old new u
+  pub none_turn : IsFirstRegular leads x β None → (u : Term Word) (new : Polynomial) → old ≡ u ∷ new → IsKept s entries (IsBelowSig s β) old new u
   none_turn none u new e =
       let same : t.key ≡ u.key = ap (λ (y : Term Word). y.key) (let h : t ∷ others ≡ u ∷ new = sym parts ∙ e in let i : t ≡ u = cc in i) in
-      kept_turn s entries usable (monomial_of β) old u new e normal t.key new same (nothing_chosen s entries β degree t.key (chosen None none))
+      kept_turn s entries usable (IsBelowSig s β) old u new e normal t.key new same (chosen None none)
       (rest_is s.prime u new (subst (IsNormal s.prime) e normal) ∙ ap (λ f. normal_form s.prime (minus s.prime f 1 (u ∷ []))) (sym e))
 
   module _ (h : Hit) (first : IsFirstRegular leads x β (Some h)) where
@@ -59,10 +59,10 @@ module _ (law : LeadsLaw) (s : Setting) (entries : List Entry) (usable : All (Is
     found = chosen (Some h) first
 
     pub hit_some : 1 ≤ h.number
-    hit_some = number_some s entries β degree t.key h found
+    hit_some = number_some s entries β t.key h found
 
     pub hit_within : h.number ≤ length entries
-    hit_within = number_within s entries β degree t.key h found
+    hit_within = number_within s entries β t.key h found
 
     -- its entry's polynomial f, and the setting's prime p, as code reads them
     module _ (e : Entry) (at : slice_get entries (h.number - 1) ≡ Some e) (f : Polynomial) (of_entry : f ≡ e.polynomial) (p : ℕ) (is_prime : p ≡ s.prime) where
@@ -70,7 +70,7 @@ module _ (law : LeadsLaw) (s : Setting) (entries : List Entry) (usable : All (Is
       usable_one = usable_at s entries usable (h.number - 1) e at
 
       pub turn_residue : t.coefficient < p
-      turn_residue = subst (λ q. t.coefficient < q) (sym is_prime) (lead_residue s entries usable (monomial_of β) old t others parts normal)
+      turn_residue = subst (λ q. t.coefficient < q) (sym is_prime) (lead_residue s entries usable (IsBelowSig s β) old t others parts normal)
 
       pub divisor_normal : IsNormal p f
       divisor_normal = subst (λ q. IsNormal q f) (sym is_prime) (subst (IsNormal s.prime) (sym of_entry) usable_one.normal)
@@ -82,30 +82,30 @@ module _ (law : LeadsLaw) (s : Setting) (entries : List Entry) (usable : All (Is
       lead_is = ap (leading s.prime) (sym of_entry) ∙ ap (λ q. leading q f) (sym is_prime)
 
       pub divisor_stands : OccursAt (leading p f) t.key h.place
-      divisor_stands = subst (λ v. OccursAt v t.key h.place) lead_is (hit_stands s entries β degree t.key h found e at)
+      divisor_stands = subst (λ v. OccursAt v t.key h.place) lead_is (hit_stands s entries β t.key h found e at)
 
       -- and a step that was made of them
       module _ (step : Step) (spells : step.left ++ (leading p f ++ step.right) ≡ t.key) (place : length step.left ≡ h.place) (number : step.number ≡ h.number) where
         abbrev choice : Chosen
         choice = record { left = step.left; number = step.number; right = step.right }
 
-        is_choice : IsChoice s entries (monomial_of β) t.key (Some choice)
-        is_choice = hit_choice s entries β degree t.key h found e at step.left step.number step.right (ap (λ v. step.left ++ (v ++ step.right)) lead_is ∙ spells) place number
+        is_choice : IsChoiceOf s entries (IsBelowSig s β) t.key (Some choice)
+        is_choice = hit_choice s entries β t.key h found e at step.left step.number step.right (ap (λ v. step.left ++ (v ++ step.right)) lead_is ∙ spells) place number
 
         read : e ≡ get_or entries (step.number - 1) e
         read = sym (get_or_from_slice_get entries (step.number - 1) e e (ap (λ n. slice_get entries (n - 1)) number ∙ at))
 
         pub step_few : HasSmallWords s old → All (λ y. length step.left + length y.key + length step.right ≤ 200000) f
-        step_few small = chosen_few s entries usable (monomial_of β) old t others parts normal t.key refl choice is_choice e read f of_entry step.left step.right refl refl small
+        step_few small = chosen_few s entries usable (IsBelowSig s β) old t others parts normal t.key refl choice is_choice e read f of_entry step.left step.right refl refl small
 
-        pub hit_turn : (new : Polynomial) → step.coefficient < p → step.coefficient * coefficient f (leading p f) % p ≡ t.coefficient → new ≡ normal_form p (minus p old step.coefficient (polynomial_times step.left f step.right)) → IsSubtracted s entries (monomial_of β) old new step
+        pub hit_turn : (new : Polynomial) → step.coefficient < p → step.coefficient * coefficient f (leading p f) % p ≡ t.coefficient → new ≡ normal_form p (minus p old step.coefficient (polynomial_times step.left f step.right)) → IsSubtracted s entries (IsBelowSig s β) old new step
         hit_turn new small cancels rest =
-            subtracted_turn s entries usable (monomial_of β) old t others parts normal t.key refl choice is_choice e read f of_entry new step.coefficient step.left step.right
+            subtracted_turn s entries usable (IsBelowSig s β) old t others parts normal t.key refl choice is_choice e read f of_entry new step.coefficient step.left step.right
             (subst (λ q. step.coefficient < q) is_prime small) (subst (λ q. step.coefficient * coefficient f (leading q f) % q ≡ t.coefficient) is_prime cancels) refl refl
             (subst (λ q. new ≡ normal_form q (minus q old step.coefficient (polynomial_times step.left f step.right))) is_prime rest)
 
 -- what is left
-module _ (s : Setting) (field : IsField s.prime) (entries : List Entry) (usable : All (IsUsable s) entries) (τ : Monomial) where
-  pub turn_leaves : (old new : Polynomial) (turn : Turn) → IsTurn s entries τ old new turn → IsNormal s.prime old → HasSmallWords s old → IsLeft s field entries usable τ old new
-  turn_leaves old new (Kept x) t n k = kept_leaves s field entries usable τ old new x t n k
-  turn_leaves old new (Subtracted step) t n k = subtracted_leaves s field entries usable τ old new step t n k
+module _ (s : Setting) (field : IsField s.prime) (entries : List Entry) (usable : All (IsUsable s) entries) (β : Sig) where
+  pub turn_leaves : (old new : Polynomial) (turn : Turn) → IsTurn s entries β old new turn → IsNormal s.prime old → HasSmallWords s old → IsLeft s field entries usable (IsBelowSig s β) old new
+  turn_leaves old new (Kept x) t n k = kept_leaves s field entries usable (IsBelowSig s β) old new x t n k
+  turn_leaves old new (Subtracted step) t n k = subtracted_leaves s field entries usable (IsBelowSig s β) old new step t n k

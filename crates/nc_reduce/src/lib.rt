@@ -1,12 +1,13 @@
 //! Reduction of a polynomial by the entries of a snapshot.
 #![tactic(auto)]
 
+mod limit;
 mod reduction;
 mod start;
 mod step;
 mod turn;
 
-pub use reduction::{Reduced, reduce};
+pub use reduction::{Reduced, Rest, reduce, reduce_within};
 
 #[cfg(test)]
 mod tests;

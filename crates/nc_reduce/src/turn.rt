@@ -1,7 +1,5 @@
 //! One turn of a reduction.
 
-ghost use Rattle.nc_algebra.specs.Elements.{HasDegree};
-ghost use Rattle.nc_algebra.specs.Monomials.{monomial_of};
 ghost use Rattle.nc_algebra.specs.Polynomials.{IsNormal, Polynomial};
 ghost use Rattle.nc_index.specs.Chosen.{leads_of};
 ghost use Rattle.nc_reduce.specs.Turns.{IsTurn};
@@ -43,27 +41,27 @@ fn take_lead(rest: &mut Heap) -> Term
     }
 }
 
-/// Keeps the greatest word, or subtracts the multiple of the divisor that the leads give.
+/// Keeps the greatest word, or subtracts the multiple of the divisor that the leads give. The multiples have signatures below
+/// the bound, which is any monomial with any degree beside it.
 pub(crate) fn take_turn(
     alloc: Global,
     snapshot: &Snapshot,
     leads: &Leads,
-    sig: &Sig,
+    bound: &Sig,
     rest: &mut Heap,
 ) -> Result<Turn, AllocError>
     requires leads { leads.now ≡ leads_of snapshot.now.problem.problem.setting snapshot.now.state.entries }
-    requires degree { HasDegree snapshot.now.problem.problem.setting sig.now }
     requires normal { IsNormal snapshot.now.problem.problem.setting.prime rest.old }
     requires some { rest.old ≢ [] }
     requires small { HasSmallWords snapshot.now.problem.problem.setting rest.old }
-    ensures turn { IfOk result (IsTurn snapshot.now.problem.problem.setting snapshot.now.state.entries (monomial_of sig.now) rest.old rest.new) }
+    ensures turn { IfOk result (IsTurn snapshot.now.problem.problem.setting snapshot.now.state.entries bound.now rest.old rest.new) }
 {
     leads_law();
     let p = prime_of(snapshot);
     let Some((word, c)) = rest.greatest() else {
         unreachable!()
     };
-    let Some(hit) = leads.first_regular(word.letters(), sig) else {
+    let Some(hit) = leads.first_regular(word.letters(), bound) else {
         return Ok(Turn::Kept(take_lead(rest)));
     };
     let divisor = snapshot.entry(hit.number).poly();

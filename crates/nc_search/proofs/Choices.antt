@@ -2,14 +2,14 @@
 use Rattle.nc_algebra.proofs.Leading.{leading-normal}
 use Rattle.nc_algebra.proofs.NormalForms.{first_coefficient}
 use Rattle.nc_algebra.proofs.Words.{weight-append}
-use Rattle.nc_algebra.specs.Elements.{IsLeadingWord, Setting}
+use Rattle.nc_algebra.specs.Elements.{IsLeadingWord, IsLess, Setting}
 use Rattle.nc_algebra.specs.Monomials.{Monomial}
 use Rattle.nc_algebra.specs.Polynomials.{IsNormal, Polynomial, coefficient, leading, normal_form, polynomial_times}
 use Rattle.nc_algebra.specs.Sums.{Term, minus}
 use Rattle.nc_algebra.specs.Words.{Word, word_weight}
 use Rattle.nc_search.proofs.Small.{few_letters, first_leads, first_residue}
 use Rattle.nc_search.specs.Found.{Chosen}
-use Rattle.nc_search.specs.Places.{IsChoice}
+use Rattle.nc_search.specs.Places.{IsChoice, IsChoiceOf}
 use Rattle.nc_search.specs.Turns.{IsKept, IsSubtracted}
 use Rattle.nc_search.specs.Usable.{HasSmallWords, IsUsable}
 use Rattle.nc_theory.proofs.Determinism.{listed_same}
@@ -18,7 +18,11 @@ use Rattle.std.proofs.Common.{List, None, Some, [], ap, ap₂, arith, get_or, le
 use Rattle.std.proofs.Math.Nat.{mod-eq_of_lt}
 use Rattle.std.specs.List.{All}
 
-module _ (s : Setting) (entries : List Entry) (usable : All (IsUsable s) entries) (τ : Monomial) (old : Polynomial) (t : Term Word) (others : Polynomial) (parts : old ≡ t ∷ others) (normal : IsNormal s.prime old) where
+-- no regular divisor at τ is none with a signature below τ
+pub choice_none : (s : Setting) (entries : List Entry) (τ : Monomial) (w : Word) → IsChoice s entries τ w None → IsChoiceOf s entries (λ σ. IsLess s σ τ) w None
+choice_none s entries τ w none d l = none (record { divisor = d; below = l })
+
+module _ (s : Setting) (entries : List Entry) (usable : All (IsUsable s) entries) (set : Monomial → Type 0) (old : Polynomial) (t : Term Word) (others : Polynomial) (parts : old ≡ t ∷ others) (normal : IsNormal s.prime old) where
   normal_parts : IsNormal s.prime (t ∷ others)
   normal_parts = subst (IsNormal s.prime) parts normal
 
@@ -34,14 +38,14 @@ module _ (s : Setting) (entries : List Entry) (usable : All (IsUsable s) entries
   whole : t.coefficient ≡ coefficient old t.key % s.prime
   whole = sym (ap (λ f. coefficient f t.key % s.prime) parts ∙ (ap (λ n. n % s.prime) (first_coefficient t others normal_parts.0.1) ∙ mod-eq_of_lt lead_residue))
 
-  pub kept_turn : (w : Word) (new : Polynomial) → w ≡ t.key → IsChoice s entries τ w None → new ≡ normal_form s.prime (minus s.prime old 1 (t ∷ [])) → IsKept s entries τ old new t
+  pub kept_turn : (w : Word) (new : Polynomial) → w ≡ t.key → IsChoiceOf s entries set w None → new ≡ normal_form s.prime (minus s.prime old 1 (t ∷ [])) → IsKept s entries set old new t
   kept_turn w new e none rest =
-      let clear : IsChoice s entries τ t.key None = subst (λ x. IsChoice s entries τ x None) e none in
-      record { leads = old_leads; clear = λ d l. clear (record { divisor = d; below = l }); whole = whole; rest = rest }
+      let clear : IsChoiceOf s entries set t.key None = subst (λ x. IsChoiceOf s entries set x None) e none in
+      record { leads = old_leads; clear = clear; whole = whole; rest = rest }
 
-  module _ (w : Word) (is_lead : w ≡ t.key) (c : Chosen) (found : IsChoice s entries τ w (Some c)) (e : Entry) (read : e ≡ get_or entries (c.number - 1) e) (f : Polynomial) (of_entry : f ≡ e.polynomial) where
-    at_lead : IsChoice s entries τ t.key (Some c)
-    at_lead = subst (λ x. IsChoice s entries τ x (Some c)) is_lead found
+  module _ (w : Word) (is_lead : w ≡ t.key) (c : Chosen) (found : IsChoiceOf s entries set w (Some c)) (e : Entry) (read : e ≡ get_or entries (c.number - 1) e) (f : Polynomial) (of_entry : f ≡ e.polynomial) where
+    at_lead : IsChoiceOf s entries set t.key (Some c)
+    at_lead = subst (λ x. IsChoiceOf s entries set x (Some c)) is_lead found
 
     entry_is : e ≡ at_lead.0.entry
     entry_is =
@@ -72,7 +76,7 @@ module _ (s : Setting) (entries : List Entry) (usable : All (IsUsable s) entries
             subst (λ (h : Polynomial). All (λ x. length u + length x.key + length v ≤ 200000) h) (sym i)
             (few_letters u v y g 200000 n.0.1 (omega (arith, (small t.key old_leads.nonzero).0, ap word_weight spells, weight-append u (y.key ++ v), weight-append y.key v)))
 
-    pub subtracted_turn : (new : Polynomial) (q : ℕ) (u v : Word) → q < s.prime → q * coefficient f (leading s.prime f) % s.prime ≡ t.coefficient → u ≡ c.left → v ≡ c.right → new ≡ normal_form s.prime (minus s.prime old q (polynomial_times u f v)) → IsSubtracted s entries τ old new (record { coefficient = q; left = c.left; number = c.number; right = c.right })
+    pub subtracted_turn : (new : Polynomial) (q : ℕ) (u v : Word) → q < s.prime → q * coefficient f (leading s.prime f) % s.prime ≡ t.coefficient → u ≡ c.left → v ≡ c.right → new ≡ normal_form s.prime (minus s.prime old q (polynomial_times u f v)) → IsSubtracted s entries set old new (record { coefficient = q; left = c.left; number = c.number; right = c.right })
     subtracted_turn new q u v small cancels a b rest = record {
       word = t.key;
       leads = old_leads;

@@ -3,7 +3,7 @@ use Rattle.nc_algebra.specs.Elements.{IsLess, Setting}
 use Rattle.nc_algebra.specs.Monomials.{Divides, Monomial, times}
 use Rattle.nc_algebra.specs.Words.{Word}
 use Rattle.nc_search.specs.Found.{Around, Chosen}
-use Rattle.nc_theory.specs.Divisors.{Divisor, IsChosenDivisor, RegularDivisor, number_of}
+use Rattle.nc_theory.specs.Divisors.{Divisor, IsChosenDivisor, RegularDivisor, number_of, signature_at}
 use Rattle.nc_theory.specs.States.{Entry}
 use Rattle.std.specs.Prelude.{List, None, Option, Some, length, ℕ, ◌++◌, ◌≡◌, ◌≤◌}
 
@@ -24,11 +24,15 @@ IsFirstPlace s σ v τ w (Some a) =
     (a.left ++ (v ++ a.right) ≡ w) × IsLess s (times a.left σ a.right) τ
     × ((x y : Word) → x ++ (v ++ y) ≡ w → IsLess s (times x σ y) τ → length a.left ≤ length x)
 
--- the chosen divisor among those with a signature below τ, and None exactly where there is no regular divisor
+-- the chosen divisor among those with a signature in the set, and None exactly where there is none
+abbrev pub IsChoiceOf : Setting → List Entry → (Monomial → Type 0) → Word → Option Chosen → Type 0
+IsChoiceOf s entries set w None = (d : Divisor s entries w) → ¬ set (signature_at s entries w d)
+IsChoiceOf s entries set w (Some c) = (d : Divisor s entries w) × IsChosenDivisor s entries set w d × (d.left ≡ c.left) × (number_of s entries w d ≡ c.number) × (d.right ≡ c.right)
+
+-- the same among those with a signature below τ
 abbrev pub IsChoice : Setting → List Entry → Monomial → Word → Option Chosen → Type 0
 IsChoice s entries τ w None = ¬ RegularDivisor s entries τ w
-IsChoice s entries τ w (Some c) =
-    (d : Divisor s entries w) × IsChosenDivisor s entries (λ σ. IsLess s σ τ) w d × (d.left ≡ c.left) × (number_of s entries w d ≡ c.number) × (d.right ≡ c.right)
+IsChoice s entries τ w (Some c) = IsChoiceOf s entries (λ σ. IsLess s σ τ) w (Some c)
 
 -- the words around a divisor of a monomial
 abbrev pub IsQuotient : Monomial → Monomial → Option Around → Type 0

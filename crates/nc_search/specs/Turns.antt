@@ -8,12 +8,16 @@ use Rattle.nc_theory.specs.Divisors.{Divisor, IsChosenDivisor, multiple_at, numb
 use Rattle.nc_theory.specs.States.{Entry, Step}
 use Rattle.std.specs.Prelude.{List, [], ◌%◌, ◌*◌, ◌<◌, ◌∷◌, ◌≡◌}
 
--- the greatest word w was taken off by the step
-pub record IsSubtracted (s : Setting) (entries : List Entry) (τ : Monomial) (old new : Polynomial) (step : Step) : Type 0 where
+-- the monomials below τ: reduction at τ is by multiples with these
+abbrev pub IsBelow : Setting → Monomial → Monomial → Type 0
+IsBelow s τ = λ σ. IsLess s σ τ
+
+-- the greatest word was taken off by the step, whose divisor is the chosen one of the set
+pub record IsSubtracted (s : Setting) (entries : List Entry) (set : Monomial → Type 0) (old new : Polynomial) (step : Step) : Type 0 where
   pub word : Word
   pub leads : IsLeadingWord s old word
   pub divisor : Divisor s entries word
-  pub chosen : IsChosenDivisor s entries (λ σ. IsLess s σ τ) word divisor
+  pub chosen : IsChosenDivisor s entries set word divisor
   pub below : step.coefficient < s.prime
   pub cancels : step.coefficient * coefficient divisor.entry.polynomial (leading s.prime divisor.entry.polynomial) % s.prime ≡ coefficient old word % s.prime
   pub left : step.left ≡ divisor.left
@@ -21,9 +25,9 @@ pub record IsSubtracted (s : Setting) (entries : List Entry) (τ : Monomial) (ol
   pub right : step.right ≡ divisor.right
   pub rest : new ≡ normal_form s.prime (minus s.prime old step.coefficient (multiple_at s entries word divisor))
 
--- the greatest word, which has no regular divisor, was taken out as a term
-pub record IsKept (s : Setting) (entries : List Entry) (τ : Monomial) (old new : Polynomial) (t : Term Word) : Type 0 where
+-- the greatest word, which has no divisor in the set, was taken out as a term
+pub record IsKept (s : Setting) (entries : List Entry) (set : Monomial → Type 0) (old new : Polynomial) (t : Term Word) : Type 0 where
   pub leads : IsLeadingWord s old t.key
-  pub clear : (d : Divisor s entries t.key) → ¬ IsLess s (signature_at s entries t.key d) τ
+  pub clear : (d : Divisor s entries t.key) → ¬ set (signature_at s entries t.key d)
   pub whole : t.coefficient ≡ coefficient old t.key % s.prime
   pub rest : new ≡ normal_form s.prime (minus s.prime old 1 (t ∷ []))

@@ -2,9 +2,11 @@ use Rattle.nc_algebra.specs.Monomials.{monomial_of}
 use Rattle.nc_algebra.specs.Polynomials.{IsNormal}
 use Rattle.nc_algebra.specs.Problems.{setting_of}
 use Rattle.nc_snapshot.proofs.Snapshots.{snapshot_usable}
+use Rattle.nc_reduce.proofs.Limits.{reduced_at}
 use Rattle.nc_reduce.proofs.Starts.{start_normal, start_readable, start_small}
 use Rattle.nc_search.specs.Usable.{HasSmallWords}
 use Rattle.nc_snapshot.specs.Traces.{start_of}
+use Rattle.nc_theory.specs.Reductions.{ReductionAt}
 use Rattle.std.proofs.Common.{subst, sym}
 use Rattle.nc_reduce.proofs.reduction.reduce.Goals as goal
 
@@ -16,3 +18,8 @@ reduce_all-requires-clause-normal c = subst (IsNormal c.args.snapshot.now.proble
 
 pub reduce_all-requires-clause-small : goal.reduce_all-requires-clause-small
 reduce_all-requires-clause-small c = subst (HasSmallWords c.args.snapshot.now.problem.problem.setting) (sym c.in_ok-f.ensures) (start_small (setting_of c.args.snapshot.now.problem) c.problem-problem.ensures.snapshot.problem.setting c.args.snapshot.now.state.entries (snapshot_usable c.args.snapshot.now c.problem-problem.ensures.snapshot) (monomial_of c.args.sig.now) c.requires.usable (start_of c.args.start) c.requires.start)
+
+pub returns-clause-reduction : goal.returns-clause-reduction
+returns-clause-reduction c =
+    subst (λ f. ReductionAt c.args.snapshot.now.problem.problem.setting c.args.snapshot.now.state.entries (monomial_of c.args.sig.now) f c.in_ok-poly.poly c.in_ok-poly.steps) c.in_ok-f.ensures
+    (reduced_at c.args.snapshot.now.problem.problem.setting c.args.snapshot.now.state.entries c.args.sig.now c.requires.degree c.in_ok-poly.ensures)

@@ -1,6 +1,5 @@
-use Rattle.nc_algebra.specs.Elements.{IsLess}
-use Rattle.nc_algebra.specs.Monomials.{monomial_of}
 use Rattle.nc_algebra.specs.Polynomials.{IsNormal}
+use Rattle.nc_index.specs.Chosen.{IsBelowSig}
 use Rattle.nc_search.proofs.Turns.{size_of}
 use Rattle.nc_search.specs.Usable.{HasSmallWords}
 use Rattle.nc_theory.specs.Reductions.{ReducedTo}
@@ -8,7 +7,7 @@ use Rattle.nc_reduce.proofs.reduction.reduce_all.Given as goal
 
 abbrev pub invariant-turns : goal.invariant-turns
 invariant-turns l = record {
-  reached : ReducedTo l.snapshot.problem.problem.setting l.snapshot.state.entries (λ σ. IsLess l.snapshot.problem.problem.setting σ (monomial_of l.sig)) l.initial.rest l.kept.items l.steps.items l.rest;
+  reached : ReducedTo l.snapshot.problem.problem.setting l.snapshot.state.entries (IsBelowSig l.snapshot.problem.problem.setting l.bound) l.initial.rest l.kept.items l.steps.items l.rest;
   normal : IsNormal l.snapshot.problem.problem.setting.prime l.rest;
   small : HasSmallWords l.snapshot.problem.problem.setting l.rest;
 }
