@@ -1,0 +1,91 @@
+-- What a sum of multiples of entries needs, and the module element that it stands for: a representation of a claim.
+--   IsNeededFor        the entries that some need
+--   AreNeededFor       these entries as a list, ascending and each once
+--   AreNeededTraces    these entries with their traces
+--   IsRepresentation   the sum of the multiples' labels, in normal form
+--   IsTooManyFor       which label has more terms than the limit: that of an entry that is needed, or else the sum
+use Rattle.nc_algebra.specs.Monomials.{Monomial, Sig}
+use Rattle.nc_algebra.specs.Polynomials.{Polynomial}
+use Rattle.nc_algebra.specs.Problems.{IsWithin, Problem}
+use Rattle.nc_algebra.specs.Sums.{Term}
+use Rattle.nc_cofactor.specs.Sums.{IsSum}
+use Rattle.nc_cofactor.specs.Terms.{EntryTerms, HasTerms, Names}
+use Rattle.nc_cofactor.specs.Traces.{IsTraceIn}
+use Rattle.nc_cofactor.specs.declared.fault.CofactorFault.{CofactorFault}
+use Rattle.nc_cofactor.specs.declared.fault.CofactorFault.TheVariants.{OutOfMemory, TooMany}
+use Rattle.nc_snapshot.specs.declared.outcome.Listed.{Listed}
+use Rattle.nc_snapshot.specs.declared.outcome.Listed.TheVariants.{Claim, Entry as EntryOf, Syzygy as SyzygyOf}
+use Rattle.nc_theory.specs.Labels.{labels_of, step_multiples}
+use Rattle.nc_theory.specs.Reductions.{Reduction}
+use Rattle.nc_theory.specs.Runs.{SequentialRun}
+use Rattle.nc_theory.specs.States.{Entry, State, Step, Trace}
+use Rattle.std.specs.List.Sorted.{IsStrictlyIncreasing}
+use Rattle.std.specs.Prelude.{All, Contains, List, Option, Some, length, map, slice_get, ℕ, ◌-◌, ◌<◌, ◌↔◌, ◌≡◌, ◌≤◌}
+
+-- ---- the entries that are needed
+
+-- entry j is one of these, or the trace of an entry that is needed names it
+pub data IsNeededFor (entries : List Entry) (numbers : List ℕ) : ℕ → Type 0 where
+  given : {j : ℕ} → Contains numbers j → IsNeededFor entries numbers j
+  through : {j k : ℕ} → IsNeededFor entries numbers k → (e : Entry) → slice_get entries (k - 1) ≡ Some e → Names e.trace j → IsNeededFor entries numbers j
+
+-- these numbers are exactly the needed ones
+pub record ListsNeeded (entries : List Entry) (numbers needed : List ℕ) : Type 0 where
+  pub ascending : IsStrictlyIncreasing needed
+  pub exact : (j : ℕ) → Contains needed j ↔ IsNeededFor entries numbers j
+
+-- the entries of the run after n steps that these need, and they themselves
+pub record AreNeededFor (P : Problem) (n : ℕ) (numbers needed : List ℕ) : Type 0 where
+  pub run : State
+  pub last : Option Monomial
+  pub runs : SequentialRun P n run last
+  pub lists : ListsNeeded run.entries numbers needed
+
+-- and beside each one its trace
+pub record AreNeededTraces (P : Problem) (n : ℕ) (numbers : List ℕ) (needed : List (ℕ × Trace)) : Type 0 where
+  pub run : State
+  pub last : Option Monomial
+  pub runs : SequentialRun P n run last
+  pub lists : ListsNeeded run.entries numbers (map (λ x. x.0) needed)
+  pub traces : All (λ x. IsTraceIn run (EntryOf x.0) x.1) needed
+
+-- the entries that the steps name
+abbrev pub numbers_of : List Step → List ℕ
+numbers_of steps = map (λ t. t.number) steps
+
+-- ---- representations
+
+-- some polynomial was reduced within the bound by subtracting these multiples
+abbrev pub AreSubtracted : Problem → List Entry → List Step → Type 0
+AreSubtracted P entries steps = (f : Polynomial) × (rest : Polynomial) × Reduction P.setting entries (IsWithin P) f rest steps
+
+-- the label of each entry that the steps need has at most so many terms, and so has their sum
+pub record AreWithinLimit (p : ℕ) (run : State) (steps : List Step) (limit : ℕ) : Type 0 where
+  pub entries : (j n : ℕ) → IsNeededFor run.entries (numbers_of steps) j → EntryTerms p run j n → n ≤ limit
+  pub sum : (n : ℕ) → HasTerms p (step_multiples (labels_of p run.entries) steps) n → n ≤ limit
+
+-- the sum of the multiples of labels, in normal form, where no label that counts has more terms than the limit
+pub record IsRepresentation (P : Problem) (n : ℕ) (steps : List Step) (limit : ℕ) (m : List (Term Sig)) : Type 0 where
+  pub run : State
+  pub last : Option Monomial
+  pub runs : SequentialRun P n run last
+  pub is : IsSum P.setting (step_multiples (labels_of P.setting.prime run.entries) steps) m
+  pub within : AreWithinLimit P.setting.prime run steps limit
+
+-- the item named has more: the least needed entry whose label has, or where there is none the claim, whose representation has
+abbrev pub IsTooManyFor : ℕ → State → List Step → ℕ → Listed → ℕ → Type 0
+IsTooManyFor p run steps limit (EntryOf k) n = IsNeededFor run.entries (numbers_of steps) k × EntryTerms p run k n × (limit < n) × ((j m : ℕ) → IsNeededFor run.entries (numbers_of steps) j → j < k → EntryTerms p run j m → m ≤ limit)
+IsTooManyFor p run steps limit (SyzygyOf k) n = ⊥
+IsTooManyFor p run steps limit Claim n = HasTerms p (step_multiples (labels_of p run.entries) steps) n × (limit < n) × ((j m : ℕ) → IsNeededFor run.entries (numbers_of steps) j → EntryTerms p run j m → m ≤ limit)
+
+-- so in the run after n steps
+pub record IsTooManyForAt (P : Problem) (n : ℕ) (steps : List Step) (limit : ℕ) (named : Listed) (terms : ℕ) : Type 0 where
+  pub run : State
+  pub last : Option Monomial
+  pub runs : SequentialRun P n run last
+  pub many : IsTooManyFor P.setting.prime run steps limit named terms
+
+-- why no representation was given; want of memory says nothing
+abbrev pub FailsToRepresent : Problem → ℕ → List Step → ℕ → CofactorFault → Type 0
+FailsToRepresent P n steps limit OutOfMemory = Unit {0}
+FailsToRepresent P n steps limit (TooMany named terms) = IsTooManyForAt P n steps limit named terms

@@ -1,0 +1,61 @@
+//! What sums of multiples of entries need, and the representations that they are.
+
+ghost use Rattle.nc_cofactor.specs.Claims.{AreNeededFor, AreNeededTraces, AreSubtracted, FailsToRepresent, IsRepresentation};
+ghost use Rattle.nc_index.specs.Chosen.{leads_of};
+ghost use Rattle.std.specs.Prelude.{All, IfErr, IfOk, length, ◌≡◌, ◌≤◌};
+
+use crate::fault::CofactorFault;
+use nc_index::Leads;
+use nc_module::Module;
+use nc_snapshot::{Snapshot, Step, Trace};
+use std::alloc::{AllocError, Global};
+
+/// The entries that these need and these themselves, with their traces, ascending and each once. An entry needs those that
+/// its trace names, and what these need.
+pub fn needed_traces(
+    alloc: Global,
+    snapshot: &Snapshot,
+    leads: &Leads,
+    numbers: &[u32],
+) -> Result<Vec<(u32, Trace)>, AllocError>
+    requires leads { leads.now ≡ leads_of snapshot.now.problem.problem.setting snapshot.now.state.entries }
+    requires listed { All (λ j. (1 ≤ j) × (j ≤ length snapshot.now.state.entries)) numbers.now }
+    ensures { IfOk result (λ l. AreNeededTraces snapshot.now.problem.problem snapshot.now.handled numbers.now l.items) }
+{
+    Err(AllocError)
+}
+
+/// The entries that these need and these themselves, ascending and each once. An entry needs those that its trace names, and
+/// what these need.
+pub fn needed(
+    alloc: Global,
+    snapshot: &Snapshot,
+    leads: &Leads,
+    numbers: &[u32],
+) -> Result<Vec<u32>, AllocError>
+    requires leads { leads.now ≡ leads_of snapshot.now.problem.problem.setting snapshot.now.state.entries }
+    requires listed { All (λ j. (1 ≤ j) × (j ≤ length snapshot.now.state.entries)) numbers.now }
+    ensures { IfOk result (λ l. AreNeededFor snapshot.now.problem.problem snapshot.now.handled numbers.now l.items) }
+{
+    Err(AllocError)
+}
+
+/// The sum of the labels of these multiples, which were subtracted from a claim within the bound: where nothing of the claim
+/// is left it is a representation of it.
+///
+/// `TooMany` names the least entry that the multiples need whose label has more than `limit` terms, and where there is none the
+/// claim, whose representation has more. Each label is looked at when it is done: a sum on the way may have more terms.
+pub fn represent(
+    alloc: Global,
+    snapshot: &Snapshot,
+    leads: &Leads,
+    steps: &[Step],
+    limit: u64,
+) -> Result<Module, CofactorFault>
+    requires leads { leads.now ≡ leads_of snapshot.now.problem.problem.setting snapshot.now.state.entries }
+    requires steps { AreSubtracted snapshot.now.problem.problem snapshot.now.state.entries steps.now }
+    ensures label { IfOk result (IsRepresentation snapshot.now.problem.problem snapshot.now.handled steps.now limit) }
+    ensures fault { IfErr result (FailsToRepresent snapshot.now.problem.problem snapshot.now.handled steps.now limit) }
+{
+    Err(CofactorFault::OutOfMemory)
+}

