@@ -1,15 +1,19 @@
 -- Lists to which signatures are added.
-use Rattle.nc_algebra.specs.Elements.{HasDegree}
-use Rattle.nc_algebra.specs.Monomials.{Monomial, Sig, monomial_of}
+use Rattle.nc_algebra.proofs.Degrees.{degrees}
+use Rattle.nc_algebra.proofs.Monomials.{degree-times}
+use Rattle.nc_algebra.proofs.Words.{length_at_most}
+use Rattle.nc_algebra.specs.Elements.{HasDegree, degree, generator_weight}
+use Rattle.nc_algebra.specs.Monomials.{Monomial, Sig, monomial_of, times}
 use Rattle.nc_algebra.specs.Polynomials.{leading}
-use Rattle.nc_algebra.specs.Problems.{IsWithin, Problem}
-use Rattle.nc_overlap.specs.Overlaps.{Adds, MeetsEither}
+use Rattle.nc_algebra.specs.Problems.{IsWithin, Problem, bound_degree}
+use Rattle.nc_overlap.proofs.Sides.{within_degree}
+use Rattle.nc_overlap.specs.Overlaps.{Adds, IsEnough, MeetsEither}
 use Rattle.nc_search.proofs.Nexts.{Before, OfEntry}
-use Rattle.nc_search.specs.Meetings.{IsOnly, MeetAt}
+use Rattle.nc_search.specs.Meetings.{IsGreaterOf, IsOnly, MeetAt}
 use Rattle.nc_search.specs.Nexts.{MeetSomewhere}
 use Rattle.nc_theory.proofs.Determinism.{listed_same}
 use Rattle.nc_theory.specs.States.{Entry}
-use Rattle.std.proofs.Common.{Contains, List, Some, [], arith, get_or, inl, inr, length, map, refl, subst, sym, ℕ, ◌+◌, ◌++◌, ◌<◌, ◌∷◌, ◌≡◌, ◌≤◌, ◌⊎◌}
+use Rattle.std.proofs.Common.{Contains, List, Some, [], ap, arith, get_or, inl, inr, length, map, refl, subst, sym, ℕ, ◌+◌, ◌++◌, ◌<◌, ◌∷◌, ◌≡◌, ◌≤◌, ◌⊎◌}
 use Rattle.std.proofs.lemmas.List.Elements.{All-push, Contains-append_left, Contains-push, Contains-push_cases}
 use Rattle.std.proofs.lemmas.List.{get_or_default, map-append}
 
@@ -93,9 +97,24 @@ module _ (P : Problem) where
           go (inl m) = inl (k, m, h)
           go (inr m) = inr (subst (λ j. kind j ρ) m h)
 
+  -- a place with no room behind it has no signature within the bound
+  room : (e f : Entry) (n k : ℕ) (ρ : Monomial) → bound_degree P.setting P.bound < n + degree P.setting f.signature → IsWithin P ρ → MeetAt P.setting e f k ρ → k < n
+  room e f n k ρ past w m = omega (arith, past, m.around.2, within_degree P.setting P.bound ρ w.1, length_at_most m.before, degree-times (generator_weight P.setting) m.before m.behind_second f.signature, at_least m.greater)
+    where
+      at_least : IsGreaterOf P.setting (times [] e.signature m.behind_first) (times m.before f.signature m.behind_second) ρ → degree P.setting (times m.before f.signature m.behind_second) ≤ degree P.setting ρ
+      at_least (inl g) = let same : degree P.setting ρ ≡ degree P.setting (times m.before f.signature m.behind_second) = ap (degree P.setting) g.1 in omega (arith, same)
+      at_least (inr g) =
+          let same : degree P.setting ρ ≡ degree P.setting (times [] e.signature m.behind_first) = ap (degree P.setting) g.1 in
+          omega (arith, same, degrees P.setting (times m.before f.signature m.behind_second) (times [] e.signature m.behind_first) (inr g.0))
+
   -- all places where one leading word begins within another
-  pub adds_places : (e f : Entry) (n : ℕ) (x y : List Sig) → length (leading P.setting.prime e.polynomial) ≤ n → Adds P (Before (MeetAt P.setting e f) n) x y → Adds P (MeetSomewhere P.setting e f) x y
-  adds_places e f n x y h = adds_same (Before (MeetAt P.setting e f) n) (MeetSomewhere P.setting e f) x y (λ ρ b. (b.0, b.2)) (λ ρ w m. (m.0, omega (arith, h, m.1.within), m.1))
+  pub adds_places : (e f : Entry) (n : ℕ) (x y : List Sig) → IsEnough P (length (leading P.setting.prime e.polynomial)) (degree P.setting f.signature) n → Adds P (Before (MeetAt P.setting e f) n) x y → Adds P (MeetSomewhere P.setting e f) x y
+  adds_places e f n x y (inl h) = adds_same (Before (MeetAt P.setting e f) n) (MeetSomewhere P.setting e f) x y (λ ρ b. (b.0, b.2)) (λ ρ w m. (m.0, omega (arith, h, m.1.within), m.1))
+  adds_places e f n x y (inr h) = adds_same (Before (MeetAt P.setting e f) n) (MeetSomewhere P.setting e f) x y (λ ρ b. (b.0, b.2)) (λ ρ w m. (m.0, room e f n m.0 ρ h w m.1, m.1))
+
+  pub enough_more : (all all' d d' n m : ℕ) → all' ≡ all → d' ≡ d → n ≤ m → IsEnough P all d n → IsEnough P all' d' m
+  enough_more all all' d d' n m a b l (inl h) = inl (omega (arith, a, l, h))
+  enough_more all all' d d' n m a b l (inr h) = inr (omega (arith, b, l, h))
 
   -- the entry at one index, and all entries
   abbrev Either : Entry → Entry → Monomial → Type 0

@@ -12,7 +12,7 @@ use Rattle.std.proofs.Math.Dec.{leb}
 use Rattle.std.proofs.lemmas.Bool.{le-leb, leb-true}
 
 -- no monomial within a bound has a degree beyond it
-within_degree : (s : Setting) (b : Bound) (σ : Monomial) → IsInBound s b σ → degree s σ ≤ bound_degree s b
+pub within_degree : (s : Setting) (b : Bound) (σ : Monomial) → IsInBound s b σ → degree s σ ≤ bound_degree s b
 within_degree s (Bound.to_degree d) σ h = h
 within_degree s (Bound.under β) σ (inl h) = omega arith
 within_degree s (Bound.under β) σ (inr (e, h)) = omega (arith, e)

@@ -2,13 +2,13 @@
 use Rattle.nc_algebra.specs.Elements.{HasDegree, IsGenerator, Setting}
 use Rattle.nc_algebra.specs.Monomials.{Monomial, Sig, monomial_of}
 use Rattle.nc_algebra.specs.Polynomials.{leading}
-use Rattle.nc_algebra.specs.Problems.{IsWithin, Problem}
+use Rattle.nc_algebra.specs.Problems.{IsWithin, Problem, bound_degree}
 use Rattle.nc_algebra.specs.Words.{Word}
 use Rattle.nc_overlap.specs.declared.meeting.Lead.{Lead}
 use Rattle.nc_search.specs.Nexts.{MeetSomewhere}
 use Rattle.nc_theory.specs.Ambiguities.{NewAmbiguity}
 use Rattle.nc_theory.specs.States.{Entry}
-use Rattle.std.specs.Prelude.{All, Contains, List, map, ◌↔◌, ◌≡◌, ◌⊎◌}
+use Rattle.std.specs.Prelude.{All, Contains, List, map, ℕ, ◌+◌, ◌<◌, ◌↔◌, ◌≡◌, ◌≤◌, ◌⊎◌}
 
 -- the signatures are those, within the bound, of all ambiguities of an entry with signature σ and leading word w
 abbrev pub AreNewSignatures : Problem → List Entry → Word → Monomial → List Sig → Type 0
@@ -34,6 +34,10 @@ MeetsEither s entries new ρ = (e : Entry) × Contains entries e × (MeetSomewhe
 pub record Adds (P : Problem) (set : Monomial → Type 0) (old new : List Sig) : Type 0 where
   pub degrees : All (HasDegree P.setting) old → All (HasDegree P.setting) new
   pub exact : (ρ : Monomial) → Contains (map monomial_of new) ρ ↔ (Contains (map monomial_of old) ρ ⊎ (IsWithin P ρ × set ρ))
+
+-- no more than n places count, or those from n on are past the bound for an entry of this degree
+abbrev pub IsEnough : Problem → ℕ → ℕ → ℕ → Type 0
+IsEnough P all degree n = (all ≤ n) ⊎ (bound_degree P.setting P.bound < n + degree)
 
 -- the later list has what is added where the second leading word begins within the first one
 abbrev pub AddsMeetings : Problem → Lead → Lead → List Sig → List Sig → Type 0

@@ -6,7 +6,7 @@ mod tests;
 ghost use Rattle.nc_algebra.specs.Elements.{HasDegree};
 ghost use Rattle.nc_algebra.specs.Monomials.{compare_sigs, monomial_of};
 ghost use Rattle.nc_algebra.specs.Problems.{IsWithin};
-ghost use Rattle.nc_overlap.specs.Overlaps.{Adds, AddsMeetings, AreNewSignatures, IsLedBy, IsSignatureOver, MeetsEither};
+ghost use Rattle.nc_overlap.specs.Overlaps.{Adds, AddsMeetings, AreNewSignatures, IsEnough, IsLedBy, IsSignatureOver, MeetsEither};
 ghost use Rattle.nc_overlap.specs.Sides.{side_sig};
 ghost use Rattle.nc_search.specs.Meetings.{MeetAt};
 ghost use Rattle.nc_theory.specs.States.{Entry};
@@ -16,7 +16,7 @@ ghost use Rattle.std.specs.Prelude.{All, IfOk, OnOk, get_or, length, map, ◌-�
 
 use crate::meeting::{Lead, greater_side};
 use crate::side::Side;
-use nc_module::Problem;
+use nc_module::{Bound, Problem};
 use nc_sig::Sig;
 use nc_snapshot::Snapshot;
 use nc_words::Word;
@@ -60,6 +60,24 @@ fn add_at(
     }
 }
 
+/// How many places in the first leading word may count: behind them the multiple of the second one's entry has a degree past
+/// the bound's.
+fn places(problem: &Problem, first: &Lead, second: &Lead) -> usize
+    ensures few { result ≤ length first.now.word.now }
+    ensures enough { IsEnough problem.now.problem (length first.now.word.now) second.now.sig.now.degree result }
+{
+    let limit = match problem.bound() {
+        Bound::Degree(d) => *d,
+        Bound::Below(beta) => beta.degree,
+    };
+    let (word, sig) = (first.word, second.sig);
+    if limit < sig.degree {
+        return 0;
+    }
+    let room = (limit - sig.degree) as usize + 1;
+    word.len().min(room)
+}
+
 /// Adds the signatures where the second leading word begins within the first one.
 fn add_pair(
     alloc: Global,
@@ -72,7 +90,7 @@ fn add_pair(
     requires second { IsSignatureOver problem.now.problem.setting second.now.sig.now }
     ensures { OnOk result (AddsMeetings problem.now.problem first.now second.now (map arc_value found.old.items) (map arc_value found.new.items)) }
 {
-    for at in 0..first.word.len() {
+    for at in 0..places(problem, first, second) {
         add_at(alloc, problem, found, first, second, at)?;
     }
     Ok(())
