@@ -185,16 +185,28 @@ mod tests {
     use super::*;
     use std::test::Fail;
 
-    /// One with this generator, which weighs 1, and few letters.
-    fn small(alloc: Global, left: &[Letter], generator: u32, right: &[Letter]) -> Result<Sig, Fail>
-        requires left { length left.now ≤ 24 }
-        requires right { length right.now ≤ 24 }
+    /// The word of these letters, x and y, which weigh 1 each; at most nine are read.
+    fn word(alloc: Global, text: &str) -> Result<Word, Fail>
+        ensures { IfOk result (λ w. word_weight w ≤ 900) }
     {
-        let left = Word::join(alloc, left, &[], &[])?;
-        let right = Word::join(alloc, right, &[], &[])?;
-        if left.weight() > 1000 || right.weight() > 1000 {
+        let x = Letter::of(0, 1).ok_or("no such letter")?;
+        let y = Letter::of(1, 1).ok_or("no such letter")?;
+        let mut word = Word::empty(alloc);
+        for name in text.bytes() {
+            let letter = if name == b'x' { x } else { y };
+            if word.letters().len() < 9 {
+                word = Word::join(alloc, word.letters(), &[letter], &[])?;
+            }
+        }
+        if word.weight() > 900 {
             return Err("too heavy".into());
         }
+        Ok(word)
+    }
+
+    /// One with this generator, which weighs 1, and these words.
+    fn small(alloc: Global, left: &str, generator: u32, right: &str) -> Result<Sig, Fail> {
+        let (left, right) = (word(alloc, left)?, word(alloc, right)?);
         Ok(Sig::of(1, generator, left, right))
     }
 
@@ -215,53 +227,64 @@ mod tests {
         Ok(())
     }
 
+    /// How many letters stand before and behind the second in the first, where it divides.
+    fn around(whole: &Sig, by: &Sig) -> Option<(usize, usize)> {
+        let (before, behind) = whole.divide(by)?;
+        Some((before.len(), behind.len()))
+    }
+
     #[test]
     fn signatures_divide(rt: HostRuntime) -> Result<(), Fail> {
         let alloc = rt.alloc();
-        let x = Letter::of(0, 1).ok_or("no such letter")?;
-        let y = Letter::of(1, 1).ok_or("no such letter")?;
-        let whole = small(alloc, &[x, y], 1, &[y, x, y])?;
-        let cases: [(&[Letter], u32, &[Letter], bool); 8] = [
-            (&[y], 1, &[y, x], true),
-            (&[], 1, &[], true),
-            (&[x, y], 1, &[y, x, y], true),
-            (&[y], 2, &[y, x], false),
-            (&[x], 1, &[y], false),
-            (&[y], 1, &[x], false),
-            (&[x, x, y], 1, &[], false),
-            (&[], 1, &[y, x, y, y], false),
-        ];
-        for (left, generator, right, want) in cases {
+        let whole = small(alloc, "xy", 1, "yxy")?;
+        for (left, generator, right, want) in [
+            ("y", 1, "yx", Some((1, 1))),
+            ("", 1, "", Some((2, 3))),
+            ("xy", 1, "yxy", Some((0, 0))),
+            ("y", 2, "yx", None),
+            ("x", 1, "y", None),
+            ("y", 1, "x", None),
+            ("xxy", 1, "", None),
+            ("", 1, "yxyy", None),
+        ] {
             let by = small(alloc, left, generator, right)?;
-            let found = whole.divide(&by);
-            assert_eq!(rt; found.is_some(), want);
-            if let Some((before, behind)) = found {
-                assert_eq!(rt; before.len() + left.len(), 2);
-                assert_eq!(rt; behind.len() + right.len(), 3);
-            }
+            assert_eq!(rt; around(&whole, &by), want);
         }
         Ok(())
+    }
+
+    /// The comparisons of the multiple of a generator with another one, without making it and with it.
+    fn comparisons(
+        alloc: Global,
+        left: &str,
+        generator: u32,
+        right: &str,
+        whole: &Sig,
+    ) -> Result<(Ordering, Ordering), Fail> {
+        let (u, v) = (word(alloc, left)?, word(alloc, right)?);
+        let unmade = small(alloc, "", generator, "")?.compare_times(
+            u.letters(),
+            v.letters(),
+            whole,
+        );
+        let made = small(alloc, left, generator, right)?.cmp(whole);
+        Ok((unmade, made))
     }
 
     #[test]
     fn multiples_compare(rt: HostRuntime) -> Result<(), Fail> {
         let alloc = rt.alloc();
-        let x = Letter::of(0, 1).ok_or("no such letter")?;
-        let y = Letter::of(1, 1).ok_or("no such letter")?;
-        let whole = small(alloc, &[x], 2, &[y])?;
-        let cases: [(&[Letter], u32, &[Letter], Ordering); 6] = [
-            (&[], 1, &[x, x, x], Ordering::Greater),
-            (&[y], 1, &[y], Ordering::Less),
-            (&[], 2, &[y, y], Ordering::Less),
-            (&[x], 2, &[x], Ordering::Less),
-            (&[x], 2, &[y], Ordering::Equal),
-            (&[y], 2, &[x], Ordering::Greater),
-        ];
-        for (left, generator, right, want) in cases {
-            let sig = small(alloc, &[], generator, &[])?;
-            assert_eq!(rt; sig.compare_times(left, right, &whole), want);
-            let multiple = small(alloc, left, generator, right)?;
-            assert_eq!(rt; multiple.cmp(&whole), want);
+        let whole = small(alloc, "x", 2, "y")?;
+        for (left, generator, right, want) in [
+            ("", 1, "xxx", Ordering::Greater),
+            ("y", 1, "y", Ordering::Less),
+            ("", 2, "yy", Ordering::Less),
+            ("x", 2, "x", Ordering::Less),
+            ("x", 2, "y", Ordering::Equal),
+            ("y", 2, "x", Ordering::Greater),
+        ] {
+            let found = comparisons(alloc, left, generator, right, &whole)?;
+            assert_eq!(rt; found, (want, want));
         }
         Ok(())
     }
