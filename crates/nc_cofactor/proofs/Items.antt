@@ -1,10 +1,14 @@
 -- The items of a snapshot beside those of the run that it stands for.
 use Rattle.nc_algebra.proofs.Primes.{field_from_prime}
-use Rattle.nc_algebra.specs.Elements.{IsGenerator, IsLess, Setting}
-use Rattle.nc_algebra.specs.Monomials.{Monomial}
+use Rattle.nc_algebra.specs.Elements.{IsGenerator, IsLess, Setting, degree}
+use Rattle.nc_algebra.specs.Monomials.{Monomial, times}
 use Rattle.nc_algebra.specs.Polynomials.{Polynomial}
 use Rattle.nc_algebra.specs.Primes.{IsField}
+use Rattle.nc_algebra.specs.Problems.{IsWithin, bound_degree}
+use Rattle.nc_algebra.specs.Words.{Word}
 use Rattle.nc_cofactor.proofs.Lesser.{first_of_rebuilt, lesser_than_entry}
+use Rattle.nc_cofactor.proofs.Named.{AreLight, IsLight, bound_light}
+use Rattle.nc_cofactor.specs.Claims.{AreSubtracted}
 use Rattle.nc_cofactor.specs.Rebuilding.{AreLesser, HasStart}
 use Rattle.nc_cofactor.specs.Traces.{HasTrace, IsListedSignature}
 use Rattle.nc_field.proofs.Primes.{listed_is_prime}
@@ -19,13 +23,15 @@ use Rattle.nc_snapshot.specs.Snapshots.{IsSnapshot, Snapshot}
 use Rattle.nc_snapshot.specs.declared.outcome.Listed.TheVariants.{Entry as EntryOf, Syzygy as SyzygyOf}
 use Rattle.nc_theory.proofs.Completeness.{invariant}
 use Rattle.nc_theory.proofs.Rebuilding.{rebuilds_once, rebuilt}
+use Rattle.nc_theory.specs.Divisors.{Divisor, number_of, signature_at}
 use Rattle.nc_theory.specs.Rebuilding.{IsAtLeast, Rebuilds}
+use Rattle.nc_theory.specs.Reductions.{Reduction}
 use Rattle.nc_theory.specs.Runs.{Starts}
-use Rattle.nc_theory.specs.States.{Entry, Syzygy, Trace}
-use Rattle.std.proofs.Common.{Contains, List, Some, [], ap, drop, inl, inr, length, map, refl, subst, sym, take, ℕ, ◌++◌, ◌-◌, ◌∙◌, ◌≡◌, ◌≤◌}
+use Rattle.nc_theory.specs.States.{Entry, Step, Syzygy, Trace}
+use Rattle.std.proofs.Common.{Contains, List, Some, [], ap, arith, drop, inl, inr, length, map, refl, subst, sym, take, ℕ, ◌++◌, ◌-◌, ◌<◌, ◌∙◌, ◌≡◌, ◌≤◌}
 use Rattle.std.proofs.lemmas.List.{drop-map, drop_at, length-map, map-append, take-append-drop, take-map, take_at}
 use Rattle.std.proofs.lemmas.Option.{get_or_from_slice_get, slice_get_read, slice_get_within}
-use Rattle.std.specs.List.{slice_get}
+use Rattle.std.specs.List.{AllByRecursion, slice_get}
 
 -- ---- what is rebuilt does not depend on traces
 
@@ -118,6 +124,33 @@ module _ (s : Snapshot) (h : IsSnapshot s) where
         runs = h.run.runs;
         is = (syzygy z listed, some, slice_get_read h.run.run.syzygies (length h.run.run.syzygies) (k - 1) (syzygy z listed) refl there.1 (sym there.2), is_trace z.signature t (syzygy z listed).trace f [] r (syzygy_rebuilt z listed));
       }
+
+  -- ---- what was subtracted over the snapshot's entries
+
+  -- the multiple of one of them within the bound
+  divisor_light : (w : Word) (d : Divisor s.problem.problem.setting s.state.entries w) → IsWithin s.problem.problem (signature_at s.problem.problem.setting s.state.entries w d) → IsLight s.problem.problem h.run.run.entries d.left (number_of s.problem.problem.setting s.state.entries w d) d.right
+  divisor_light w d within =
+      let e : Entry = entry d.entry d.listed in
+      let there : Contains h.run.run.entries e = entry_listed d.entry d.listed in
+      let low : degree s.problem.problem.setting (times d.left d.entry.signature d.right) ≤ bound_degree s.problem.problem.setting s.problem.problem.bound = bound_light s.problem.problem.setting s.problem.problem.bound (signature_at s.problem.problem.setting s.state.entries w d) within.1 in record {
+        some = omega arith;
+        entry = e;
+        at = subst (λ i. slice_get h.run.run.entries i ≡ Some e) (omega arith) (slice_get_read h.run.run.entries (length h.run.run.entries) d.listed.0 e refl there.1 (sym there.2));
+        light = subst (λ σ. degree s.problem.problem.setting (times d.left σ d.right) ≤ bound_degree s.problem.problem.setting s.problem.problem.bound) (sym (entry_signed d.entry d.listed)) low;
+      }
+
+  small : {f rest : Polynomial} {steps : List Step} → Reduction s.problem.problem.setting s.state.entries (IsWithin s.problem.problem) f rest steps → AllByRecursion (λ step. step.coefficient < s.problem.problem.setting.prime) steps
+  small (Reduction.finished n) = tt
+  small (Reduction.subtract w l d chosen c low q r) = (low, small r)
+  small (Reduction.keep w l n c e r) = small r
+
+  light : {f rest : Polynomial} {steps : List Step} → Reduction s.problem.problem.setting s.state.entries (IsWithin s.problem.problem) f rest steps → AllByRecursion (λ step. IsLight s.problem.problem h.run.run.entries step.left step.number step.right) steps
+  light (Reduction.finished n) = tt
+  light (Reduction.subtract w l d chosen c low q r) = (divisor_light w d chosen.allowed, light r)
+  light (Reduction.keep w l n c e r) = light r
+
+  pub subtracted_light : (steps : List Step) → AreSubtracted s.problem.problem s.state.entries steps → AreLight s.problem.problem h.run.run.entries steps
+  subtracted_light steps (f, rest, r) = record { residues = small r; light = light r }
 
   -- ---- a listed signature
 

@@ -13,11 +13,12 @@ use Rattle.nc_algebra.specs.Problems.{IsProblem, IsWithin, NamedProblem}
 use Rattle.nc_algebra.specs.Sums.{SameSum, Term}
 use Rattle.nc_algebra.specs.Words.{Word, word_weight}
 use Rattle.nc_cofactor.proofs.Keys.{all_among, among_all}
-use Rattle.nc_cofactor.proofs.Listing.{alike_label, label_by_trace}
-use Rattle.nc_cofactor.proofs.Named.{IsNamed, IsSigned, IsStartNamed, bound_light, contains_at, names_earlier, signed}
+use Rattle.nc_cofactor.proofs.Listing.{alike_label, alike_multiples, label_by_trace}
+use Rattle.nc_cofactor.proofs.Named.{AreLight, IsLight, IsNamed, IsSigned, IsStartNamed, contains_at, named_light, names_earlier, signed}
 use Rattle.nc_cofactor.proofs.Terms.{listed_counts}
 use Rattle.nc_cofactor.specs.Labels.{IsLabelOf}
-use Rattle.nc_cofactor.specs.Sums.{IsAddable, IsPlaced, IsStartPlaced, IsSum, IsSummable, IsTraceSum, elements_of}
+use Rattle.nc_cofactor.specs.Needed.{StepsName}
+use Rattle.nc_cofactor.specs.Sums.{AreSummable, IsAddable, IsPlaced, IsStartPlaced, IsSum, IsSummable, IsTraceSum, elements_of}
 use Rattle.nc_cofactor.specs.Terms.{Names, StartNames}
 use Rattle.nc_cofactor.specs.Traces.{IsTraceIn}
 use Rattle.nc_field.proofs.Primes.{listed_is_prime}
@@ -25,7 +26,7 @@ use Rattle.nc_module.specs.Modules.{element_of}
 use Rattle.nc_snapshot.specs.declared.outcome.Listed.{Listed}
 use Rattle.nc_snapshot.specs.declared.outcome.Listed.TheVariants.{Claim, Entry as EntryOf, Syzygy as SyzygyOf}
 use Rattle.nc_theory.proofs.Traces.{labels_hold}
-use Rattle.nc_theory.specs.Labels.{label_at, labels_of, trace_label}
+use Rattle.nc_theory.specs.Labels.{label_at, labels_of, step_multiples, trace_label}
 use Rattle.nc_theory.specs.Runs.{SequentialRun}
 use Rattle.nc_theory.specs.States.{Entry, Start, State, Step, Trace}
 use Rattle.std.proofs.Common.{List, Option, Some, [], ap, arith, get_or, inl, inr, length, refl, subst, sym, ℕ, ◌+◌, ◌-◌, ◌<◌, ◌∙◌, ◌≡◌, ◌≤◌, ◌⊎◌}
@@ -52,18 +53,18 @@ module _ (P : NamedProblem) (problem : IsProblem P) {n : ℕ} {run : State} {las
   labelled_at j e some at = subst (λ i. IsLabelled P.problem.setting e.signature e.polynomial (label_at (labels_of P.problem.setting.prime run.entries) i)) (omega arith) ((labels_hold P.problem (problem_field P problem) runs).entries e (contains_at run.entries (j - 1) e at))
 
   -- the monomials of a label have at most the degree of its signature
-  light : (τ : Monomial) (u : Word) (j : ℕ) (v : Word) → IsWithin P.problem τ → IsNamed P.problem.setting run.entries τ u j v → (m : List (Term Sig)) → IsLabelOf P.problem.setting run (EntryOf j) m → (t : Term Sig) → Among t m → t.key.degree ≡ degree P.problem.setting (monomial_of t.key) → word_weight u + t.key.degree + word_weight v ≤ 100000
-  light τ u j v within n m l t k has =
+  light : (u : Word) (j : ℕ) (v : Word) → IsLight P.problem run.entries u j v → (m : List (Term Sig)) → IsLabelOf P.problem.setting run (EntryOf j) m → (t : Term Sig) → Among t m → t.key.degree ≡ degree P.problem.setting (monomial_of t.key) → word_weight u + t.key.degree + word_weight v ≤ 100000
+  light u j v n m l t k has =
       let σ : Monomial = n.entry.signature in
       let below : (monomial_of t.key ≡ σ) ⊎ IsLess P.problem.setting (monomial_of t.key) σ =
       below_lead same_monomial (IsLess P.problem.setting) (monomial_laws (generator_weight P.problem.setting)) P.problem.setting.prime l.label σ (monomial_of t.key)
       (subst (λ (α : Element). IsLabelled P.problem.setting σ n.entry.polynomial α) (sym l.is.2) (labelled_at j n.entry n.some n.at)).leads
       (listed_counts P.problem.setting l.label m (label_sum P.problem.setting run (EntryOf j) m l) t k) in
       let low : degree P.problem.setting (monomial_of t.key) ≤ degree P.problem.setting σ = degrees P.problem.setting (monomial_of t.key) σ below in
-      omega (arith, has, low, degree-times (generator_weight P.problem.setting) u v σ, n.light, bound_light P.problem.setting P.problem.bound τ within.1, problem.limited)
+      omega (arith, has, low, degree-times (generator_weight P.problem.setting) u v σ, n.light, problem.limited)
 
-  placed : (τ : Monomial) (u : Word) (j : ℕ) (v : Word) → IsWithin P.problem τ → IsNamed P.problem.setting run.entries τ u j v → StandsAt P.problem.setting run labels j → IsPlaced P.problem.setting labels u j v
-  placed τ u j v within n stands =
+  placed : (u : Word) (j : ℕ) (v : Word) → IsLight P.problem run.entries u j v → StandsAt P.problem.setting run labels j → IsPlaced P.problem.setting labels u j v
+  placed u j v n stands =
       let m : List (Term Sig) = stands.label in
       let here : m ≡ get_or labels (j - 1) [] = sym (get_or_from_slice_get labels (j - 1) m [] stands.at) in
       let there : j - 1 < length labels = slice_get_within labels (j - 1) m stands.at in
@@ -73,7 +74,7 @@ module _ (P : NamedProblem) (problem : IsProblem P) {n : ℕ} {run : State} {las
         addable = subst (λ (l : List (Term Sig)). IsAddable P.problem.setting u l v) here (record {
           residues = stands.is.residues;
           degrees = stands.is.degrees;
-          light = All-from_recursion (λ (t : Term Sig). word_weight u + t.key.degree + word_weight v ≤ 100000) m (among_all (λ (t : Term Sig). word_weight u + t.key.degree + word_weight v ≤ 100000) m (λ t k. light τ u j v within n m stands.is t k (degree_is t k)));
+          light = All-from_recursion (λ (t : Term Sig). word_weight u + t.key.degree + word_weight v ≤ 100000) m (among_all (λ (t : Term Sig). word_weight u + t.key.degree + word_weight v ≤ 100000) m (λ t k. light u j v n m stands.is t k (degree_is t k)));
         });
       }
     where
@@ -82,17 +83,22 @@ module _ (P : NamedProblem) (problem : IsProblem P) {n : ℕ} {run : State} {las
 
   start_placed : (τ : Monomial) (start : Start) → IsWithin P.problem τ → IsStartNamed P.problem.setting run.entries τ start → ((j : ℕ) → StartNames start j → StandsAt P.problem.setting run labels j) → IsStartPlaced P.problem.setting labels start
   start_placed τ (Start.a_generator i) within n stands = n
-  start_placed τ (Start.a_multiple u j v) within n stands = placed τ u j v within n (stands j refl)
+  start_placed τ (Start.a_multiple u j v) within n stands = placed u j v (named_light P.problem run.entries τ u j v within n) (stands j refl)
+
+  -- light multiples can be added up
+  pub addable_steps : (steps : List Step) → AreLight P.problem run.entries steps → ((j : ℕ) → StepsName steps j → StandsAt P.problem.setting run labels j) → AreSummable P.problem.setting labels steps
+  addable_steps steps are stands = record {
+    residues = All-from_recursion (λ (step : Step). step.coefficient < P.problem.setting.prime) steps are.residues;
+    placed = All-from_recursion (λ (step : Step). IsPlaced P.problem.setting labels step.left step.number step.right) steps (among_all (λ (step : Step). IsPlaced P.problem.setting labels step.left step.number step.right) steps (λ step k. placed step.left step.number step.right (all_among (λ (step : Step). IsLight P.problem run.entries step.left step.number step.right) steps are.light step k) (stands step.number (step, among_contains step steps k, refl))));
+  }
 
   -- the trace can be summed up
   pub summable : (listed : Listed) (t : Trace) → IsTraceIn run listed t → ((j : ℕ) → Names t j → StandsAt P.problem.setting run labels j) → IsSummable P.problem.setting labels t
   summable listed t is stands =
       let g : IsSigned P.problem run listed t = signed P.problem (problem_field P problem) runs listed t is in
-      record {
-        start = start_placed g.signature t.start g.within g.named.start (λ j k. stands j (inl k));
-        residues = All-from_recursion (λ (step : Step). step.coefficient < P.problem.setting.prime) t.steps g.named.residues;
-        steps = All-from_recursion (λ (step : Step). IsPlaced P.problem.setting labels step.left step.number step.right) t.steps (among_all (λ (step : Step). IsPlaced P.problem.setting labels step.left step.number step.right) t.steps (λ step k. placed g.signature step.left step.number step.right g.within (all_among (λ (step : Step). IsNamed P.problem.setting run.entries g.signature step.left step.number step.right) t.steps g.named.steps step k) (stands step.number (inr (step, among_contains step t.steps k, refl)))));
-      }
+      let are : AreLight P.problem run.entries t.steps = record { residues = g.named.residues; light = among_all (λ (step : Step). IsLight P.problem run.entries step.left step.number step.right) t.steps (λ step k. named_light P.problem run.entries g.signature step.left step.number step.right g.within (all_among (λ (step : Step). IsNamed P.problem.setting run.entries g.signature step.left step.number step.right) t.steps g.named.steps step k)) } in
+      let all : AreSummable P.problem.setting labels t.steps = addable_steps t.steps are (λ j k. stands j (inr k)) in
+      record { start = start_placed g.signature t.start g.within g.named.start (λ j k. stands j (inl k)); residues = all.residues; steps = all.placed }
 
   -- what stands there is the label of the theory
   alike : (j : ℕ) → StandsAt P.problem.setting run labels j → SameSum same_monomial P.problem.setting.prime (label_at (elements_of labels) j) (label_at (labels_of P.problem.setting.prime run.entries) j)
@@ -105,6 +111,18 @@ module _ (P : NamedProblem) (problem : IsProblem P) {n : ℕ} {run : State} {las
   whole t m stands sum =
       same-trans same_monomial P.problem.setting.prime (element_of m) (trace_label P.problem.setting.prime (elements_of labels) t) (trace_label P.problem.setting.prime (labels_of P.problem.setting.prime run.entries) t) sum.same
       (alike_label P.problem.setting.prime (let one : 1 < P.problem.setting.prime = (problem_field P problem).above_one in omega arith) (elements_of labels) (labels_of P.problem.setting.prime run.entries) t (λ j k. alike j (stands j k)))
+
+  -- the sum of multiples is that of the theory
+  pub steps_whole : (steps : List Step) (m : List (Term Sig)) → ((j : ℕ) → StepsName steps j → StandsAt P.problem.setting run labels j) → IsSum P.problem.setting (step_multiples (elements_of labels) steps) m → IsSum P.problem.setting (step_multiples (labels_of P.problem.setting.prime run.entries) steps) m
+  steps_whole steps m stands sum = record {
+    same =
+        same-trans same_monomial P.problem.setting.prime (element_of m) (step_multiples (elements_of labels) steps) (step_multiples (labels_of P.problem.setting.prime run.entries) steps) sum.same
+        (alike_multiples P.problem.setting.prime (let one : 1 < P.problem.setting.prime = (problem_field P problem).above_one in omega arith) (elements_of labels) (labels_of P.problem.setting.prime run.entries) steps
+        (among_all (λ (t : Step). SameSum same_monomial P.problem.setting.prime (label_at (elements_of labels) t.number) (label_at (labels_of P.problem.setting.prime run.entries) t.number)) steps (λ step k. alike step.number (stands step.number (step, among_contains step steps k, refl)))));
+    descends = sum.descends;
+    residues = sum.residues;
+    degrees = sum.degrees;
+  }
 
   -- and the sum is the label
   pub labelled : (listed : Listed) (t : Trace) (m : List (Term Sig)) → IsTraceIn run listed t → ((j : ℕ) → Names t j → StandsAt P.problem.setting run labels j) → IsTraceSum P.problem.setting labels t m → IsLabelOf P.problem.setting run listed m

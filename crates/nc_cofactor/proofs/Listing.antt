@@ -1,18 +1,25 @@
 -- The list of labels: each label is given by its entry's trace over the list itself.
 use Rattle.nc_algebra.proofs.Finite.{among_contains}
-use Rattle.nc_algebra.proofs.Lists.{same-refl}
+use Rattle.nc_algebra.proofs.Lists.{same-append, same-refl}
 use Rattle.nc_algebra.specs.Elements.{Element, element_times}
 use Rattle.nc_algebra.specs.Monomials.{same_monomial, unit_monomial}
-use Rattle.nc_algebra.specs.Sums.{SameSum, minus}
+use Rattle.nc_algebra.specs.Sums.{SameSum, minus, scale}
 use Rattle.nc_cofactor.proofs.Keys.{among_all}
-use Rattle.nc_cofactor.proofs.Sums.{same_minus, same_times}
+use Rattle.nc_cofactor.proofs.Sums.{same_minus, same_scale, same_times}
 use Rattle.nc_cofactor.specs.Terms.{Names, StartNames}
-use Rattle.nc_theory.specs.Labels.{label_at, labels_onto, less_steps, start_label, trace_label}
+use Rattle.nc_theory.specs.Labels.{label_at, labels_onto, less_steps, start_label, step_multiples, trace_label}
 use Rattle.nc_theory.specs.States.{Entry, Start, Step, Trace}
-use Rattle.std.proofs.Common.{List, Some, [], ap, arith, inl, inr, length, length-append, refl, suc, sym, zero, ℕ, ◌+◌, ◌++◌, ◌-◌, ◌<◌, ◌∙◌, ◌∷◌, ◌≡◌, ◌≤◌}
-use Rattle.std.proofs.lemmas.List.{get_or_append_left, get_or_at}
+use Rattle.std.proofs.Common.{List, Some, [], ap, append_assoc, arith, inl, inr, length, length-append, refl, suc, sym, zero, ℕ, ◌+◌, ◌++◌, ◌-◌, ◌<◌, ◌∙◌, ◌∷◌, ◌≡◌, ◌≤◌}
+use Rattle.std.proofs.lemmas.List.{append-nil, get_or_append_left, get_or_at}
 use Rattle.std.proofs.lemmas.Option.{slice_get_within}
 use Rattle.std.specs.List.{AllByRecursion, slice_get}
+
+pub step_multiples-push : (ls : List Element) (steps : List Step) (t : Step) → step_multiples ls (steps ++ (t ∷ [])) ≡ scale t.coefficient (element_times t.left (label_at ls t.number) t.right) ++ step_multiples ls steps
+step_multiples-push ls [] t = sym (append-nil (scale t.coefficient (element_times t.left (label_at ls t.number) t.right)))
+step_multiples-push ls (x ∷ steps) t =
+    let one : Element = scale t.coefficient (element_times t.left (label_at ls t.number) t.right) in
+    let other : Element = scale x.coefficient (element_times x.left (label_at ls x.number) x.right) in
+    ap (λ (l : Element). l ++ other) (step_multiples-push ls steps t) ∙ append_assoc one (step_multiples ls steps) other
 
 -- what holds of each entry that a trace names holds of each step's
 pub named_steps : (Q : ℕ → Type 0) (t : Trace) → ((j : ℕ) → Names t j → Q j) → AllByRecursion (λ step. Q step.number) t.steps
@@ -50,6 +57,14 @@ module _ (p : ℕ) where
 
   pub alike_label : 0 < p → (ls ls' : List Element) (t : Trace) → ((j : ℕ) → Names t j → SameSum same_monomial p (label_at ls j) (label_at ls' j)) → SameSum same_monomial p (trace_label p ls t) (trace_label p ls' t)
   alike_label some ls ls' t h = alike_steps some ls ls' (start_label ls t.start) (start_label ls' t.start) t.steps (named_steps (λ j. SameSum same_monomial p (label_at ls j) (label_at ls' j)) t h) (alike_start some ls ls' t.start (λ j k. h j (inl k)))
+
+  -- the same sums of multiples
+  pub alike_multiples : 0 < p → (ls ls' : List Element) (steps : List Step) → AllByRecursion (λ t. SameSum same_monomial p (label_at ls t.number) (label_at ls' t.number)) steps → SameSum same_monomial p (step_multiples ls steps) (step_multiples ls' steps)
+  alike_multiples some ls ls' [] a = same-refl same_monomial p []
+  alike_multiples some ls ls' (t ∷ steps) a =
+      same-append same_monomial p (step_multiples ls steps) (step_multiples ls' steps) (scale t.coefficient (element_times t.left (label_at ls t.number) t.right)) (scale t.coefficient (element_times t.left (label_at ls' t.number) t.right))
+      (alike_multiples some ls ls' steps a.1)
+      (same_scale same_monomial p t.coefficient (element_times t.left (label_at ls t.number) t.right) (element_times t.left (label_at ls' t.number) t.right) (same_times p some t.left (label_at ls t.number) (label_at ls' t.number) t.right a.0))
 
   -- ---- the list
 

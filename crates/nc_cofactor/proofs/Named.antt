@@ -108,6 +108,21 @@ pub bound_light : (s : Setting) (b : Bound) (τ : Monomial) → IsInBound s b τ
 bound_light s (Bound.to_degree d) τ h = h
 bound_light s (Bound.under β) τ h = degrees s τ β (inr h)
 
+-- entry j, whose multiple is one of at most the degree of the bound
+pub record IsLight (P : Problem) (entries : List Entry) (u : Word) (j : ℕ) (v : Word) : Type 0 where
+  pub some : 1 ≤ j
+  pub entry : Entry
+  pub at : slice_get entries (j - 1) ≡ Some entry
+  pub light : degree P.setting (times u entry.signature v) ≤ bound_degree P.setting P.bound
+
+pub named_light : (P : Problem) (entries : List Entry) (τ : Monomial) (u : Word) (j : ℕ) (v : Word) → IsWithin P τ → IsNamed P.setting entries τ u j v → IsLight P entries u j v
+named_light P entries τ u j v within n = record { some = n.some; entry = n.entry; at = n.at; light = omega (arith, n.light, bound_light P.setting P.bound τ within.1) }
+
+-- residues, and entries whose multiples are light
+pub record AreLight (P : Problem) (entries : List Entry) (steps : List Step) : Type 0 where
+  pub residues : AllByRecursion (λ step. step.coefficient < P.setting.prime) steps
+  pub light : AllByRecursion (λ step. IsLight P entries step.left step.number step.right) steps
+
 -- the signature of a listed item
 pub record IsSigned (P : Problem) (run : State) (listed : Listed) (t : Trace) : Type 0 where
   pub signature : Monomial

@@ -1,4 +1,4 @@
--- The entries that an item needs are found from the last one down, and their labels are made from the first one up.
+-- The entries that are reached from marks are found from the last one down.
 use Rattle.nc_algebra.specs.Monomials.{Monomial}
 use Rattle.nc_algebra.specs.Problems.{IsProblem, NamedProblem, Problem}
 use Rattle.nc_cofactor.proofs.Labelled.{problem_field}
@@ -6,7 +6,7 @@ use Rattle.nc_cofactor.proofs.Named.{IsAnyNamed, IsSigned, any_named, names_earl
 use Rattle.nc_cofactor.proofs.Once.{trace_once}
 use Rattle.nc_cofactor.proofs.Places.{earlier_place, last_place}
 use Rattle.nc_cofactor.proofs.Runs.{entries_kept, one_run}
-use Rattle.nc_cofactor.specs.Needed.{AreNeeded, IsMarked, IsNeeded, IsSlot, MarksMore}
+use Rattle.nc_cofactor.specs.Needed.{AreFound, IsFound, IsMarked, IsReached, IsSlot, MarksMore}
 use Rattle.nc_cofactor.specs.Terms.{Names, Needs}
 use Rattle.nc_cofactor.specs.Traces.{HasTrace, IsTraceIn}
 use Rattle.nc_search.specs.Untraced.{IsRunOf}
@@ -28,33 +28,33 @@ IsSlotOf run marks k None = ¬ IsMarked marks k
 IsSlotOf run marks k (Some x) = IsTraceIn run (EntryOf k) x × IsMarked marks k
 
 -- entries above `left` are done
-pub record IsOnTheWay (run : State) (t : Trace) (left : ℕ) (marks : List Bool) (stack : List (Option Trace)) : Type 0 where
+pub record IsOnTheWay (run : State) (first : List Bool) (left : ℕ) (marks : List Bool) (stack : List (Option Trace)) : Type 0 where
+  pub begins : length first ≡ length run.entries
   pub size : length marks ≡ length run.entries
   pub height : length stack + left ≡ length run.entries
-  pub sound : (j : ℕ) → 1 ≤ j → IsMarked marks j → Needs run.entries t j
-  pub names : (j : ℕ) → Names t j → IsMarked marks j
+  pub sound : (j : ℕ) → 1 ≤ j → IsMarked marks j → IsReached run.entries first j
+  pub kept : (j : ℕ) → 1 ≤ j → IsMarked first j → IsMarked marks j
   pub passed : (j k : ℕ) (e : Entry) → left < k → k ≤ length run.entries → IsMarked marks k → slice_get run.entries (k - 1) ≡ Some e → Names e.trace j → IsMarked marks j
   pub slots : (k : ℕ) (o : Option Trace) → left < k → k ≤ length run.entries → slice_get stack (length run.entries - k) ≡ Some o → IsSlotOf run marks k o
 
 -- the same in the run after n steps
-pub record IsWayOf (P : Problem) (n : ℕ) (listed : Listed) (t : Trace) (left : ℕ) (marks : List Bool) (stack : List (Option Trace)) : Type 0 where
+pub record IsWayOf (P : Problem) (n : ℕ) (first : List Bool) (left : ℕ) (marks : List Bool) (stack : List (Option Trace)) : Type 0 where
   pub run : State
   pub last : Option Monomial
   pub runs : SequentialRun P n run last
-  pub is : IsTraceIn run listed t
-  pub way : IsOnTheWay run t left marks stack
+  pub way : IsOnTheWay run first left marks stack
 
 -- what an entry's slot does to the marks
-pub record IsStep (run : State) (t : Trace) (left : ℕ) (old new : List Bool) (o : Option Trace) : Type 0 where
+pub record IsStep (run : State) (first : List Bool) (left : ℕ) (old new : List Bool) (o : Option Trace) : Type 0 where
   pub grows : (j : ℕ) → 1 ≤ j → IsMarked old j → IsMarked new j
-  pub lower : (j : ℕ) → 1 ≤ j → IsMarked new j → IsMarked old j ⊎ ((j < left) × Needs run.entries t j)
+  pub lower : (j : ℕ) → 1 ≤ j → IsMarked new j → IsMarked old j ⊎ ((j < left) × IsReached run.entries first j)
   pub slot : IsSlotOf run new left o
   pub here : (j : ℕ) (e : Entry) → IsMarked new left → slice_get run.entries (left - 1) ≡ Some e → Names e.trace j → IsMarked new j
 
 -- ---- one run
 
 module _ (P : NamedProblem) (problem : IsProblem P) {n : ℕ} {run : State} {last : Option Monomial} (runs : SequentialRun P.problem n run last) where
-  -- what is named or needed is an entry
+  -- what is named or reached is an entry
   pub names_within : (listed : Listed) (t : Trace) (j : ℕ) → IsTraceIn run listed t → Names t j → (1 ≤ j) × (j ≤ length run.entries)
   names_within listed t j is m =
       let g : IsSigned P.problem run listed t = signed P.problem (problem_field P problem) runs listed t is in
@@ -62,10 +62,12 @@ module _ (P : NamedProblem) (problem : IsProblem P) {n : ℕ} {run : State} {las
       let l : j - 1 < length run.entries = slice_get_within run.entries (j - 1) x.named.entry x.named.at in
       (x.named.some, omega (arith, l, x.named.some))
 
-  pub needs_within : (listed : Listed) (t : Trace) → IsTraceIn run listed t → {j : ℕ} → Needs run.entries t j → (1 ≤ j) × (j ≤ length run.entries)
-  needs_within listed t is (Needs.named {j = j} m) = names_within listed t j is m
-  needs_within listed t is (Needs.through {j = j} {k = k} needs e at m) =
-      let b : (1 ≤ k) × (k ≤ length run.entries) = needs_within listed t is needs in
+  pub reached_within : (marks : List Bool) → length marks ≡ length run.entries → {j : ℕ} → IsReached run.entries marks j → (1 ≤ j) × (j ≤ length run.entries)
+  reached_within marks size (IsReached.marked {j = j} some m) =
+      let l : j - 1 < length marks = slice_get_within marks (j - 1) true m in
+      (some, omega (arith, l, some, size))
+  reached_within marks size (IsReached.through {j = j} {k = k} reached e at m) =
+      let b : (1 ≤ k) × (k ≤ length run.entries) = reached_within marks size reached in
       let d : (1 ≤ j) × (j < k) = names_earlier P.problem (problem_field P problem) runs k j e b.0 at m in
       (d.0, omega (arith, b.1, d.1))
 
@@ -79,19 +81,20 @@ module _ (P : NamedProblem) (problem : IsProblem P) {n : ℕ} {run : State} {las
 
   -- ---- the way down
 
-  module _ (listed : Listed) (t : Trace) (is : IsTraceIn run listed t) where
-    pub way_begins : (old new : List Bool) (left : ℕ) → left ≡ length run.entries → length new ≡ length run.entries → ((j : ℕ) → ¬ IsMarked old j) → MarksMore old new (Names t) → IsOnTheWay run t left new []
-    way_begins old new left all size none more = record {
+  module _ (first : List Bool) where
+    pub way_begins : (left : ℕ) → left ≡ length run.entries → length first ≡ length run.entries → IsOnTheWay run first left first []
+    way_begins left all size = record {
+      begins = size;
       size = size;
       height = omega (arith, all);
-      sound = λ j some m. elim ((more j some).0 m) [ inl k ↦ absurd (none j k) | inr k ↦ Needs.named k ];
-      names = λ j m. (more j (names_within listed t j is m).0).1 (inr m);
+      sound = λ j some m. IsReached.marked some m;
+      kept = λ j some m. m;
       passed = λ j k e l within. absurd (let a : k ≤ left = omega (arith, within, all) in omega (arith, a, l));
       slots = λ k o l within. absurd (let a : k ≤ left = omega (arith, within, all) in omega (arith, a, l));
     }
 
-    module _ (left : ℕ) (old new : List Bool) (stack : List (Option Trace)) (o : Option Trace) (some : 1 ≤ left) (way : IsOnTheWay run t left old stack) where
-      step_is : IsSlot P.problem n old new left o → (o' : Option Trace) → o ≡ o' → IsStep run t left old new o
+    module _ (left : ℕ) (old new : List Bool) (stack : List (Option Trace)) (o : Option Trace) (some : 1 ≤ left) (way : IsOnTheWay run first left old stack) where
+      step_is : IsSlot P.problem n old new left o → (o' : Option Trace) → o ≡ o' → IsStep run first left old new o
       step_is slot None e =
           let s : IsSlot P.problem n old new left None = subst (IsSlot P.problem n old new left) e slot in
           record {
@@ -105,22 +108,23 @@ module _ (P : NamedProblem) (problem : IsProblem P) {n : ℕ} {run : State} {las
           let there : IsTraceIn run (EntryOf left) x = subst (λ (r : State). IsTraceIn r (EntryOf left) x) (one_run P problem n s.1.runs runs) s.1.is in
           record {
             grows = λ j one m. (s.2 j one).1 (inl m);
-            lower = λ j one m. elim ((s.2 j one).0 m) [ inl k ↦ inl k | inr k ↦ inr (new_need j x there s.0 k) ];
+            lower = λ j one m. elim ((s.2 j one).0 m) [ inl k ↦ inl k | inr k ↦ inr (new_reach j x there s.0 k) ];
             slot = subst (IsSlotOf run new left) (sym e) (there, (s.2 left some).1 (inl s.0));
             here = λ j y m at k. (s.2 j (names_earlier P.problem (problem_field P problem) runs left j y some at k).0).1 (inr (subst (λ (z : Trace). Names z j) (trace_once run (EntryOf left) y.trace x (y, some, at, refl) there) k));
           }
         where
-          new_need : (j : ℕ) (x : Trace) → IsTraceIn run (EntryOf left) x → IsMarked old left → Names x j → (j < left) × Needs run.entries t j
-          new_need j x (y, one, at, same) m k =
+          new_reach : (j : ℕ) (x : Trace) → IsTraceIn run (EntryOf left) x → IsMarked old left → Names x j → (j < left) × IsReached run.entries first j
+          new_reach j x (y, one, at, same) m k =
               let named : Names y.trace j = subst (λ (z : Trace). Names z j) (sym same) k in
-              ((names_earlier P.problem (problem_field P problem) runs left j y some at named).1, Needs.through (way.sound left some m) y at named)
+              ((names_earlier P.problem (problem_field P problem) runs left j y some at named).1, IsReached.through (way.sound left some m) y at named)
 
-      goes_on : IsStep run t left old new o → length new ≡ length old → IsOnTheWay run t (left - 1) new (stack ++ o ∷ [])
+      goes_on : IsStep run first left old new o → length new ≡ length old → IsOnTheWay run first (left - 1) new (stack ++ o ∷ [])
       goes_on step same = record {
+        begins = way.begins;
         size = same ∙ way.size;
         height = omega (arith, length-append stack (o ∷ []), way.height, some);
         sound = λ j one m. elim (step.lower j one m) [ inl k ↦ way.sound j one k | inr k ↦ k.1 ];
-        names = λ j m. step.grows j (names_within listed t j is m).0 (way.names j m);
+        kept = λ j one m. step.grows j one (way.kept j one m);
         passed = λ j k e l within m at h. passed j k e l within m at h (compared left k);
         slots = λ k y l within at. slots k y l within at (compared left k);
       }
@@ -141,49 +145,50 @@ module _ (P : NamedProblem) (problem : IsProblem P) {n : ℕ} {run : State} {las
           slots k y below within at (inr (inl i)) = subst (λ j. IsSlotOf run new j y) i (subst (IsSlotOf run new left) (last_place stack o (length run.entries - k) y (omega (arith, way.height, i, within)) at) step.slot)
           slots k y below within at (inr (inr l)) = absurd (omega (arith, l, below))
 
-      pub way_steps : IsSlot P.problem n old new left o → length new ≡ length old → IsOnTheWay run t (left - 1) new (stack ++ o ∷ [])
+      pub way_steps : IsSlot P.problem n old new left o → length new ≡ length old → IsOnTheWay run first (left - 1) new (stack ++ o ∷ [])
       way_steps slot same = goes_on (step_is slot o refl) same
 
-    -- what is needed is marked at the end
-    module _ (marks : List Bool) (stack : List (Option Trace)) (way : IsOnTheWay run t 0 marks stack) where
-      marked : {j : ℕ} → Needs run.entries t j → IsMarked marks j
-      marked (Needs.named {j = j} m) = way.names j m
-      marked (Needs.through {j = j} {k = k} needs e at m) =
-          let b : (1 ≤ k) × (k ≤ length run.entries) = needs_within listed t is needs in
-          way.passed j k e (omega (arith, b.0)) b.1 (marked needs) at m
+    -- what is reached is marked at the end
+    module _ (marks : List Bool) (stack : List (Option Trace)) (way : IsOnTheWay run first 0 marks stack) where
+      marked : {j : ℕ} → IsReached run.entries first j → IsMarked marks j
+      marked (IsReached.marked {j = j} some m) = way.kept j some m
+      marked (IsReached.through {j = j} {k = k} reached e at m) =
+          let b : (1 ≤ k) × (k ≤ length run.entries) = reached_within first way.begins reached in
+          way.passed j k e (omega (arith, b.0)) b.1 (marked reached) at m
 
-      needed : (k : ℕ) (o : Option Trace) → 1 ≤ k → IsSlotOf run marks k o → IsNeeded run t k o
-      needed k None some f = λ needs. f (marked needs)
-      needed k (Some x) some f = (f.0, way.sound k some f.1)
+      found : (k : ℕ) (o : Option Trace) → 1 ≤ k → IsSlotOf run marks k o → IsFound run first k o
+      found k None some f = λ reached. f (marked reached)
+      found k (Some x) some f = (f.0, way.sound k some f.1)
 
-      pub way_ends : AreNeeded P.problem n listed t stack
-      way_ends = record { run = run; last = last; runs = runs; is = is; height = omega (arith, way.height); slots = λ k o some within at. needed k o some (way.slots k o (omega (arith, some)) within at) }
+      pub way_ends : AreFound P.problem n first stack
+      way_ends = record { run = run; last = last; runs = runs; size = way.begins; height = omega (arith, way.height); slots = λ k o some within at. found k o some (way.slots k o (omega (arith, some)) within at) }
 
 -- ---- the code's loop
 
-module _ (P : NamedProblem) (problem : IsProblem P) (n : ℕ) (listed : Listed) (t : Trace) where
+module _ (P : NamedProblem) (problem : IsProblem P) (n : ℕ) (state : State) (r : IsRunOf P.problem n state) where
+  -- as many entries as the run that a fact speaks of
+  pub entries_in : {run : State} {last : Option Monomial} → SequentialRun P.problem n run last → length state.entries ≡ length run.entries
+  entries_in runs = entries_kept P.problem n state r ∙ ap (λ (x : State). length x.entries) (one_run P problem n r.runs runs)
+
   -- a trace of the run names entries
-  pub named_within : HasTrace P.problem n listed t → (count : ℕ) → (state : State) (r : IsRunOf P.problem n state) → count ≡ length state.entries → (j : ℕ) → Names t j → (1 ≤ j) × (j ≤ count)
-  named_within h count state r size j m =
+  pub named_within : (listed : Listed) (t : Trace) → HasTrace P.problem n listed t → (count : ℕ) → count ≡ length state.entries → (j : ℕ) → Names t j → (1 ≤ j) × (j ≤ count)
+  named_within listed t h count size j m =
       let b : (1 ≤ j) × (j ≤ length h.run.entries) = names_within P problem h.runs listed t j h.is m in
-      (b.0, omega (arith, b.1, size, entries_kept P.problem n state r, ap (λ (x : State). length x.entries) (one_run P problem n r.runs h.runs)))
+      (b.0, omega (arith, b.1, size, entries_in h.runs))
 
-  pub loop_begins : HasTrace P.problem n listed t → (state : State) (r : IsRunOf P.problem n state) (old new : List Bool) (left : ℕ) (stack : List (Option Trace)) → left ≡ length state.entries → length old ≡ length state.entries → All (λ mark. mark ≡ false) old → length new ≡ length old → MarksMore old new (Names t) → stack ≡ [] → IsWayOf P.problem n listed t left new stack
-  loop_begins h state r old new left stack size long none same more empty =
-      let all : length state.entries ≡ length h.run.entries = entries_kept P.problem n state r ∙ ap (λ (x : State). length x.entries) (one_run P problem n r.runs h.runs) in
-      subst (IsWayOf P.problem n listed t left new) (sym empty) (record { run = h.run; last = h.last; runs = h.runs; is = h.is; way = way_begins P problem h.runs listed t h.is old new left (size ∙ all) (same ∙ (long ∙ all)) none_marked more })
-    where
-      none_marked : (j : ℕ) → ¬ IsMarked old j
-      none_marked j m = false≢true (sym (none (j - 1) true (slice_get_within old (j - 1) true m)) ∙ get_or_from_slice_get old (j - 1) true true m)
+  module _ (first : List Bool) (left : ℕ) where
+    pub loop_begins : (stack : List (Option Trace)) → left ≡ length state.entries → length first ≡ length state.entries → stack ≡ [] → IsWayOf P.problem n first left first stack
+    loop_begins stack size long empty =
+        let all : length state.entries ≡ length r.run.entries = entries_kept P.problem n state r in
+        subst (IsWayOf P.problem n first left first) (sym empty) (record { run = r.run; last = r.last; runs = r.runs; way = way_begins P problem r.runs first left (size ∙ all) (long ∙ all) })
 
-  -- what is left, and how many marks there are
-  pub loop_within : (state : State) (r : IsRunOf P.problem n state) (left : ℕ) (marks : List Bool) (stack : List (Option Trace)) → IsWayOf P.problem n listed t left marks stack → (left ≤ length state.entries) × (length marks ≡ length state.entries)
-  loop_within state r left marks stack w =
-      let all : length state.entries ≡ length w.run.entries = entries_kept P.problem n state r ∙ ap (λ (x : State). length x.entries) (one_run P problem n r.runs w.runs) in
-      (omega (arith, all, w.way.height), w.way.size ∙ sym all)
+    module _ (marks : List Bool) (stack : List (Option Trace)) (w : IsWayOf P.problem n first left marks stack) where
+      -- what is left, and how many marks there are
+      pub loop_within : (left ≤ length state.entries) × (length marks ≡ length state.entries)
+      loop_within = (omega (arith, entries_in w.runs, w.way.height), w.way.size ∙ sym (entries_in w.runs))
 
-  pub loop_steps : (left : ℕ) (old new : List Bool) (stack : List (Option Trace)) (o : Option Trace) → 1 ≤ left → IsWayOf P.problem n listed t left old stack → IsSlot P.problem n old new left o → length new ≡ length old → IsWayOf P.problem n listed t (left - 1) new (stack ++ o ∷ [])
-  loop_steps left old new stack o some w slot same = record { run = w.run; last = w.last; runs = w.runs; is = w.is; way = way_steps P problem w.runs listed t w.is left old new stack o some w.way slot same }
+      pub loop_steps : (new : List Bool) (o : Option Trace) → 1 ≤ left → IsSlot P.problem n marks new left o → length new ≡ length marks → IsWayOf P.problem n first (left - 1) new (stack ++ o ∷ [])
+      loop_steps new o some slot same = record { run = w.run; last = w.last; runs = w.runs; way = way_steps P problem w.runs first left marks new stack o some w.way slot same }
 
-  pub loop_ends : (left : ℕ) (marks : List Bool) (stack : List (Option Trace)) → left ≡ 0 → IsWayOf P.problem n listed t left marks stack → AreNeeded P.problem n listed t stack
-  loop_ends left marks stack none w = way_ends P problem w.runs listed t w.is marks stack (subst (λ i. IsOnTheWay w.run t i marks stack) none w.way)
+      pub loop_ends : left ≡ 0 → AreFound P.problem n first stack
+      loop_ends none = way_ends P problem w.runs first marks stack (subst (λ i. IsOnTheWay w.run first i marks stack) none w.way)

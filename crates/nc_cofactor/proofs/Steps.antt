@@ -1,15 +1,14 @@
--- What the code's steps do to the sum of a trace.
+-- What the code's steps do to the sum of a trace, and to a sum of multiples.
 use Rattle.nc_algebra.proofs.Lists.{same-refl}
 use Rattle.nc_algebra.specs.Elements.{Element, HasDegree, Setting, element_times, generator_weight}
 use Rattle.nc_algebra.specs.Monomials.{Sig, compare_sigs, same_monomial, unit_monomial}
-use Rattle.nc_algebra.specs.Sums.{SameSum, Term, minus}
+use Rattle.nc_algebra.specs.Sums.{SameSum, Term, minus, scale}
 use Rattle.nc_algebra.specs.Words.{Word, word_weight}
-use Rattle.nc_cofactor.proofs.Listing.{less_steps-push}
-use Rattle.nc_cofactor.proofs.Sums.{sum_begins, sum_ends, sum_steps}
+use Rattle.nc_cofactor.proofs.Sums.{sum_adds, sum_begins, sum_ends, sum_steps}
 use Rattle.nc_cofactor.specs.Sums.{IsAddable, IsPlaced, IsSum, elements_of}
 use Rattle.nc_module.specs.Modules.{element_of, module_multiples, same_sig}
 use Rattle.nc_poly.specs.Ordered.{AreResiduesBy, Descends}
-use Rattle.nc_theory.specs.Labels.{label_at, less_steps}
+use Rattle.nc_theory.specs.Labels.{label_at}
 use Rattle.nc_theory.specs.States.{Step}
 use Rattle.std.proofs.Common.{List, [], ap, arith, get_or, length, refl, subst, sym, take, ℕ, ◌%◌, ◌+◌, ◌++◌, ◌-◌, ◌<◌, ◌∙◌, ◌∷◌, ◌≡◌, ◌≤◌}
 use Rattle.std.proofs.Math.ListN.{get_or-map}
@@ -57,15 +56,22 @@ module _ (s : Setting) where
       stepped labels step.left step.number step.right placed m (is ∙ ap (λ i. get_or labels (i - 1) []) number) step.coefficient k p old new α small prime (negative ∙ ap (λ n. (p - n) % p) factor)
       (subst (λ (w : Word). SameSum same_sig s.prime new (module_multiples s.prime k step.left m w ++ old)) right (subst (λ (w : Word). SameSum same_sig s.prime new (module_multiples s.prime k w m v ++ old)) left e)) d residues h
 
--- all steps of a trace
-pub all_steps : (s : Setting) (ls : List Element) (α : Element) (steps : List Step) (i : ℕ) (old new : List (Term Sig)) → length steps ≤ i → 1 < s.prime → SameSum same_sig s.prime new old → Descends compare_sigs new → AreResiduesBy s.prime new → IsSum s (less_steps s.prime ls α (take i steps)) old → IsSum s (less_steps s.prime ls α steps) new
-all_steps s ls α steps i old new long one e d residues h =
-    sum_ends s (less_steps s.prime ls α steps) old new (omega arith) e d residues
-    (subst (λ (l : List Step). IsSum s (less_steps s.prime ls α l) old) (take_all i steps long) h)
+  -- the code's other step
+  pub added : (labels : List (List (Term Sig))) (step : Step) (u : Word) (j : ℕ) (v : Word) (c : ℕ) (m old new : List (Term Sig)) → u ≡ step.left → j ≡ step.number → v ≡ step.right → c ≡ step.coefficient → m ≡ get_or labels (j - 1) [] → step.coefficient < s.prime → IsPlaced s labels step.left step.number step.right → SameSum same_sig s.prime new (module_multiples s.prime c u m v ++ old) → Descends compare_sigs new → AreResiduesBy s.prime new → (α : Element) → IsSum s α old → IsSum s (scale step.coefficient (element_times step.left (label_at (elements_of labels) step.number) step.right) ++ α) new
+  added labels step u j v c m old new left number right factor is small placed e d residues α h =
+      let here : m ≡ get_or labels (step.number - 1) [] = is ∙ ap (λ i. get_or labels (i - 1) []) number in
+      let sums : SameSum same_sig s.prime new (module_multiples s.prime step.coefficient step.left m step.right ++ old) =
+      subst (λ (w : Word). SameSum same_sig s.prime new (module_multiples s.prime step.coefficient step.left m w ++ old)) right (subst (λ (w : Word). SameSum same_sig s.prime new (module_multiples s.prime step.coefficient w m v ++ old)) left
+      (subst (λ n. SameSum same_sig s.prime new (module_multiples s.prime n u m v ++ old)) factor e)) in
+      sum_adds s α (label_at (elements_of labels) step.number) step.coefficient step.left m step.right old new (omega (arith, small)) (addable labels step.left step.number step.right placed m here) (same_place labels step.left step.number step.right placed m here) sums d residues h
 
--- one step more of a trace
-pub one_more : (s : Setting) (ls : List Element) (α : Element) (steps : List Step) (i : ℕ) (t : Step) (old new : List (Term Sig)) → i < length steps → t ≡ get_or steps i t → ((β : Element) → IsSum s β old → IsSum s (minus s.prime β t.coefficient (element_times t.left (label_at ls t.number) t.right)) new) → IsSum s (less_steps s.prime ls α (take i steps)) old → IsSum s (less_steps s.prime ls α (take (i + 1) steps)) new
-one_more s ls α steps i t old new within is takes h =
-    subst (λ (β : Element). IsSum s β new)
-    (sym (ap (less_steps s.prime ls α) (take_more steps i t within ∙ ap (λ (x : Step). take i steps ++ (x ∷ [])) (sym is)) ∙ less_steps-push s.prime ls α (take i steps) t))
-    (takes (less_steps s.prime ls α (take i steps)) h)
+-- a sum over all steps
+pub all_steps : (s : Setting) (sum_of : List Step → Element) (steps : List Step) (i : ℕ) (old new : List (Term Sig)) → length steps ≤ i → 1 < s.prime → SameSum same_sig s.prime new old → Descends compare_sigs new → AreResiduesBy s.prime new → IsSum s (sum_of (take i steps)) old → IsSum s (sum_of steps) new
+all_steps s sum_of steps i old new long one e d residues h =
+    sum_ends s (sum_of steps) old new (omega arith) e d residues
+    (subst (λ (l : List Step). IsSum s (sum_of l) old) (take_all i steps long) h)
+
+-- one step more
+pub one_more : (s : Setting) (sum_of : List Step → Element) (steps : List Step) (i : ℕ) (t : Step) (next : Element) (new : List (Term Sig)) → i < length steps → t ≡ get_or steps i t → sum_of (take i steps ++ (t ∷ [])) ≡ next → IsSum s next new → IsSum s (sum_of (take (i + 1) steps)) new
+one_more s sum_of steps i t next new within is more h =
+    subst (λ (β : Element). IsSum s β new) (sym (ap sum_of (take_more steps i t within ∙ ap (λ (x : Step). take i steps ++ (x ∷ [])) (sym is)) ∙ more)) h

@@ -1,5 +1,5 @@
 -- Sums of module monomials with their degrees, and the module elements that they are.
-use Rattle.nc_algebra.proofs.Lists.{same-append, same-permutation, same-trans}
+use Rattle.nc_algebra.proofs.Lists.{same-append, same-permutation, same-refl, same-trans}
 use Rattle.nc_algebra.proofs.Monomials.{monomial_laws}
 use Rattle.nc_algebra.proofs.Orders.{KeyLaws}
 use Rattle.nc_algebra.proofs.Sums.{linear_sum-map_keys, linear_sum-scale, linear_sum_same}
@@ -16,7 +16,7 @@ use Rattle.nc_poly.specs.Ordered.{AreResiduesBy, Descends}
 use Rattle.nc_sig.proofs.Equality.{sigs_decide}
 use Rattle.nc_sig.specs.Orders.{sigs_order}
 use Rattle.std.proofs.Common.{Bool, Equal, Greater, Less, List, Ordering, [], ap, ap₂, arith, inl, inr, length, refl, subst, sym, ℕ, ◌%◌, ◌*◌, ◌+◌, ◌++◌, ◌-◌, ◌<◌, ◌∙◌, ◌∷◌, ◌≡◌, ◌≤◌, ◌⊎◌}
-use Rattle.std.proofs.Math.Nat.{mod-eq_of_lt}
+use Rattle.std.proofs.Math.Nat.{add-mod, mod-eq_of_lt}
 use Rattle.std.proofs.lemmas.Bool.{false≢true}
 use Rattle.std.proofs.lemmas.List.{append-nil}
 use Rattle.std.proofs.lemmas.List.Elements.{All-from_recursion, recursion_from_All}
@@ -62,7 +62,7 @@ same_times p some u α β v h = record {
 }
 
 module _ {K : Type 0} (same : K → K → Bool) (p : ℕ) where
-  same_scale : (c : ℕ) (f g : List (Term K)) → SameSum same p f g → SameSum same p (scale c f) (scale c g)
+  pub same_scale : (c : ℕ) (f g : List (Term K)) → SameSum same p f g → SameSum same p (scale c f) (scale c g)
   same_scale c f g h = record { at = each }
     where
       turned : (k : K) (e : List (Term K)) → coefficient_by same (scale c e) k % p ≡ (coefficient_by same e k % p * c) % p
@@ -101,6 +101,17 @@ once p u (t ∷ m) v a = ap₂ (λ (n : ℕ) (l : List (Term Sig)). record { coe
   where
     unit : (n : ℕ) → 1 * n ≡ n
     unit n = omega arith
+
+-- c times each term, with residues or without
+same_multiples : (p c : ℕ) (u : Word) (m : List (Term Sig)) (v : Word) → SameSum same_sig p (module_multiples p c u m v) (scale c (module_times u m v))
+same_multiples p c u m v = record { at = λ k. each k m }
+  where
+    each : (k : Sig) (m : List (Term Sig)) → coefficient_by same_sig (module_multiples p c u m v) k % p ≡ coefficient_by same_sig (scale c (module_times u m v)) k % p
+    each k [] = refl
+    each k (t ∷ m) =
+        add-mod (((c * t.coefficient) % p) * is_at same_sig k (sig_times u t.key v)) (coefficient_by same_sig (module_multiples p c u m v) k) p
+        ∙ (ap₂ (λ x y. (x + y) % p) (mul-mod_first (c * t.coefficient) (is_at same_sig k (sig_times u t.key v)) p) (each k m)
+        ∙ sym (add-mod ((c * t.coefficient) * is_at same_sig k (sig_times u t.key v)) (coefficient_by same_sig (scale c (module_times u m v)) k) p))
 
 -- ---- degrees
 
@@ -179,6 +190,31 @@ module _ (s : Setting) where
       (same-trans same_monomial s.prime (element_of new) (minus s.prime (element_of old) c (element_times u (element_of m) v)) (minus s.prime α c (element_times u β v))
       (subst (λ (l : Element). SameSum same_monomial s.prime (element_of new) l) (element_of-minus s.prime c old (module_times u m v) ∙ ap (λ (l : Element). minus s.prime (element_of old) c l) (element_of-times u m v)) (same_elements s.prime some new (minus s.prime old c (module_times u m v)) turned))
       (same_minus same_monomial s.prime c (element_of old) α (element_times u (element_of m) v) (element_times u β v) h.same (same_times s.prime some u (element_of m) β v is)))
+
+  -- one multiple more
+  pub sum_adds : (α β : Element) (c : ℕ) (u : Word) (m : List (Term Sig)) (v : Word) (old new : List (Term Sig)) → 0 < s.prime → IsAddable s u m v → SameSum same_monomial s.prime (element_of m) β → SameSum same_sig s.prime new (module_multiples s.prime c u m v ++ old) → Descends compare_sigs new → AreResiduesBy s.prime new → IsSum s α old → IsSum s (scale c (element_times u β v) ++ α) new
+  sum_adds α β c u m v old new some addable is e d residues h =
+      let turned : SameSum same_sig s.prime new (scale c (module_times u m v) ++ old) =
+      same-trans same_sig s.prime new (module_multiples s.prime c u m v ++ old) (scale c (module_times u m v) ++ old) e
+      (same-append same_sig s.prime (module_multiples s.prime c u m v) (scale c (module_times u m v)) old old (same_multiples s.prime c u m v) (same-refl same_sig s.prime old)) in
+      let whole : element_of (scale c (module_times u m v) ++ old) ≡ scale c (element_times u (element_of m) v) ++ element_of old =
+      element_of-append (scale c (module_times u m v)) old ∙ ap (λ (l : Element). l ++ element_of old) (element_of-scale c (module_times u m v) ∙ ap (scale c) (element_of-times u m v)) in
+      is_sum (module_multiples s.prime c u m v ++ old) new (scale c (element_times u β v) ++ α)
+      (joined_degrees (module_multiples s.prime c u m v) old (moved_degrees c u m v (recursion_from_All (λ (t : Term Sig). HasDegree s t.key) m addable.degrees)) (recursion_from_All (λ (t : Term Sig). HasDegree s t.key) old h.degrees))
+      e d residues
+      (same-trans same_monomial s.prime (element_of new) (scale c (element_times u (element_of m) v) ++ element_of old) (scale c (element_times u β v) ++ α)
+      (subst (λ (l : Element). SameSum same_monomial s.prime (element_of new) l) whole (same_elements s.prime some new (scale c (module_times u m v) ++ old) turned))
+      (same-append same_monomial s.prime (scale c (element_times u (element_of m) v)) (scale c (element_times u β v)) (element_of old) α
+      (same_scale same_monomial s.prime c (element_times u (element_of m) v) (element_times u β v) (same_times s.prime some u (element_of m) β v is)) h.same))
+
+  -- no terms
+  pub no_sum : (m : List (Term Sig)) → m ≡ [] → IsSum s [] m
+  no_sum m none = subst (IsSum s []) (sym none) (record {
+    same = same-refl same_monomial s.prime [];
+    descends = tt;
+    residues = All-from_recursion (λ (t : Term Sig). t.coefficient < s.prime) [] tt;
+    degrees = All-from_recursion (λ (t : Term Sig). HasDegree s t.key) [] tt;
+  })
 
   -- the same terms, listed anew
   pub sum_ends : (α : Element) (old new : List (Term Sig)) → 0 < s.prime → SameSum same_sig s.prime new old → Descends compare_sigs new → AreResiduesBy s.prime new → IsSum s α old → IsSum s α new

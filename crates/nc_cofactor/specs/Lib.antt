@@ -7,3 +7,4 @@ pub mod Laws
 pub mod Sums
 pub mod Needed
 pub mod Letters
+pub mod Claims

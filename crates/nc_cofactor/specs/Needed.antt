@@ -1,15 +1,24 @@
--- The entries that an item needs, as the expansion finds and keeps them.
+-- The entries that are reached from marks, as a sweep finds them and keeps their labels.
+--   IsReached     an entry that is marked, or that the trace of one that is reached names
+--   AreFound      the traces of the entries that are reached
+--   AreFilled     their labels, each in its place
+--   IsFirstMany   the first of them whose label has too many terms
 use Rattle.nc_algebra.specs.Monomials.{Monomial, Sig}
 use Rattle.nc_algebra.specs.Problems.{Problem}
 use Rattle.nc_algebra.specs.Sums.{Term}
-use Rattle.nc_cofactor.specs.Labels.{HasLabel}
-use Rattle.nc_cofactor.specs.Terms.{Names, Needs}
+use Rattle.nc_cofactor.specs.Labels.{HasLabel, IsLabelOf}
+use Rattle.nc_cofactor.specs.Terms.{EntryTerms, Names}
 use Rattle.nc_cofactor.specs.Traces.{HasTrace, IsTraceIn}
+use Rattle.nc_cofactor.specs.declared.fault.CofactorFault.{CofactorFault}
+use Rattle.nc_cofactor.specs.declared.fault.CofactorFault.TheVariants.{OutOfMemory, TooMany}
 use Rattle.nc_snapshot.specs.declared.outcome.Listed.{Listed}
 use Rattle.nc_snapshot.specs.declared.outcome.Listed.TheVariants.{Entry as EntryOf}
 use Rattle.nc_theory.specs.Runs.{SequentialRun}
-use Rattle.nc_theory.specs.States.{State, Step, Trace}
-use Rattle.std.specs.Prelude.{Bool, Contains, List, None, Option, Some, length, slice_get, true, ℕ, ◌-◌, ◌↔◌, ◌≡◌, ◌≤◌, ◌⊎◌}
+use Rattle.nc_theory.specs.States.{Entry, State, Step, Trace}
+use Rattle.std.specs.List.Sorted.{IsStrictlyIncreasing}
+use Rattle.std.specs.Prelude.{Bool, Contains, List, None, Option, Some, length, map, slice_get, true, ℕ, ◌-◌, ◌<◌, ◌↔◌, ◌≡◌, ◌≤◌, ◌⊎◌}
+
+-- ---- marks
 
 -- entry j is marked; entries are counted from 1
 abbrev pub IsMarked : List Bool → ℕ → Type 0
@@ -23,26 +32,74 @@ StepsName steps j = (step : Step) × Contains steps step × (step.number ≡ j)
 abbrev pub MarksMore : List Bool → List Bool → (ℕ → Type 0) → Type 0
 MarksMore old new named = (j : ℕ) → 1 ≤ j → IsMarked new j ↔ (IsMarked old j ⊎ named j)
 
+-- entry j is marked, or the trace of an entry that is reached from the marks names it
+pub data IsReached (entries : List Entry) (marks : List Bool) : ℕ → Type 0 where
+  marked : {j : ℕ} → 1 ≤ j → IsMarked marks j → IsReached entries marks j
+  through : {j k : ℕ} → IsReached entries marks k → (e : Entry) → slice_get entries (k - 1) ≡ Some e → Names e.trace j → IsReached entries marks j
+
+-- ---- their traces
+
 -- the trace of entry k where it is marked, and what it names is marked then; nothing where it is not marked
 abbrev pub IsSlot : Problem → ℕ → List Bool → List Bool → ℕ → Option Trace → Type 0
 IsSlot P n old new k None = ¬ IsMarked old k × (new ≡ old)
 IsSlot P n old new k (Some t) = IsMarked old k × HasTrace P n (EntryOf k) t × MarksMore old new (Names t)
 
--- the trace of entry k where it is needed for t, and nothing where it is not
-abbrev pub IsNeeded : State → Trace → ℕ → Option Trace → Type 0
-IsNeeded run t k None = ¬ Needs run.entries t k
-IsNeeded run t k (Some x) = IsTraceIn run (EntryOf k) x × Needs run.entries t k
+-- the trace of entry k where it is reached, and nothing where it is not
+abbrev pub IsFound : State → List Bool → ℕ → Option Trace → Type 0
+IsFound run marks k None = ¬ IsReached run.entries marks k
+IsFound run marks k (Some t) = IsTraceIn run (EntryOf k) t × IsReached run.entries marks k
 
--- t is the item's trace, and of each entry that it needs the trace is there, that of entry 1 last
-pub record AreNeeded (P : Problem) (n : ℕ) (listed : Listed) (t : Trace) (stack : List (Option Trace)) : Type 0 where
+-- of each entry that is reached the trace is there, that of entry 1 last
+pub record AreFound (P : Problem) (n : ℕ) (marks : List Bool) (stack : List (Option Trace)) : Type 0 where
   pub run : State
   pub last : Option Monomial
   pub runs : SequentialRun P n run last
-  pub is : IsTraceIn run listed t
+  pub size : length marks ≡ length run.entries
   pub height : length stack ≡ length run.entries
-  pub slots : (k : ℕ) (o : Option Trace) → 1 ≤ k → k ≤ length run.entries → slice_get stack (length run.entries - k) ≡ Some o → IsNeeded run t k o
+  pub slots : (k : ℕ) (o : Option Trace) → 1 ≤ k → k ≤ length run.entries → slice_get stack (length run.entries - k) ≡ Some o → IsFound run marks k o
+
+-- the traces that are there, each beside its number, from the last one of the stack to the first
+pub record AreNumbered (stack : List (Option Trace)) (numbered : List (ℕ × Trace)) : Type 0 where
+  pub ascending : IsStrictlyIncreasing (map (λ x. x.0) numbered)
+  pub sound : (k : ℕ) (t : Trace) → Contains numbered (k, t) → (1 ≤ k) × (k ≤ length stack) × (slice_get stack (length stack - k) ≡ Some (Some t))
+  pub complete : (k : ℕ) (t : Trace) → 1 ≤ k → k ≤ length stack → slice_get stack (length stack - k) ≡ Some (Some t) → Contains numbered (k, t)
+
+-- ---- their labels
 
 -- the label of entry k, with few terms, where its trace was there; anything where it was not
 abbrev pub IsNewLabel : Problem → ℕ → ℕ → ℕ → Option Trace → List (Term Sig) → Type 0
 IsNewLabel P n limit k None m = Unit {0}
 IsNewLabel P n limit k (Some t) m = HasLabel P n (EntryOf k) m × (length m ≤ limit)
+
+-- the label of entry k stands in its place, with at most limit terms
+pub record IsFilledAt (P : Problem) (run : State) (labels : List (List (Term Sig))) (limit : ℕ) (k : ℕ) : Type 0 where
+  pub label : List (Term Sig)
+  pub at : slice_get labels (k - 1) ≡ Some label
+  pub is : IsLabelOf P.setting run (EntryOf k) label
+  pub few : length label ≤ limit
+
+-- the labels of the entries that are reached stand in their places
+pub record AreFilled (P : Problem) (n : ℕ) (marks : List Bool) (limit : ℕ) (labels : List (List (Term Sig))) : Type 0 where
+  pub run : State
+  pub last : Option Monomial
+  pub runs : SequentialRun P n run last
+  pub size : length marks ≡ length run.entries
+  pub places : (k : ℕ) → IsReached run.entries marks k → IsFilledAt P run labels limit k
+
+-- the label of the entry named has so many terms: of those that are reached the least one whose label has more than the limit
+pub record IsFirstMany (P : Problem) (n : ℕ) (marks : List Bool) (limit : ℕ) (named : Listed) (terms : ℕ) : Type 0 where
+  pub run : State
+  pub last : Option Monomial
+  pub runs : SequentialRun P n run last
+  pub size : length marks ≡ length run.entries
+  pub number : ℕ
+  pub names : named ≡ EntryOf number
+  pub reached : IsReached run.entries marks number
+  pub has : EntryTerms P.setting.prime run number terms
+  pub many : limit < terms
+  pub lesser : (j m : ℕ) → IsReached run.entries marks j → j < number → EntryTerms P.setting.prime run j m → m ≤ limit
+
+-- why not all of them were given labels; want of memory says nothing
+abbrev pub FailsToFill : Problem → ℕ → List Bool → ℕ → CofactorFault → Type 0
+FailsToFill P n marks limit OutOfMemory = Unit {0}
+FailsToFill P n marks limit (TooMany named terms) = IsFirstMany P n marks limit named terms

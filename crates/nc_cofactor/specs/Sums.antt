@@ -6,7 +6,7 @@ use Rattle.nc_algebra.specs.Words.{Word, word_weight}
 use Rattle.nc_module.specs.Modules.{element_of}
 use Rattle.nc_poly.specs.Ordered.{AreResiduesBy, Descends}
 use Rattle.nc_theory.specs.Labels.{trace_label}
-use Rattle.nc_theory.specs.States.{Start, Trace}
+use Rattle.nc_theory.specs.States.{Start, Step, Trace}
 use Rattle.std.specs.Prelude.{All, List, [], get_or, length, map, ℕ, ◌+◌, ◌-◌, ◌<◌, ◌≤◌}
 
 -- the terms are those of α in normal form, each degree right
@@ -37,6 +37,11 @@ pub record IsSummable (s : Setting) (labels : List (List (Term Sig))) (trace : T
   pub start : IsStartPlaced s labels trace.start
   pub residues : All (λ t. t.coefficient < s.prime) trace.steps
   pub steps : All (λ t. IsPlaced s labels t.left t.number t.right) trace.steps
+
+-- the multiples of the labels that the steps name can be added up
+pub record AreSummable (s : Setting) (labels : List (List (Term Sig))) (steps : List Step) : Type 0 where
+  pub residues : All (λ t. t.coefficient < s.prime) steps
+  pub placed : All (λ t. IsPlaced s labels t.left t.number t.right) steps
 
 -- the elements in their places
 abbrev pub elements_of : List (List (Term Sig)) → List Element

@@ -1,13 +1,13 @@
 //! The label that a trace gives.
 
 ghost use Rattle.nc_algebra.specs.Elements.{Element, IsGenerator, element_times};
-ghost use Rattle.nc_algebra.specs.Sums.{minus};
-ghost use Rattle.nc_cofactor.specs.Sums.{IsPlaced, IsStartPlaced, IsSum, IsSummable, IsTraceSum, elements_of};
+ghost use Rattle.nc_algebra.specs.Sums.{minus, scale};
+ghost use Rattle.nc_cofactor.specs.Sums.{AreSummable, IsPlaced, IsStartPlaced, IsSum, IsSummable, IsTraceSum, elements_of};
 ghost use Rattle.nc_poly.specs.Ordered.{AreResiduesBy};
 ghost use Rattle.nc_snapshot.specs.Traces.{start_of};
-ghost use Rattle.nc_theory.specs.Labels.{label_at, start_label};
+ghost use Rattle.nc_theory.specs.Labels.{label_at, start_label, step_multiples};
 ghost use Rattle.nc_theory.specs.States.{Start as Beginning};
-ghost use Rattle.std.specs.Prelude.{IfOk, OnOk, get_or, length, [], ◌-◌, ◌<◌, ◌≡◌, ◌≤◌};
+ghost use Rattle.std.specs.Prelude.{IfOk, OnOk, get_or, length, [], ◌++◌, ◌-◌, ◌<◌, ◌≡◌, ◌≤◌};
 
 use crate::sum::{add_multiple, finish};
 use nc_module::{Module, Setting};
@@ -113,6 +113,54 @@ fn take_step(
         step.right.letters(),
     )?;
     Ok(())
+}
+
+/// Adds the multiple of a label.
+fn add_step(
+    alloc: Global,
+    sum: &mut Sum<Sig>,
+    setting: &Setting,
+    labels: &[Module],
+    step: &Step,
+) -> Result<(), AllocError>
+    requires before { AreResiduesBy setting.now.setting.prime sum.old }
+    requires residue { step.now.coefficient < setting.now.setting.prime }
+    requires placed { IsPlaced setting.now.setting labels.now step.now.left step.now.number step.now.right }
+    ensures { OnOk result ((α : Element) → IsSum setting.now.setting α sum.old → IsSum setting.now.setting (scale step.now.coefficient (element_times step.now.left (label_at (elements_of labels.now) step.now.number) step.now.right) ++ α) sum.new) }
+{
+    let label = label_in(labels, step.number);
+    let _prime = setting.prime();
+    let _terms = label.terms();
+    add_multiple(
+        alloc,
+        sum,
+        setting,
+        step.coefficient,
+        step.left.letters(),
+        label,
+        step.right.letters(),
+    )?;
+    Ok(())
+}
+
+/// The sum of the multiples over the labels of the entries that they name. Each of them stands in its place; what stands in
+/// the other places does not matter.
+pub(crate) fn steps_sum(
+    alloc: Global,
+    setting: &Setting,
+    labels: &[Module],
+    steps: &[Step],
+) -> Result<Module, AllocError>
+    requires { AreSummable setting.now.setting labels.now steps.now }
+    ensures { IfOk result (IsSum setting.now.setting (step_multiples (elements_of labels.now) steps.now)) }
+{
+    let mut sum = Sum::new(alloc);
+    for step in steps {
+        add_step(alloc, &mut sum, setting, labels, step)?;
+    }
+    let _prime = setting.prime();
+    let whole = finish(alloc, setting, sum)?;
+    Ok(whole)
 }
 
 /// The label that the trace gives over the labels of the entries that it names. Each of them stands in its place; what

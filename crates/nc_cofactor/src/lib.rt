@@ -5,18 +5,21 @@ ghost use Rattle.nc_cofactor.specs.Laws.{LabelsExist, OneFirst, OneLabel};
 
 mod alphabet;
 mod below;
+mod claims;
 mod expansion;
 mod fault;
+mod fill;
 mod label;
 mod labels;
-mod needed;
 mod rebuilds;
 mod sum;
+mod sweep;
 #[cfg(test)]
 mod tests;
 mod trace;
 
 pub use alphabet::cofactors_are_over;
+pub use claims::{needed, needed_traces, represent};
 pub use expansion::expand;
 pub use fault::CofactorFault;
 pub use labels::Labels;

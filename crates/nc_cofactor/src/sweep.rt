@@ -1,11 +1,10 @@
-//! The traces of the entries that an item needs.
+//! The traces of the entries that are reached from marks.
 
-ghost use Rattle.nc_cofactor.specs.Needed.{AreNeeded, IsMarked, IsSlot, MarksMore, StepsName};
+ghost use Rattle.nc_cofactor.specs.Needed.{AreFound, IsMarked, IsSlot, MarksMore, StepsName};
 ghost use Rattle.nc_cofactor.specs.Terms.{Names, StartNames};
-ghost use Rattle.nc_cofactor.specs.Traces.{IsListed};
 ghost use Rattle.nc_index.specs.Chosen.{leads_of};
 ghost use Rattle.nc_snapshot.specs.Traces.{start_of};
-ghost use Rattle.std.specs.Prelude.{All, IfOk, IsTrue, false, length, ℕ, ◌≡◌, ◌≤◌, ◌↔◌};
+ghost use Rattle.std.specs.Prelude.{All, Contains, IfOk, IsTrue, false, length, ℕ, ◌≡◌, ◌≤◌, ◌↔◌};
 
 use crate::trace::trace_of;
 use nc_index::Leads;
@@ -41,7 +40,7 @@ fn mark_start(marks: &mut [bool], start: &Start)
 }
 
 /// Marks the entries that the steps name.
-fn mark_steps(marks: &mut [bool], steps: &[Step])
+pub(crate) fn mark_steps(marks: &mut [bool], steps: &[Step])
     requires some { All (λ step. 1 ≤ step.number) steps.now }
     requires within { All (λ step. step.number ≤ length marks.old) steps.now }
     ensures { MarksMore marks.old marks.new (StepsName steps.now) }
@@ -51,8 +50,18 @@ fn mark_steps(marks: &mut [bool], steps: &[Step])
     }
 }
 
+/// Marks the entries with these numbers.
+pub(crate) fn mark_numbers(marks: &mut [bool], numbers: &[u32])
+    requires { All (λ j. (1 ≤ j) × (j ≤ length marks.old)) numbers.now }
+    ensures { MarksMore marks.old marks.new (Contains numbers.now) }
+{
+    for number in numbers {
+        set_mark(marks, *number);
+    }
+}
+
 /// Marks the entries that the trace names.
-fn mark(marks: &mut [bool], trace: &Trace)
+pub(crate) fn mark(marks: &mut [bool], trace: &Trace)
     requires { (j : ℕ) → Names trace.now j → (1 ≤ j) × (j ≤ length marks.old) }
     ensures { MarksMore marks.old marks.new (Names trace.now) }
 {
@@ -83,23 +92,19 @@ fn slot_at(
     Ok(Some(trace))
 }
 
-/// The trace of an item, and of each entry that it needs, from the last entry to the first. No entry is marked before.
-fn find(
+/// The trace of each entry that is reached from the marks, from the last entry to the first. A trace names earlier entries
+/// alone, so one pass finds all.
+pub(crate) fn traces_from(
     alloc: Global,
     snapshot: &Snapshot,
     leads: &Leads,
-    listed: Listed,
     marks: &mut [bool],
-) -> Result<(Trace, Vec<Option<Trace>>), AllocError>
+) -> Result<Vec<Option<Trace>>, AllocError>
     requires leads { leads.now ≡ leads_of snapshot.now.problem.problem.setting snapshot.now.state.entries }
-    requires listed { IsListed snapshot.now.state listed }
     requires size { length marks.old ≡ length snapshot.now.state.entries }
-    requires unmarked { All (λ mark. mark ≡ false) marks.old }
-    ensures { IfOk result (λ found. AreNeeded snapshot.now.problem.problem snapshot.now.handled listed found.0 found.1.items) }
+    ensures { IfOk result (λ stack. AreFound snapshot.now.problem.problem snapshot.now.handled marks.old stack.items) }
 {
     let _problem = snapshot.problem();
-    let trace = trace_of(alloc, snapshot, leads, listed)?;
-    mark(marks, &trace);
     let mut stack = Vec::new(alloc);
     let mut left = snapshot.entries();
     while left > 0 {
@@ -107,11 +112,11 @@ fn find(
         stack.push(slot)?;
         left -= 1;
     }
-    Ok((trace, stack))
+    Ok(stack)
 }
 
 /// So many marks, none of them set.
-fn no_marks(alloc: Global, count: u32) -> Result<Vec<bool>, AllocError>
+pub(crate) fn no_marks(alloc: Global, count: u32) -> Result<Vec<bool>, AllocError>
     ensures size { IfOk result (λ marks. length marks.items ≡ count) }
     ensures unmarked { IfOk result (λ marks. All (λ mark. mark ≡ false) marks.items) }
 {
@@ -120,20 +125,4 @@ fn no_marks(alloc: Global, count: u32) -> Result<Vec<bool>, AllocError>
         marks.push(false)?;
     }
     Ok(marks)
-}
-
-/// The trace of an item, and of each entry that it needs, from the last entry to the first. A trace names earlier entries
-/// alone, so one pass finds all.
-pub(crate) fn needed(
-    alloc: Global,
-    snapshot: &Snapshot,
-    leads: &Leads,
-    listed: Listed,
-) -> Result<(Trace, Vec<Option<Trace>>), AllocError>
-    requires leads { leads.now ≡ leads_of snapshot.now.problem.problem.setting snapshot.now.state.entries }
-    requires listed { IsListed snapshot.now.state listed }
-    ensures { IfOk result (λ found. AreNeeded snapshot.now.problem.problem snapshot.now.handled listed found.0 found.1.items) }
-{
-    let mut marks = no_marks(alloc, snapshot.entries())?;
-    find(alloc, snapshot, leads, listed, marks.as_mut_slice())
 }

@@ -62,6 +62,20 @@ fn nothing_has_no_labels(rt: HostRuntime) -> Result<(), Fail> {
 }
 
 #[test]
+fn nothing_needs_nothing(rt: HostRuntime) -> Result<(), Fail> {
+    let alloc = rt.alloc();
+    let snapshot = Snapshot::empty(alloc, Arc::new(alloc, problem(alloc)?)?);
+    let leads = Leads::empty(alloc);
+    assert!(rt; needed(alloc, &snapshot, &leads, &[])?.is_empty());
+    assert!(rt; needed_traces(alloc, &snapshot, &leads, &[])?.is_empty());
+    let Ok(sum) = represent(alloc, &snapshot, &leads, &[], 0) else {
+        return Err("no representation".into());
+    };
+    assert!(rt; sum.terms().is_empty());
+    Ok(())
+}
+
+#[test]
 fn faults_are_shown(rt: HostRuntime) -> Result<(), Fail> {
     let alloc = rt.alloc();
     let fault = CofactorFault::TooMany {

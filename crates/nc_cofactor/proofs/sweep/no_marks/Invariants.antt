@@ -1,6 +1,6 @@
 use Rattle.std.proofs.Common.{false, length, ◌≡◌}
 use Rattle.std.specs.List.{All}
-use Rattle.nc_cofactor.proofs.needed.no_marks.Given as goal
+use Rattle.nc_cofactor.proofs.sweep.no_marks.Given as goal
 
 abbrev pub invariant-loop : goal.invariant-loop
 invariant-loop l = record {
