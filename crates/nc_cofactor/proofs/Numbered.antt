@@ -5,7 +5,7 @@ use Rattle.nc_cofactor.proofs.Lists.{contains_map, map_contains, rising_push}
 use Rattle.nc_cofactor.proofs.Needing.{compared, reached_within}
 use Rattle.nc_cofactor.proofs.Places.{earlier_there, last_there}
 use Rattle.nc_cofactor.proofs.Reaching.{needed_reached, reached_needed}
-use Rattle.nc_cofactor.specs.Claims.{AreNeededFor, AreNeededTraces, IsNeededFor, ListsNeeded}
+use Rattle.nc_cofactor.specs.Claims.{AreNeededTraces, IsNeededFor, ListsNeeded}
 use Rattle.nc_cofactor.specs.Needed.{AreFound, AreNumbered, IsFound, IsMarked, IsReached}
 use Rattle.nc_cofactor.specs.Traces.{IsTraceIn}
 use Rattle.nc_snapshot.specs.declared.outcome.Listed.TheVariants.{Entry as EntryOf}
@@ -151,7 +151,3 @@ module _ (P : NamedProblem) (problem : IsProblem P) (n : ℕ) (numbers : List �
       lists = lists;
       traces = λ k d within. (found (get_or numbered k d).0 (get_or numbered k d).1 (Contains-get_or numbered k d within)).0;
     }
-
--- the numbers alone
-pub numbers_needed : (P : NamedProblem) (n : ℕ) (numbers needed : List ℕ) (numbered : List (ℕ × Trace)) → AreNeededTraces P.problem n numbers numbered → needed ≡ map (λ x. x.0) numbered → AreNeededFor P.problem n numbers needed
-numbers_needed P n numbers needed numbered h same = record { run = h.run; last = h.last; runs = h.runs; lists = subst (ListsNeeded h.run.entries numbers) (sym same) h.lists }

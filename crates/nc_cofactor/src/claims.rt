@@ -15,10 +15,7 @@ use nc_snapshot::{Listed, Snapshot, Step, Trace};
 use std::alloc::{AllocError, Global};
 
 /// The traces that are there, each with its number: that of entry 1 is the last one of the stack.
-fn numbered(
-    alloc: Global,
-    stack: Vec<Option<Trace>>,
-) -> Result<Vec<(u32, Trace)>, AllocError>
+fn numbered(alloc: Global, stack: Vec<Option<Trace>>) -> Result<Vec<(u32, Trace)>, AllocError>
     requires { length stack.items ≤ 1000000000 }
     ensures { IfOk result (λ l. AreNumbered stack.items l.items) }
 {
@@ -91,10 +88,7 @@ pub fn represent(
     let mut kept = no_marks(alloc, snapshot.entries())?;
     let marks = kept.as_mut_slice();
     mark_steps(marks, steps);
-    let labels = match labels_from(alloc, snapshot, leads, marks, limit) {
-        Ok(labels) => labels,
-        Err(fault) => return Err(fault),
-    };
+    let labels = labels_from(alloc, snapshot, leads, marks, limit)?;
     let sum = steps_sum(alloc, problem.setting(), labels.as_slice(), steps)?;
     let terms = sum.terms().len() as u64;
     if terms > limit {

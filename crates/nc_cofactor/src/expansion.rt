@@ -37,8 +37,6 @@ pub fn expand(
     let mut kept = no_marks(alloc, snapshot.entries())?;
     let marks = kept.as_mut_slice();
     mark(marks, &trace);
-    match labels_from(alloc, snapshot, leads, marks, limit) {
-        Ok(labels) => item_label(alloc, snapshot, labels.as_slice(), listed, &trace, limit),
-        Err(fault) => Err(fault),
-    }
+    let labels = labels_from(alloc, snapshot, leads, marks, limit)?;
+    item_label(alloc, snapshot, labels.as_slice(), listed, &trace, limit)
 }

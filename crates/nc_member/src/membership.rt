@@ -5,10 +5,12 @@ ghost use Rattle.nc_algebra.specs.Words.{word_weight};
 ghost use Rattle.nc_member.specs.Members.{FailsToAnswer, IsMember};
 ghost use Rattle.std.specs.Prelude.{All, IfErr, IfOk, ◌≤◌};
 
-use nc_cofactor::CofactorFault;
-use nc_desk::Finished;
+use crate::rest::rest_of;
+use nc_cofactor::{CofactorFault, represent};
+use nc_desk::{End, Finished};
 use nc_module::Module;
 use nc_poly::Poly;
+use nc_reduce::Rest;
 use std::alloc::Global;
 
 /// Whether a claim has a representation within the bound.
@@ -37,5 +39,15 @@ pub fn member(
     ensures member { IfOk result (IsMember finished.now claim.now limit) }
     ensures fault { IfErr result (FailsToAnswer finished.now claim.now limit) }
 {
-    Err(CofactorFault::OutOfMemory)
+    let snapshot = finished.snapshot();
+    let _problem = snapshot.problem();
+    let Rest { poly, steps } = rest_of(alloc, finished, claim)?;
+    if poly.is_zero() {
+        let module = represent(alloc, snapshot, finished.leads(), steps.items(), limit)?;
+        return Ok(Membership::Below(module));
+    }
+    Ok(match finished.end() {
+        End::Complete => Membership::NotBelow(poly),
+        End::Budget(_) => Membership::Undecided(poly),
+    })
 }

@@ -5,9 +5,12 @@ ghost use Rattle.nc_algebra.specs.Words.{word_weight};
 ghost use Rattle.nc_member.specs.Members.{IsProof};
 ghost use Rattle.std.specs.Prelude.{All, IfOk, ◌≤◌};
 
-use nc_desk::Finished;
+use crate::lines::lines_of;
+use crate::rest::rest_of;
+use nc_desk::{End, Finished};
 use nc_module::Lines;
 use nc_poly::Poly;
+use nc_reduce::Rest;
 use std::alloc::{AllocError, Global};
 
 /// Whether a claim has a representation within the bound.
@@ -28,5 +31,15 @@ pub fn prove(alloc: Global, finished: &Finished, claim: &Poly) -> Result<Proof, 
     requires light { All (λ t. word_weight t.key ≤ 200000) claim.now }
     ensures { IfOk result (IsProof finished.now claim.now) }
 {
-    Err(AllocError)
+    let snapshot = finished.snapshot();
+    let _problem = snapshot.problem();
+    let Rest { poly, steps } = rest_of(alloc, finished, claim)?;
+    if poly.is_zero() {
+        let lines = lines_of(alloc, snapshot, finished.leads(), steps.items())?;
+        return Ok(Proof::Below(lines));
+    }
+    Ok(match finished.end() {
+        End::Complete => Proof::NotBelow(poly),
+        End::Budget(_) => Proof::Undecided(poly),
+    })
 }
