@@ -1,5 +1,5 @@
 -- Lemmas on the texts that are written piece after piece.
-use Rattle.nc_algebra.specs.Alphabets.{Alphabet, IsWordIn}
+use Rattle.nc_algebra.specs.Alphabets.{Alphabet, IsPolynomialIn, IsWordIn}
 use Rattle.nc_algebra.specs.Certificates.{AreLines, Certificate, IsPart, Line, Part, line_reach}
 use Rattle.nc_algebra.specs.Monomials.{Sig, monomial_of}
 use Rattle.nc_algebra.specs.Polynomials.{Polynomial}
@@ -40,6 +40,10 @@ AreNamed n w = All (λ x. x.index < n) w
 -- the letters of an alphabet's words have its names
 named : (a : Alphabet) (w : Word) → IsWordIn a w → AreNamed (length a.names) w
 named a w over k d within = (over k d within).0
+
+-- so for a polynomial
+pub polynomial_named : (a : Alphabet) (p : ℕ) (f : Polynomial) → IsPolynomialIn a p f → All (λ t. AreNamed (length a.names) t.key) f
+polynomial_named a p f is k d within = named a _ (is.words k d within)
 
 -- what holds of each part of lines, wherever they stand
 each_part : (s : NamedSetting) (P : Part → Type 0) → ((reaches : List ℕ) (part : Part) → IsPart s reaches part → P part)

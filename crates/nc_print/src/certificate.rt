@@ -6,7 +6,8 @@ ghost use Rattle.std.specs.Prelude.{All, OnOk, [], flat_map, length, map, ◌++�
 
 use crate::polynomial::{push_number, write_word};
 use crate::setting::{write_poly_line, write_setting};
-use nc_module::{Certificate, Line, Name, Of, Part};
+use nc_module::{Certificate, Line, Lines, Name, Of, Part, Setting};
+use nc_poly::Poly;
 use std::alloc::AllocError;
 
 /// Appends what a part multiplies.
@@ -76,14 +77,30 @@ pub fn write_lines(out: &mut Vec<u8>, names: &[Name], lines: &[Line]) -> Result<
     Ok(())
 }
 
+/// Appends a claim and the lines that are to prove it as the text of a certificate in form 2. Each letter needs a name. After
+/// `Err` the text in `out` may be part of it.
+pub fn write_proof(
+    out: &mut Vec<u8>,
+    setting: &Setting,
+    claim: &Poly,
+    lines: &Lines,
+) -> Result<(), AllocError>
+    requires claim { All (λ t. All (λ x. x.index < length setting.now.alphabet.names) t.key) claim.now }
+    requires left { All (λ line. All (λ part. All (λ x. x.index < length setting.now.alphabet.names) part.left) line) lines.now }
+    requires right { All (λ line. All (λ part. All (λ x. x.index < length setting.now.alphabet.names) part.right) line) lines.now }
+    ensures { OnOk result (out.new.items ≡ out.old.items ++ certificate_text (record { setting = setting.now; claim = claim.now; lines = lines.now })) }
+{
+    let names = setting.names();
+    out.extend_from_slice(b"certificate 2\n")?;
+    write_setting(out, setting)?;
+    write_poly_line(out, b"claim ", names, claim)?;
+    write_lines(out, names, lines.lines())?;
+    out.extend_from_slice(b"end\n")
+}
+
 /// Appends the text of a certificate, by lines. After `Err` the text in `out` may be part of it.
 pub fn write_certificate(out: &mut Vec<u8>, c: &Certificate) -> Result<(), AllocError>
     ensures { OnOk result (out.new.items ≡ out.old.items ++ certificate_text c.now) }
 {
-    let names = c.setting.names();
-    out.extend_from_slice(b"certificate 2\n")?;
-    write_setting(out, &c.setting)?;
-    write_poly_line(out, b"claim ", names, &c.claim)?;
-    write_lines(out, names, c.lines.lines())?;
-    out.extend_from_slice(b"end\n")
+    write_proof(out, &c.setting, &c.claim, &c.lines)
 }

@@ -10,7 +10,7 @@ mod terms;
 #[cfg(test)]
 mod tests;
 
-pub use certificate::write_certificate;
+pub use certificate::{write_certificate, write_proof};
 pub use module::write_module;
 pub use monomial::write_sig;
 pub use polynomial::{push_number, write_poly, write_word};
