@@ -10,7 +10,7 @@ use Rattle.nc_cofactor.proofs.Runs.{entries_kept, label_terms, one_run}
 use Rattle.nc_cofactor.proofs.Terms.{terms_once}
 use Rattle.nc_cofactor.specs.Expanding.{AreNamedLabels, FailsToSum}
 use Rattle.nc_cofactor.specs.Labels.{IsLabelOf}
-use Rattle.nc_cofactor.specs.Needed.{AreFilled, AreFound, FailsToFill, IsFilledAt, IsFirstMany, IsFound, IsNewLabel, IsReached}
+use Rattle.nc_cofactor.specs.Needed.{AreFilled, AreFound, FailsToFill, IsFilledAt, IsFound, IsNewLabel, IsReached}
 use Rattle.nc_cofactor.specs.Terms.{EntryTerms, Names}
 use Rattle.nc_cofactor.specs.Traces.{IsTraceIn}
 use Rattle.nc_cofactor.specs.declared.fault.CofactorFault.{CofactorFault}
@@ -21,7 +21,7 @@ use Rattle.nc_snapshot.specs.declared.outcome.Listed.TheVariants.{Entry as Entry
 use Rattle.nc_theory.specs.Labels.{label_at, labels_of}
 use Rattle.nc_theory.specs.Runs.{SequentialRun}
 use Rattle.nc_theory.specs.States.{State, Trace}
-use Rattle.std.proofs.Common.{Bool, List, None, Option, Some, [], ap, arith, inl, inr, length, length-append, refl, subst, sym, take, ℕ, ◌+◌, ◌++◌, ◌-◌, ◌<◌, ◌∙◌, ◌∷◌, ◌≡◌, ◌≤◌, ◌⊎◌}
+use Rattle.std.proofs.Common.{Bool, List, None, Option, Some, [], ap, arith, inl, inr, length, length-append, subst, sym, take, ℕ, ◌+◌, ◌++◌, ◌-◌, ◌<◌, ◌∙◌, ◌∷◌, ◌≡◌, ◌≤◌, ◌⊎◌}
 use Rattle.std.proofs.lemmas.List.{append-nil}
 use Rattle.std.specs.List.{slice_get}
 

@@ -1,7 +1,7 @@
 -- Elements of mapped lists, and numbers that rise.
 use Rattle.nc_algebra.proofs.Finite.{among_contains, contains_among}
 use Rattle.nc_algebra.specs.Lists.{Among}
-use Rattle.std.proofs.Common.{Contains, List, [], ap, arith, get_or, inl, inr, length, length-append, map, refl, subst, sym, ℕ, ◌+◌, ◌++◌, ◌-◌, ◌<◌, ◌∙◌, ◌∷◌, ◌≡◌, ◌⊎◌}
+use Rattle.std.proofs.Common.{Contains, List, [], ap, arith, get_or, inl, inr, length, length-append, map, refl, subst, sym, ℕ, ◌+◌, ◌++◌, ◌<◌, ◌∷◌, ◌≡◌, ◌⊎◌}
 use Rattle.std.proofs.lemmas.List.{get_or_append_left, get_or_at}
 use Rattle.std.specs.List.Sorted.{IsStrictlyIncreasing}
 

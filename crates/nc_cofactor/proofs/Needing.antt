@@ -6,7 +6,7 @@ use Rattle.nc_cofactor.proofs.Named.{IsAnyNamed, IsSigned, any_named, names_earl
 use Rattle.nc_cofactor.proofs.Once.{trace_once}
 use Rattle.nc_cofactor.proofs.Places.{earlier_place, last_place}
 use Rattle.nc_cofactor.proofs.Runs.{entries_kept, one_run}
-use Rattle.nc_cofactor.specs.Needed.{AreFound, IsFound, IsMarked, IsReached, IsSlot, MarksMore}
+use Rattle.nc_cofactor.specs.Needed.{AreFound, IsFound, IsMarked, IsReached, IsSlot}
 use Rattle.nc_cofactor.specs.Terms.{Names, Needs}
 use Rattle.nc_cofactor.specs.Traces.{HasTrace, IsTraceIn}
 use Rattle.nc_search.specs.Untraced.{IsRunOf}
@@ -14,10 +14,9 @@ use Rattle.nc_snapshot.specs.declared.outcome.Listed.{Listed}
 use Rattle.nc_snapshot.specs.declared.outcome.Listed.TheVariants.{Entry as EntryOf}
 use Rattle.nc_theory.specs.Runs.{SequentialRun}
 use Rattle.nc_theory.specs.States.{Entry, State, Trace}
-use Rattle.std.proofs.Common.{Bool, List, None, Option, Some, [], ap, arith, false, inl, inr, length, length-append, refl, subst, sym, true, ℕ, ◌+◌, ◌++◌, ◌-◌, ◌<◌, ◌∙◌, ◌∷◌, ◌≡◌, ◌≤◌, ◌⊎◌}
-use Rattle.std.proofs.lemmas.Bool.{false≢true}
-use Rattle.std.proofs.lemmas.Option.{get_or_from_slice_get, slice_get_within}
-use Rattle.std.specs.List.{All, slice_get}
+use Rattle.std.proofs.Common.{Bool, List, None, Option, Some, [], ap, arith, inl, inr, length, length-append, refl, subst, sym, true, ℕ, ◌+◌, ◌++◌, ◌-◌, ◌<◌, ◌∙◌, ◌∷◌, ◌≡◌, ◌≤◌, ◌⊎◌}
+use Rattle.std.proofs.lemmas.Option.{slice_get_within}
+use Rattle.std.specs.List.{slice_get}
 
 pub compared : (a b : ℕ) → (a < b) ⊎ ((a ≡ b) ⊎ (b < a))
 compared a b = grind arith

@@ -1,5 +1,4 @@
 -- The traces that are found, each beside its number: those that given numbers need.
-use Rattle.nc_algebra.specs.Monomials.{Monomial}
 use Rattle.nc_algebra.specs.Problems.{IsProblem, NamedProblem}
 use Rattle.nc_cofactor.proofs.Lists.{contains_map, map_contains, rising_push}
 use Rattle.nc_cofactor.proofs.Needing.{compared, reached_within}
@@ -11,7 +10,7 @@ use Rattle.nc_cofactor.specs.Traces.{IsTraceIn}
 use Rattle.nc_snapshot.specs.declared.outcome.Listed.TheVariants.{Entry as EntryOf}
 use Rattle.nc_theory.specs.States.{Trace}
 use Rattle.std.proofs.Common.{Bool, Contains, List, None, Option, Some, [], ap, arith, get_or, inl, inr, length, length-append, map, refl, subst, sym, ℕ, ◌+◌, ◌++◌, ◌-◌, ◌<◌, ◌∙◌, ◌∷◌, ◌≡◌, ◌≤◌, ◌↔◌, ◌⊎◌}
-use Rattle.std.proofs.lemmas.List.{length-map, map_push}
+use Rattle.std.proofs.lemmas.List.{map_push}
 use Rattle.std.proofs.lemmas.List.Elements.{Contains-append_left, Contains-get_or, Contains-push, Contains-push_cases}
 use Rattle.std.proofs.lemmas.Option.{slice_get_cases}
 use Rattle.std.specs.List.{All, slice_get}

@@ -1,7 +1,6 @@
 -- The sum of the labels of multiples that were subtracted, and what the first label with too many terms says.
 use Rattle.nc_algebra.proofs.Finite.{contains_among}
 use Rattle.nc_algebra.specs.Monomials.{Monomial, Sig}
-use Rattle.nc_algebra.specs.Problems.{IsProblem, NamedProblem}
 use Rattle.nc_algebra.specs.Sums.{Term}
 use Rattle.nc_cofactor.proofs.Filling.{few_filled}
 use Rattle.nc_cofactor.proofs.Items.{subtracted_light}
@@ -20,14 +19,14 @@ use Rattle.nc_cofactor.specs.declared.fault.CofactorFault.{CofactorFault}
 use Rattle.nc_cofactor.specs.declared.fault.CofactorFault.TheVariants.{OutOfMemory, TooMany}
 use Rattle.nc_snapshot.specs.Snapshots.{IsSnapshot, Snapshot}
 use Rattle.nc_snapshot.specs.declared.outcome.Listed.{Listed}
-use Rattle.nc_snapshot.specs.declared.outcome.Listed.TheVariants.{Claim, Entry as EntryOf}
+use Rattle.nc_snapshot.specs.declared.outcome.Listed.TheVariants.{Claim}
 use Rattle.nc_theory.specs.Labels.{labels_of, step_multiples}
 use Rattle.nc_theory.specs.Runs.{SequentialRun}
-use Rattle.nc_theory.specs.States.{Entry, State, Step}
-use Rattle.std.proofs.Common.{Bool, Contains, List, Option, ap, arith, get_or, length, map, refl, subst, sym, ℕ, ◌-◌, ◌<◌, ◌∙◌, ◌≡◌, ◌≤◌, ◌↔◌}
+use Rattle.nc_theory.specs.States.{State, Step}
+use Rattle.std.proofs.Common.{Bool, Contains, List, Option, arith, get_or, length, refl, subst, sym, ℕ, ◌-◌, ◌<◌, ◌≡◌, ◌≤◌, ◌↔◌}
 use Rattle.std.proofs.lemmas.List.Elements.{Contains-get_or}
 use Rattle.std.proofs.lemmas.Option.{slice_get_within}
-use Rattle.std.specs.List.{All, slice_get}
+use Rattle.std.specs.List.{All}
 
 module _ (s : Snapshot) (is : IsSnapshot s) (steps : List Step) (subtracted : AreSubtracted s.problem.problem s.state.entries steps) where
   -- the multiples in any state of the run

@@ -2,8 +2,7 @@ use Rattle.nc_cofactor.proofs.Marks.{only_marked}
 use Rattle.nc_cofactor.proofs.Numbered.{are_needed}
 use Rattle.nc_cofactor.specs.Claims.{AreNeededTraces}
 use Rattle.nc_cofactor.specs.Needed.{AreNumbered}
-use Rattle.nc_theory.specs.States.{Trace}
-use Rattle.std.proofs.Common.{Bool, Contains, List, false, subst, sym, ◌≡◌, ℕ}
+use Rattle.std.proofs.Common.{Bool, Contains, List, false, subst, sym, ◌≡◌}
 use Rattle.std.proofs.lemmas.Result.{IfOk-weaker}
 use Rattle.std.specs.List.{All}
 use Rattle.nc_cofactor.proofs.claims.needed_traces.Goals as goal
