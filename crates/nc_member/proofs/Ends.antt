@@ -5,12 +5,12 @@ use Rattle.nc_algebra.proofs.Sums.{linear_sum_same}
 use Rattle.nc_algebra.specs.Elements.{Element, IsIn, IsLess, SamePolynomial, Setting, evaluation, generator_weight}
 use Rattle.nc_algebra.specs.Monomials.{Monomial, Sig, same_monomial}
 use Rattle.nc_algebra.specs.Polynomials.{Polynomial, coefficient}
-use Rattle.nc_algebra.specs.Primes.{IsField, IsZero}
+use Rattle.nc_algebra.specs.Primes.{IsField}
 use Rattle.nc_algebra.specs.Problems.{IsProblem, IsWithin, NamedProblem, Problem}
-use Rattle.nc_algebra.specs.Sums.{SameSum, Term, coefficient_by}
+use Rattle.nc_algebra.specs.Sums.{SameSum, Term}
 use Rattle.nc_algebra.specs.Words.{Word}
 use Rattle.nc_cofactor.proofs.Labelled.{problem_field}
-use Rattle.nc_cofactor.specs.Claims.{AreSubtracted, FailsToRepresent, IsRepresentation}
+use Rattle.nc_cofactor.specs.Claims.{FailsToRepresent, IsRepresentation}
 use Rattle.nc_cofactor.specs.declared.fault.CofactorFault.{CofactorFault}
 use Rattle.nc_cofactor.specs.declared.fault.CofactorFault.TheVariants.{OutOfMemory, TooMany}
 use Rattle.nc_desk.specs.Ends.{Finished}
@@ -27,9 +27,9 @@ use Rattle.nc_theory.proofs.Traces.{labels_hold}
 use Rattle.nc_theory.specs.Bases.{HasRepresentation}
 use Rattle.nc_theory.specs.Labels.{labels_of, step_multiples}
 use Rattle.nc_theory.specs.Reductions.{Reduction}
-use Rattle.nc_theory.specs.Runs.{End, IsEnd, SequentialRun}
+use Rattle.nc_theory.specs.Runs.{End, IsEnd}
 use Rattle.nc_theory.specs.States.{State, Step}
-use Rattle.std.proofs.Common.{List, Option, [], ap, arith, refl, subst, sym, ℕ, ◌%◌, ◌+◌, ◌<◌, ◌∙◌, ◌≡◌, ◌≢◌}
+use Rattle.std.proofs.Common.{List, [], ap, arith, subst, sym, ℕ, ◌%◌, ◌+◌, ◌<◌, ◌∙◌, ◌≡◌, ◌≢◌}
 
 -- ---- what is left
 

@@ -3,7 +3,6 @@ use Rattle.nc_algebra.specs.Certificates.{Line}
 use Rattle.nc_algebra.specs.Elements.{Setting}
 use Rattle.nc_algebra.specs.Monomials.{Monomial}
 use Rattle.nc_algebra.specs.Polynomials.{Polynomial}
-use Rattle.nc_algebra.specs.Primes.{IsField}
 use Rattle.nc_algebra.specs.Problems.{IsProblem, NamedProblem, Problem}
 use Rattle.nc_cofactor.proofs.Labelled.{problem_field}
 use Rattle.nc_cofactor.proofs.Named.{IsSigned, signed}
@@ -16,7 +15,7 @@ use Rattle.nc_snapshot.specs.declared.outcome.Listed.TheVariants.{Entry as Entry
 use Rattle.nc_theory.proofs.Counting.{counts}
 use Rattle.nc_theory.specs.Reductions.{Reduction}
 use Rattle.nc_theory.specs.States.{Entry, State, Step, Trace}
-use Rattle.std.proofs.Common.{List, [], arith, length, map, subst, sym, ℕ, ◌+◌, ◌-◌, ◌<◌, ◌∷◌, ◌≡◌, ◌≤◌}
+use Rattle.std.proofs.Common.{List, [], arith, length, subst, sym, ℕ, ◌-◌, ◌<◌, ◌∷◌, ◌≡◌, ◌≤◌}
 use Rattle.std.proofs.lemmas.List.{length-map}
 use Rattle.std.proofs.lemmas.List.Elements.{All-from_recursion, recursion_from_All}
 use Rattle.std.proofs.lemmas.Option.{slice_get_within}

@@ -2,7 +2,7 @@
 use Rattle.nc_algebra.specs.Certificates.{item}
 use Rattle.nc_member.specs.Lines.{line_of}
 use Rattle.nc_theory.proofs.Stale.{front_or_later}
-use Rattle.std.proofs.Common.{Bool, Contains, List, [], ap, arith, cond, false, true, get_or, inl, inr, length, nat_le, refl, subst, suc, zero, ℕ, ◌+◌, ◌++◌, ◌<◌, ◌∷◌, ◌≡◌, ◌≤◌, ◌⊎◌}
+use Rattle.std.proofs.Common.{Bool, Contains, List, [], ap, arith, cond, false, true, get_or, inl, inr, length, nat_le, refl, suc, zero, ℕ, ◌+◌, ◌++◌, ◌<◌, ◌∷◌, ◌≡◌, ◌≤◌, ◌⊎◌}
 use Rattle.std.proofs.lemmas.Bool.{le-leb, lt-leb}
 use Rattle.std.proofs.lemmas.List.{get_or_append_left, get_or_at}
 use Rattle.std.proofs.lemmas.List.Elements.{All-from_recursion}

@@ -1,10 +1,10 @@
 -- The lines of the needed entries, one after the other, and that of the claim behind them: they keep the rule of certificates, and the
 -- claim is the value of the last one.
 use Rattle.nc_algebra.proofs.Primes.{field_from_prime}
-use Rattle.nc_algebra.specs.Certificates.{AreLines, IsPart, IsValid, Line, Part, item, line_reach, line_value, part_reach, values_after}
-use Rattle.nc_algebra.specs.Elements.{IsZeroPolynomial, SamePolynomial, Setting, WordsAre, degree, generator}
+use Rattle.nc_algebra.specs.Certificates.{AreLines, IsPart, Line, item, line_reach, line_value, part_reach, values_after}
+use Rattle.nc_algebra.specs.Elements.{SamePolynomial, Setting, WordsAre, degree, generator}
 use Rattle.nc_algebra.specs.Finite.{IsOver}
-use Rattle.nc_algebra.specs.Alphabets.{Alphabet, IsPolynomialIn, IsWordIn}
+use Rattle.nc_algebra.specs.Alphabets.{IsPolynomialIn, IsWordIn}
 use Rattle.nc_algebra.specs.Monomials.{Monomial}
 use Rattle.nc_algebra.specs.Polynomials.{Polynomial, coefficient}
 use Rattle.nc_algebra.specs.Primes.{IsField, IsPrime}
@@ -21,20 +21,18 @@ use Rattle.nc_member.proofs.Letters.{IsStepIn, claim_over, steps_in}
 use Rattle.nc_member.proofs.Places.{Ascends, ascends, item_before, item_last, line_at, stands_before}
 use Rattle.nc_member.proofs.Reaches.{IsLight, IsReached, IsShort, generator_part, line_part, line_short}
 use Rattle.nc_member.proofs.Values.{IsStartValued, IsValued, claim_value, trace_value}
-use Rattle.nc_member.specs.Lines.{claim_line, line_of, proof_lines, start_part, step_part, trace_line}
+use Rattle.nc_member.specs.Lines.{claim_line, line_of, start_part, step_part, trace_line}
 use Rattle.nc_search.proofs.Letters.{generator_over}
 use Rattle.nc_search.specs.Named.{letters_of}
 use Rattle.nc_snapshot.specs.declared.outcome.Listed.TheVariants.{Entry as EntryOf}
 use Rattle.nc_theory.proofs.Completeness.{invariant}
 use Rattle.nc_theory.proofs.Rebuilding.{rebuilt}
 use Rattle.nc_theory.proofs.Steps.{run_over}
-use Rattle.nc_theory.specs.Divisors.{multiple_at, number_of}
-use Rattle.nc_theory.specs.Letters.{AreOver}
 use Rattle.nc_theory.specs.Rebuilding.{Rebuilds}
 use Rattle.nc_theory.specs.Reductions.{Reduction}
 use Rattle.nc_theory.specs.Runs.{SequentialRun}
 use Rattle.nc_theory.specs.States.{Entry, Start, State, Step, Trace}
-use Rattle.std.proofs.Common.{Contains, List, Option, Some, [], ap, append-nil, append_assoc, arith, get_or, inl, inr, length, length-append, map, refl, subst, suc, sym, zero, ℕ, ◌%◌, ◌+◌, ◌++◌, ◌-◌, ◌<◌, ◌∙◌, ◌∷◌, ◌≡◌, ◌≤◌, ◌⊎◌}
+use Rattle.std.proofs.Common.{Contains, List, Option, Some, [], ap, append-nil, append_assoc, arith, inl, inr, length, length-append, map, refl, subst, suc, sym, ℕ, ◌%◌, ◌+◌, ◌++◌, ◌-◌, ◌<◌, ◌∙◌, ◌∷◌, ◌≡◌, ◌≤◌, ◌⊎◌}
 use Rattle.std.proofs.Math.ListN.{get_or-map}
 use Rattle.std.proofs.Math.Nat.{mod-lt}
 use Rattle.std.proofs.lemmas.List.{get_or_append_left, get_or_at, length-map}

@@ -1,9 +1,9 @@
 -- The parts of lines keep the rule of certificates: their reach is at most the degree of the signature, and 255 letters more, which is
 -- what a generator may have.
 use Rattle.nc_algebra.proofs.Words.{length_at_most, weight-append}
-use Rattle.nc_algebra.specs.Alphabets.{IsTextWord, IsWordIn}
+use Rattle.nc_algebra.specs.Alphabets.{Alphabet, IsTextWord, IsWordIn}
 use Rattle.nc_algebra.specs.Certificates.{Factor, IsPart, Line, Part, item, line_reach, longest, part_reach}
-use Rattle.nc_algebra.specs.Elements.{IsGenerator, Setting, degree, generator, generator_weight}
+use Rattle.nc_algebra.specs.Elements.{IsGenerator, Setting, degree, generator}
 use Rattle.nc_algebra.specs.Monomials.{Monomial, times}
 use Rattle.nc_algebra.specs.Polynomials.{Polynomial}
 use Rattle.nc_algebra.specs.Settings.{IsSetting, NamedSetting}
@@ -11,7 +11,7 @@ use Rattle.nc_algebra.specs.Words.{Word, word_weight}
 use Rattle.nc_member.specs.Lines.{line_of}
 use Rattle.nc_module.proofs.Settings.{generator_is_text}
 use Rattle.nc_theory.specs.States.{Entry}
-use Rattle.std.proofs.Common.{List, Some, [], ap, arith, length, subst, sym, ℕ, ◌+◌, ◌++◌, ◌-◌, ◌<◌, ◌∷◌, ◌≡◌, ◌≤◌}
+use Rattle.std.proofs.Common.{List, Some, [], arith, length, ℕ, ◌+◌, ◌-◌, ◌<◌, ◌∷◌, ◌≡◌, ◌≤◌}
 use Rattle.std.proofs.lemmas.List.Elements.{recursion_from_All}
 use Rattle.std.specs.List.{AllByRecursion, slice_get}
 
@@ -35,7 +35,7 @@ pub record IsShort (s : NamedSetting) (reaches : List ℕ) (n : ℕ) (part : Par
 pub degree_times : (s : Setting) (u : Word) (σ : Monomial) (v : Word) → degree s (times u σ v) ≡ word_weight u + degree s σ + word_weight v
 degree_times s u σ v = omega (arith, weight-append u σ.left, weight-append σ.right v)
 
-longest_text : (a : Rattle.nc_algebra.specs.Alphabets.Alphabet) (f : Polynomial) → AllByRecursion (λ t. IsTextWord a t.key) f → longest f ≤ 255
+longest_text : (a : Alphabet) (f : Polynomial) → AllByRecursion (λ t. IsTextWord a t.key) f → longest f ≤ 255
 longest_text a [] h = omega arith
 longest_text a (t ∷ f) h = let first : IsTextWord a t.key = h.0 in omega (arith, first.short, longest_text a f h.1)
 

@@ -1,12 +1,12 @@
 -- The values of an entry's line and of the claim's line, where the lines that they name have the values of their entries.
 use Rattle.nc_algebra.proofs.Elements.{same_times}
 use Rattle.nc_algebra.proofs.Sums.{linear_sum-append, linear_sum-ext, linear_sum-map_keys, linear_sum-scale, zero_add, zero_mul, zero_number}
-use Rattle.nc_algebra.specs.Certificates.{Factor, Line, Part, factor_value, item, line_value, part_value}
+use Rattle.nc_algebra.specs.Certificates.{Line, Part, factor_value, item, line_value, part_value}
 use Rattle.nc_algebra.specs.Elements.{IsLess, SamePolynomial, Setting, generator}
 use Rattle.nc_algebra.specs.Monomials.{Monomial}
 use Rattle.nc_algebra.specs.Polynomials.{Polynomial, coefficient, polynomial_times}
 use Rattle.nc_algebra.specs.Primes.{IsZero}
-use Rattle.nc_algebra.specs.Sums.{is_at, minus}
+use Rattle.nc_algebra.specs.Sums.{is_at}
 use Rattle.nc_algebra.specs.Words.{Word, same_word}
 use Rattle.nc_member.specs.Lines.{claim_line, line_of, start_part, step_part, trace_line}
 use Rattle.nc_theory.proofs.Chains.{coefficient_polynomial_minus, sum_mod}

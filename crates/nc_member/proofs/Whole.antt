@@ -1,13 +1,13 @@
 -- The whole of an answer: what is left, with its run, and the proof by lines.
 use Rattle.nc_algebra.proofs.Primes.{field_from_prime}
-use Rattle.nc_algebra.proofs.Sums.{zero_number}
 use Rattle.nc_algebra.specs.Alphabets.{IsPolynomialIn}
 use Rattle.nc_algebra.specs.Certificates.{AreLines, IsValid, Line}
-use Rattle.nc_algebra.specs.Elements.{IsIn, SamePolynomial, evaluation}
+use Rattle.nc_algebra.specs.Elements.{Element, IsIn, evaluation}
 use Rattle.nc_algebra.specs.Monomials.{Monomial}
 use Rattle.nc_algebra.specs.Polynomials.{Polynomial, coefficient}
 use Rattle.nc_algebra.specs.Primes.{IsField, IsPrime}
 use Rattle.nc_algebra.specs.Problems.{IsProblem, IsWithin, NamedProblem, Problem, setting_of}
+use Rattle.nc_algebra.specs.Words.{Word}
 use Rattle.nc_cofactor.proofs.Named.{at_contains}
 use Rattle.nc_cofactor.specs.Claims.{AreNeededTraces, numbers_of}
 use Rattle.nc_member.proofs.Proved.{lines_prove}
@@ -20,8 +20,8 @@ use Rattle.nc_theory.proofs.Membership.{representation}
 use Rattle.nc_theory.specs.Bases.{HasRepresentation}
 use Rattle.nc_theory.specs.Reductions.{Reduction}
 use Rattle.nc_theory.specs.Runs.{SequentialRun}
-use Rattle.nc_theory.specs.States.{Entry, State, Step, Trace}
-use Rattle.std.proofs.Common.{List, Option, Some, [], ap, arith, map, refl, subst, sym, ℕ, ◌%◌, ◌+◌, ◌<◌, ◌∙◌, ◌∷◌, ◌≡◌}
+use Rattle.nc_theory.specs.States.{State, Step, Trace}
+use Rattle.std.proofs.Common.{List, Option, Some, [], ap, arith, map, refl, subst, sym, ℕ, ◌%◌, ◌+◌, ◌∙◌, ◌∷◌, ◌≡◌}
 use Rattle.std.specs.List.{slice_get}
 
 module _ (P : Problem) (field : IsField P.setting.prime) {n : ℕ} {run : State} {last : Option Monomial} (runs : SequentialRun P n run last) where
@@ -29,7 +29,7 @@ module _ (P : Problem) (field : IsField P.setting.prime) {n : ℕ} {run : State}
   pub zero_represented : {f : Polynomial} {steps : List Step} → Reduction P.setting run.entries (IsWithin P) f [] steps → HasRepresentation P.setting (IsWithin P) f
   zero_represented {f} reduces = go (representation P.setting field run (invariant P field runs).sound (IsWithin P) (within_down P) reduces)
     where
-      go : (α : Rattle.nc_algebra.specs.Elements.Element) × IsIn P.setting α (IsWithin P) × ((y : Rattle.nc_algebra.specs.Words.Word) → coefficient f y % P.setting.prime ≡ (coefficient (evaluation P.setting α) y + coefficient [] y) % P.setting.prime) → HasRepresentation P.setting (IsWithin P) f
+      go : (α : Element) × IsIn P.setting α (IsWithin P) × ((y : Word) → coefficient f y % P.setting.prime ≡ (coefficient (evaluation P.setting α) y + coefficient [] y) % P.setting.prime) → HasRepresentation P.setting (IsWithin P) f
       go (α, lies, value) = (α, lies, record { at = λ y. sym (value y ∙ ap (λ m. m % P.setting.prime) (no_more (coefficient (evaluation P.setting α) y))) })
         where
           no_more : (m : ℕ) → m + 0 ≡ m

@@ -1,31 +1,38 @@
 -- The answers of commands by the bytes of their inputs.
 use Rattle.nc_algebra.specs.Finite.{monomials_within}
-use Rattle.nc_algebra.specs.Problems.{IsProblem, NamedProblem}
+use Rattle.nc_algebra.specs.Polynomials.{Polynomial}
+use Rattle.nc_algebra.specs.Problems.{IsProblem, IsWithin, NamedProblem}
 use Rattle.nc_io.specs.Adds.{Adds}
 use Rattle.nc_io.specs.Causes.{Rose}
 use Rattle.nc_io.specs.Pieces.{TakesWhole}
 use Rattle.nc_options.specs.declared.options.BasisOptions.{BasisOptions}
+use Rattle.nc_options.specs.declared.options.MemberOptions.{MemberOptions}
 use Rattle.nc_options.specs.declared.options.Options.{Options}
 use Rattle.nc_options.specs.declared.options.Options.TheVariants.{Basis, Check, Demo, Member}
 use Rattle.nc_search.proofs.Named.{complete}
 use Rattle.nc_search.specs.Named.{letters_of}
 use Rattle.nc_search.specs.Untraced.{untraced}
-use Rattle.nc_theory.specs.Runs.{End}
-use Rattle.nc_top.proofs.BasisAnswers.{Known, basis_answer, err_or_ok, known, one_basis, prime_of, problem_of_text, same_problem}
+use Rattle.nc_theory.specs.Bases.{HasRepresentation}
+use Rattle.nc_theory.specs.Runs.{End, IsEnd}
+use Rattle.nc_top.proofs.BasisAnswers.{Known, basis_answer, ended_run, err_or_ok, known, one_basis, prime_of, problem_of_text, same_problem}
 use Rattle.nc_top.proofs.CheckAnswers.{check_answer, one_check}
+use Rattle.nc_top.proofs.MemberAnswers.{member_answer, one_member, same_claims}
+use Rattle.nc_top.proofs.Claims.{problem_is}
+use Rattle.nc_top.proofs.Remainders.{is_represented}
+use Rattle.nc_top.specs.Member.{IsClaimText, IsMember, IsMemberAnswer, IsNotBelow, IsRemainder, IsTooManyTermsOf, Remainder}
 use Rattle.nc_snapshot.specs.declared.outcome.Listed.{Listed}
 use Rattle.nc_top.specs.Basis.{IsBasis, IsComplete, IsProblemText, IsTooManyTerms, status_at}
-use Rattle.nc_top.specs.Laws.{CompleteRuns, FaultlessRuns, OneAnswer}
+use Rattle.nc_top.specs.Laws.{CompleteMembers, CompleteRuns, FaultlessRuns, OneAnswer}
 use Rattle.nc_top.specs.Run.{IsAnswer, IsReported, Runs}
 use Rattle.nc_top.specs.declared.status.Status.{Status}
-use Rattle.nc_top.specs.declared.status.Status.TheVariants.{Done, OutOfMemory, TooLarge, TooMany}
-use Rattle.std.proofs.Common.{List, None, Some, [], ap, append-nil, arith, codes, inl, inr, length, length-append, refl, subst, sym, ℕ, ◌+◌, ◌++◌, ◌∙◌, ◌<◌, ◌≡◌, ◌≤◌, ◌⊎◌}
+use Rattle.nc_top.specs.declared.status.Status.TheVariants.{BadText, Budget, Done, Invalid, NotBelow, OutOfMemory, ReadFault, TooLarge, TooMany, TooMuch, Usage, WriteFault}
+use Rattle.std.proofs.Common.{List, None, Some, [], ap, append-nil, arith, codes, inl, inr, length, length-append, refl, subst, subst₂, sym, ℕ, ◌+◌, ◌++◌, ◌∙◌, ◌<◌, ◌≡◌, ◌≤◌, ◌⊎◌}
 use Rattle.std.proofs.lemmas.Bool.{cases_lt}
 use Rattle.std.specs.declared.option.Option.{Option}
 
 pub one_answer : OneAnswer
 one_answer (Basis options) runs bytes = (basis_answer options bytes, one_basis options bytes)
-one_answer (Member options) runs bytes = absurd runs
+one_answer (Member options) runs bytes = (member_answer options bytes, one_member options bytes)
 one_answer Check runs bytes = (check_answer bytes, one_check bytes)
 one_answer (Demo options) runs bytes = absurd runs
 
@@ -34,7 +41,7 @@ one_answer (Demo options) runs bytes = absurd runs
 -- too many bytes are told as such, whatever the command
 large_answer : (options : Options) → Runs options → (bytes : List ℕ) → 16777216 < length bytes → IsAnswer options bytes TooLarge (codes "too large\n")
 large_answer (Basis options) runs bytes large = record { large = large; written = refl }
-large_answer (Member options) runs bytes large = absurd runs
+large_answer (Member options) runs bytes large = record { large = large; written = refl }
 large_answer Check runs bytes large = record { large = large; written = refl }
 large_answer (Demo options) runs bytes large = absurd runs
 
@@ -107,3 +114,79 @@ module _ (options : BasisOptions) (bytes : List ℕ) (P : NamedProblem) (text : 
 
 pub complete_runs : CompleteRuns
 complete_runs options bytes P text enough left_after written_before written_after source sink result ran = by_answer options bytes P text enough result written_before written_after (faultless_runs (Basis options) tt bytes left_after written_before written_after source sink result ran)
+
+-- ---- claims of problems with enough steps
+
+module _ (options : MemberOptions) (bytes : List ℕ) (P : NamedProblem) (claim : Polynomial) (text : IsClaimText bytes P claim) (enough : length (monomials_within P.problem.setting P.problem.bound (letters_of P.alphabet)) ≤ P.problem.steps) where
+  -- the claim has a representation within the bound
+  abbrev IsBelow : Type 0
+  IsBelow = HasRepresentation P.problem.setting (IsWithin P.problem) claim
+
+  module _ (r : Remainder) (is : IsRemainder bytes r) where
+    same : (r.problem ≡ P) × (r.claim ≡ claim)
+    same = same_claims bytes r.problem P r.claim claim is.text text
+
+    here : IsProblem r.problem
+    here = problem_is bytes r.problem r.claim is.text
+
+    member_complete : r.ending ≡ End.complete
+    member_complete = subst Ends (sym same.0) (λ at few ends. complete P at (prime_of P at) few r.handled (untraced r.run) r.ending (record { run = r.run; ends = ends; stands = refl })) here enough_there is.ends
+      where
+        Ends : NamedProblem → Type 0
+        Ends Q = IsProblem Q → length (monomials_within Q.problem.setting Q.problem.bound (letters_of Q.alphabet)) ≤ Q.problem.steps → IsEnd Q.problem r.handled r.run r.ending → r.ending ≡ End.complete
+
+        enough_there : length (monomials_within r.problem.problem.setting r.problem.problem.bound (letters_of r.problem.alphabet)) ≤ r.problem.problem.steps
+        enough_there = subst (λ (Q : NamedProblem). length (monomials_within Q.problem.setting Q.problem.bound (letters_of Q.alphabet)) ≤ Q.problem.steps) (sym same.0) enough
+
+    moved : HasRepresentation r.problem.problem.setting (IsWithin r.problem.problem) r.claim → IsBelow
+    moved has = subst₂ (λ (Q : NamedProblem) (f : Polynomial). HasRepresentation Q.problem.setting (IsWithin Q.problem) f) same.0 same.1 has
+
+    moved_back : IsBelow → HasRepresentation r.problem.problem.setting (IsWithin r.problem.problem) r.claim
+    moved_back has = subst₂ (λ (Q : NamedProblem) (f : Polynomial). HasRepresentation Q.problem.setting (IsWithin Q.problem) f) (sym same.0) (sym same.1) has
+
+    is_below : r.rest ≡ [] → IsBelow
+    is_below nothing = moved (is_represented r.problem here (ended_run r.problem.problem is.ends).1 r.claim r.rest r.steps is.reduces nothing)
+
+  abbrev IsDecided : Status → List ℕ → Type 0
+  IsDecided status report =
+      (IsBelow × (status ≡ Done) × IsMember options bytes report)
+      ⊎ ((IsBelow × ((named : Listed) × (terms : ℕ) × (status ≡ TooMany named terms) × IsTooManyTermsOf options bytes named terms report))
+      ⊎ (¬ IsBelow × (status ≡ NotBelow) × IsNotBelow bytes report))
+
+  done_below : (report : List ℕ) → IsMember options bytes report → IsBelow
+  done_below report (inl (form, t)) = is_below t.remainder t.is t.nothing
+  done_below report (inr (form, t)) = is_below t.remainder t.is t.nothing
+
+  decided : (status : Status) (report : List ℕ) → IsMemberAnswer options bytes status report → IsDecided status report
+  decided Done report h = inl (done_below report h, refl, h)
+  decided (TooMany named terms) report h = inr (inl (is_below h.1.remainder h.1.is h.1.nothing, (named, terms, refl, h)))
+  decided NotBelow report h = inr (inr (λ has. h.none (moved_back h.remainder h.is has), refl, h))
+  decided Budget report h = let both : End.complete ≡ End.budget h.next = sym (member_complete h.remainder h.is) ∙ h.budget in absurd cc
+  decided (BadText line kind) report h = absurd (err_or_ok (sym h.read ∙ text.read))
+  decided TooLarge report h = absurd (omega (arith, h.large, text.small))
+  decided Invalid report h = absurd h
+  decided (TooMuch line charge) report h = absurd h
+  decided Usage report h = absurd h
+  decided ReadFault report h = absurd h
+  decided WriteFault report h = absurd h
+  decided OutOfMemory report h = absurd h
+
+  module _ (result : Status) (written_before written_after : Option (List ℕ)) where
+    abbrev Decides : Type 0
+    Decides =
+        ((result ≡ OutOfMemory) × Adds written_before written_after [])
+        ⊎ ((IsBelow × (result ≡ Done) × ((report : List ℕ) × IsMember options bytes report × Adds written_before written_after report))
+        ⊎ ((IsBelow × ((named : Listed) × (terms : ℕ) × (result ≡ TooMany named terms) × ((report : List ℕ) × IsTooManyTermsOf options bytes named terms report × Adds written_before written_after report)))
+        ⊎ (¬ IsBelow × (result ≡ NotBelow) × ((report : List ℕ) × IsNotBelow bytes report × Adds written_before written_after report))))
+
+    by_decided : (report : List ℕ) → Adds written_before written_after report → IsDecided result report → Decides
+    by_decided report adds (inl (has, told, h)) = inr (inl (has, told, (report, h, adds)))
+    by_decided report adds (inr (inl (has, (named, terms, told, h)))) = inr (inr (inl (has, (named, terms, told, (report, h, adds)))))
+    by_decided report adds (inr (inr (none, told, h))) = inr (inr (inr (none, told, (report, h, adds))))
+
+    by_member : ((result ≡ OutOfMemory) × Adds written_before written_after []) ⊎ ((report : List ℕ) × IsAnswer (Member options) bytes result report × Adds written_before written_after report) → Decides
+    by_member (inl memory) = inl memory
+    by_member (inr (report, a, adds)) = by_decided report adds (decided result report a)
+
+pub complete_members : CompleteMembers
+complete_members options bytes P claim text enough left_after written_before written_after source sink result ran = by_member options bytes P claim text enough result written_before written_after (faultless_runs (Member options) tt bytes left_after written_before written_after source sink result ran)

@@ -39,7 +39,7 @@ use Rattle.nc_top.specs.Basis.{AreLabelled, AreShort, AreShown, IsBasis, IsBasis
 use Rattle.nc_top.specs.Inputs.{IsBadText, IsTooLarge}
 use Rattle.nc_top.specs.Reports.{bad_text_report, basis_report, cofactor_lines, entry_lines, syzygy_lines, too_many_report}
 use Rattle.nc_top.specs.declared.status.Status.{Status}
-use Rattle.nc_top.specs.declared.status.Status.TheVariants.{BadText, Budget, Done, Invalid, OutOfMemory, ReadFault, TooLarge, TooMany, TooMuch, Usage, WriteFault}
+use Rattle.nc_top.specs.declared.status.Status.TheVariants.{BadText, Budget, Done, Invalid, NotBelow, OutOfMemory, ReadFault, TooLarge, TooMany, TooMuch, Usage, WriteFault}
 use Rattle.std.proofs.Common.{Err, List, None, Ok, Option, Some, [], ap, ap₂, arith, codes, false, get_or, inl, inr, length, refl, slice_get, subst, subst₂, suc, sym, ℕ, ◌+◌, ◌++◌, ◌-◌, ◌∙◌, ◌∷◌, ◌<◌, ◌≡◌, ◌≤◌, ◌⊎◌}
 use Rattle.std.proofs.lemmas.Bool.{cases_lt}
 use Rattle.std.proofs.lemmas.Option.{slice_get_cases, slice_get_within}
@@ -191,6 +191,7 @@ known options bytes (BadText line kind) report h = Known.is_bad line kind h
 known options bytes TooLarge report h = Known.is_large h
 known options bytes (TooMany named terms) report h = Known.is_many named terms h
 known options bytes Invalid report h = absurd h
+known options bytes NotBelow report h = absurd h
 known options bytes (TooMuch line charge) report h = absurd h
 known options bytes Usage report h = absurd h
 known options bytes ReadFault report h = absurd h

@@ -14,7 +14,7 @@ use Rattle.nc_cert.specs.Checking.{certificate_charges}
 use Rattle.nc_top.specs.Check.{IsCheckAnswer, IsText, IsWithinWork}
 use Rattle.nc_top.specs.Reports.{bad_text_report, invalid_report, too_much_report}
 use Rattle.nc_top.specs.declared.status.Status.{Status}
-use Rattle.nc_top.specs.declared.status.Status.TheVariants.{BadText, Budget, Done, Invalid, OutOfMemory, ReadFault, TooLarge, TooMany, TooMuch, Usage, WriteFault}
+use Rattle.nc_top.specs.declared.status.Status.TheVariants.{BadText, Budget, Done, Invalid, NotBelow, OutOfMemory, ReadFault, TooLarge, TooMany, TooMuch, Usage, WriteFault}
 use Rattle.std.proofs.Common.{Bool, Err, List, None, Ok, Some, [], ap, ap₂, codes, false, if◌then◌else◌, inl, inr, length, nat_lt, refl, subst, sym, true, ℕ, ◌∙◌, ◌∷◌, ◌<◌, ◌≡◌, ◌≤◌, ◌⊎◌}
 use Rattle.std.proofs.lemmas.Bool.{cases_lt, le-ltb, lt-ltb}
 use Rattle.std.specs.declared.option.Option.{Option}
@@ -127,6 +127,7 @@ told_by_functions bytes Invalid report h = invalid_told bytes report h
 told_by_functions bytes (BadText line kind) report h = bad_text_told bytes line kind report h
 told_by_functions bytes TooLarge report h = many_told bytes TooLarge report h.large refl h.written
 told_by_functions bytes (TooMuch line charge) report h = much_told bytes line charge report h
+told_by_functions bytes NotBelow report h = absurd h
 told_by_functions bytes Budget report h = absurd h
 told_by_functions bytes (TooMany named terms) report h = absurd h
 told_by_functions bytes Usage report h = absurd h

@@ -6,3 +6,10 @@ pub mod Numbered
 pub mod Showing
 pub mod Limits
 pub mod Ending
+pub mod Claims
+pub mod Needed
+pub mod Sums
+pub mod MemberEnds
+pub mod MemberLines
+pub mod Remainders
+pub mod MemberAnswers

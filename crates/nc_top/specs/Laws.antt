@@ -1,16 +1,20 @@
 -- The laws that the functions of this crate carry.
 use Rattle.nc_algebra.specs.Finite.{monomials_within}
-use Rattle.nc_algebra.specs.Problems.{NamedProblem}
+use Rattle.nc_algebra.specs.Polynomials.{Polynomial}
+use Rattle.nc_algebra.specs.Problems.{IsWithin, NamedProblem}
 use Rattle.nc_io.specs.Adds.{Adds}
 use Rattle.nc_options.specs.declared.options.BasisOptions.{BasisOptions}
+use Rattle.nc_options.specs.declared.options.MemberOptions.{MemberOptions}
 use Rattle.nc_options.specs.declared.options.Options.{Options}
-use Rattle.nc_options.specs.declared.options.Options.TheVariants.{Basis}
+use Rattle.nc_options.specs.declared.options.Options.TheVariants.{Basis, Member}
 use Rattle.nc_search.specs.Named.{letters_of}
 use Rattle.nc_snapshot.specs.declared.outcome.Listed.{Listed}
 use Rattle.nc_top.specs.Basis.{IsComplete, IsProblemText, IsTooManyTerms}
+use Rattle.nc_theory.specs.Bases.{HasRepresentation}
+use Rattle.nc_top.specs.Member.{IsClaimText, IsMember, IsNotBelow, IsTooManyTermsOf}
 use Rattle.nc_top.specs.Run.{IsAnswer, Ran, Runs}
 use Rattle.nc_top.specs.declared.status.Status.{Status}
-use Rattle.nc_top.specs.declared.status.Status.TheVariants.{Done, OutOfMemory, TooMany}
+use Rattle.nc_top.specs.declared.status.Status.TheVariants.{Done, NotBelow, OutOfMemory, TooMany}
 use Rattle.std.specs.Prelude.{List, Some, [], length, ℕ, ◌≡◌, ◌≤◌, ◌⊎◌}
 use Rattle.std.specs.declared.option.Option.{Option}
 
@@ -36,3 +40,15 @@ CompleteRuns = (options : BasisOptions) (bytes : List ℕ) (P : NamedProblem) �
     → ((result ≡ OutOfMemory) × Adds written_before written_after [])
     ⊎ (((result ≡ Done) × ((report : List ℕ) × IsComplete options bytes report × Adds written_before written_after report))
     ⊎ ((named : Listed) × (terms : ℕ) × (result ≡ TooMany named terms) × ((report : List ℕ) × IsTooManyTerms options bytes named terms report × Adds written_before written_after report)))
+
+-- and so for a problem with a claim: `member` answers with a certificate of the claim, or names a label that has too many terms, where
+-- the claim has a representation within the bound, and tells that it has none where it has none
+abbrev pub CompleteMembers : Type 0
+CompleteMembers = (options : MemberOptions) (bytes : List ℕ) (P : NamedProblem) (claim : Polynomial) → IsClaimText bytes P claim
+    → length (monomials_within P.problem.setting P.problem.bound (letters_of P.alphabet)) ≤ P.problem.steps
+    → (left_after written_before written_after : Option (List ℕ)) (source sink : ℕ) (result : Status)
+    → Ran (Member options) (Some bytes) left_after written_before written_after source source sink sink result
+    → ((result ≡ OutOfMemory) × Adds written_before written_after [])
+    ⊎ ((HasRepresentation P.problem.setting (IsWithin P.problem) claim × (result ≡ Done) × ((report : List ℕ) × IsMember options bytes report × Adds written_before written_after report))
+    ⊎ ((HasRepresentation P.problem.setting (IsWithin P.problem) claim × ((named : Listed) × (terms : ℕ) × (result ≡ TooMany named terms) × ((report : List ℕ) × IsTooManyTermsOf options bytes named terms report × Adds written_before written_after report)))
+    ⊎ (¬ HasRepresentation P.problem.setting (IsWithin P.problem) claim × (result ≡ NotBelow) × ((report : List ℕ) × IsNotBelow bytes report × Adds written_before written_after report))))

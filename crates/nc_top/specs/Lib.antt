@@ -3,6 +3,7 @@ pub mod Reports
 pub mod Inputs
 pub mod Check
 pub mod Basis
+pub mod Member
 pub mod Shown
 pub mod Run
 pub mod Laws

@@ -3,13 +3,16 @@
 --   bad_text_report    what is written for a text that is not what the command reads
 --   too_much_report    what is written for a certificate that asks for too much work
 --   too_many_report    what is written where a label has more terms than the limit
+--   not_below_report   what is written where a claim has no representation within the bound
+--   undecided_report   what is written where the steps were used up and something is left of a claim
 --   basis_report       what is written of a run of a problem: its end, its counts, its entries and its syzygies, with what is
 --                      shown of their cofactors
 use Rattle.nc_algebra.specs.Polynomials.{Polynomial}
 use Rattle.nc_algebra.specs.Elements.{Element}
+use Rattle.nc_algebra.specs.Monomials.{Monomial}
 use Rattle.nc_options.specs.declared.options.Cofactors.{Cofactors}
 use Rattle.nc_options.specs.declared.options.Cofactors.TheVariants.{Full, Omitted, Trace as TraceOf}
-use Rattle.nc_print.specs.Printing.{module_text, poly_text}
+use Rattle.nc_print.specs.Printing.{module_text, poly_text, sig_text}
 use Rattle.nc_report.specs.Reports.{entry_line, run_report, syzygy_line}
 use Rattle.nc_report.specs.Traces.{trace_text}
 use Rattle.nc_snapshot.specs.declared.outcome.Listed.{Listed}
@@ -29,6 +32,20 @@ bad_text_report line kind = codes "bad text line " ++ (decimal line ++ (codes " 
 -- the line of the first part that passes the limit on work, and the charge up to it
 abbrev pub too_much_report : ℕ → ℕ → List ℕ
 too_much_report line charge = codes "too much work: line " ++ (decimal line ++ (codes " needs " ++ (decimal charge ++ codes "\n")))
+
+-- ---- claims
+
+-- what is left of the claim
+abbrev pub remainder_line : List (List ℕ) → Polynomial → List ℕ
+remainder_line names rest = codes "remainder " ++ (poly_text names rest ++ codes "\n")
+
+-- the claim has no representation below the bound
+abbrev pub not_below_report : List (List ℕ) → Polynomial → List ℕ
+not_below_report names rest = codes "no representation below the bound\n" ++ remainder_line names rest
+
+-- the next signature, and what is left of the claim
+abbrev pub undecided_report : List (List ℕ) → Monomial → Polynomial → List ℕ
+undecided_report names next rest = codes "undecided\nnext " ++ (sig_text names next ++ (codes "\n" ++ remainder_line names rest))
 
 -- ---- runs
 

@@ -15,15 +15,16 @@ use Rattle.nc_options.specs.declared.options.Options.{Options}
 use Rattle.nc_options.specs.declared.options.Options.TheVariants.{Basis, Check, Demo, Member}
 use Rattle.nc_top.specs.Basis.{IsBasisAnswer}
 use Rattle.nc_top.specs.Check.{IsCheckAnswer}
+use Rattle.nc_top.specs.Member.{IsMemberAnswer}
 use Rattle.nc_top.specs.declared.status.Status.{Status}
 use Rattle.nc_top.specs.declared.status.Status.TheVariants.{OutOfMemory, ReadFault, Usage, WriteFault}
 use Rattle.std.specs.Prelude.{List, Some, [], codes, ℕ, ◌≡◌, ◌⊎◌}
 use Rattle.std.specs.declared.option.Option.{Option}
 
--- `basis` and `check`
+-- `basis`, `member` and `check`
 abbrev pub Runs : Options → Type 0
 Runs (Basis options) = Unit {0}
-Runs (Member options) = ⊥
+Runs (Member options) = Unit {0}
 Runs Check = Unit {0}
 Runs (Demo options) = ⊥
 
@@ -38,7 +39,7 @@ IsRun words = (options : Options) × IsCommand words options
 -- status and report for the bytes of an input
 abbrev pub IsAnswer : Options → List ℕ → Status → List ℕ → Type 0
 IsAnswer (Basis options) bytes status report = IsBasisAnswer options bytes status report
-IsAnswer (Member options) bytes status report = ⊥
+IsAnswer (Member options) bytes status report = IsMemberAnswer options bytes status report
 IsAnswer Check bytes status report = IsCheckAnswer bytes status report
 IsAnswer (Demo options) bytes status report = ⊥
 

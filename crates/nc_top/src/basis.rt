@@ -25,7 +25,11 @@ use std::alloc::{AllocError, Global};
 use std::sync::Arc;
 
 /// The run of the problem at its end.
-fn run_problem(alloc: Global, problem: Problem, window: u32) -> Result<Finished, AllocError>
+pub(crate) fn run_problem(
+    alloc: Global,
+    problem: Problem,
+    window: u32,
+) -> Result<Finished, AllocError>
     requires some { 1 ≤ window }
     requires few { window ≤ 4096 }
     ensures problem { IfOk result (λ f. f.snapshot.problem ≡ problem) }
@@ -88,7 +92,11 @@ fn shown_of(
 }
 
 /// The report where the label of an item has too many terms.
-fn too_many_report(alloc: Global, listed: Listed, terms: u64) -> Result<Vec<u8>, AllocError>
+pub(crate) fn too_many_report(
+    alloc: Global,
+    listed: Listed,
+    terms: u64,
+) -> Result<Vec<u8>, AllocError>
     ensures { IfOk result (λ report. report.items ≡ too_many_report listed terms) }
 {
     let mut numbers = Buffer::new();

@@ -1,13 +1,15 @@
-//! The commands of the program: the basis of a problem, the check of a certificate, and the run over a source and a sink.
+//! The commands of the program: the basis of a problem, the membership of a claim, the check of a certificate, and the run
+//! over a source and a sink.
 #![tactic(auto)]
 
-ghost use Rattle.nc_top.specs.Laws.{CompleteRuns, FaultlessRuns, OneAnswer};
+ghost use Rattle.nc_top.specs.Laws.{CompleteMembers, CompleteRuns, FaultlessRuns, OneAnswer};
 
 mod basis;
 mod check;
 mod input;
 mod item;
 mod listing;
+mod member;
 mod run;
 mod shown;
 mod status;
@@ -28,6 +30,13 @@ pub fn faultless_runs()
 /// A problem that allows as many steps as its bound has module monomials is answered with the whole report, or with a label that has too many terms.
 pub fn complete_runs()
     ensures { CompleteRuns }
+{}
+
+/// A problem with a claim that allows as many steps as its bound has module monomials is decided: `member` answers with a
+/// representation of the claim, or names a label that has too many terms, where there is one within the bound, and else that
+/// there is none.
+pub fn complete_members()
+    ensures { CompleteMembers }
 {}
 
 #[cfg(test)]

@@ -7,6 +7,7 @@ ghost use Rattle.std.specs.Prelude.{IfOk, IsTrue, codes, length, map, string_byt
 
 use crate::basis::answer_basis;
 use crate::check::answer_check;
+use crate::member::answer_member;
 use crate::status::Status;
 use nc_io::{Fault, Sink, Source, put_whole, take_whole};
 use nc_options::{Options, OptionsError, options_are_in_range, read_options};
@@ -26,8 +27,9 @@ fn answer_text(
 {
     match options {
         Options::Basis(options) => answer_basis(alloc, bytes, options),
+        Options::Member(options) => answer_member(alloc, bytes, options),
         Options::Check => answer_check(alloc, bytes),
-        Options::Member(_) | Options::Demo(_) => unreachable!(),
+        Options::Demo(_) => unreachable!(),
     }
 }
 
@@ -87,8 +89,8 @@ fn runs(options: Options) -> bool
     ensures { IsTrue result ↔ Runs options }
 {
     match options {
-        Options::Basis(_) | Options::Check => true,
-        Options::Member(_) | Options::Demo(_) => false,
+        Options::Basis(_) | Options::Member(_) | Options::Check => true,
+        Options::Demo(_) => false,
     }
 }
 

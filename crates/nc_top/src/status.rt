@@ -8,14 +8,20 @@ use nc_snapshot::Listed;
 /// How a run ended.
 #[derive(Clone, Copy, Debug, PartialEq, Eq)]
 pub enum Status {
-    /// `basis`: the run is complete; the report lists what it found. `check`: the certificate is valid.
+    /// `basis`: the run is complete; the report lists what it found. `member`: the claim has a representation within the
+    /// bound; the report is a certificate of it. `check`: the certificate is valid.
     Done,
     /// The certificate is not valid; the report has the rest of the claim.
     Invalid,
-    /// The steps of the problem were used up before its run was complete; the report names the next signature and lists what
-    /// was found.
+    /// `member`: the claim has no representation within the bound; the report has what is left of it.
+    NotBelow,
+    /// The steps of the problem were used up before its run was complete. `basis`: the report names the next signature and
+    /// lists what was found. `member`: something is left of the claim; the report names the next signature and has what is
+    /// left.
     Budget,
     /// `basis --cofactors full`: the label of this entry or syzygy has so many terms, more than the limit; no other is told.
+    /// `member --form 1`: the label of this entry that the representation of the claim needs has, or the representation
+    /// itself.
     TooMany { listed: Listed, terms: u64 },
     /// Checking the certificate asks for more work than the limit: the line of the first part that passes it, and the
     /// charge up to that part.
@@ -40,7 +46,7 @@ pub fn code_of(status: Status) -> u8
 {
     match status {
         Status::Done => 0,
-        Status::Invalid => 1,
+        Status::Invalid | Status::NotBelow => 1,
         Status::Usage => 2,
         Status::BadText { .. } | Status::TooLarge => 3,
         Status::Budget | Status::TooMany { .. } | Status::TooMuch { .. } => 4,

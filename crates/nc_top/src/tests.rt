@@ -6,6 +6,7 @@ use std::test::Fail;
 
 mod basis;
 mod cofactors;
+mod member;
 
 const HEAD: &str = "certificate 1\nfield 101\nletters x y\ngenerator x\ngenerator x + 1\n";
 
@@ -497,7 +498,8 @@ fn other_words_are_usage(rt: HostRuntime) -> Result<(), Fail> {
         "basis --workers 0",
         "basis --limit +5",
         "basis -- x",
-        "member",
+        "member --form 3",
+        "member x",
         "demo 1",
         "unknown",
     ] {
@@ -568,6 +570,7 @@ fn statuses_have_their_codes(rt: HostRuntime) {
     for (status, code) in [
         (Status::Done, 0),
         (Status::Invalid, 1),
+        (Status::NotBelow, 1),
         (Status::Usage, 2),
         (Status::BadText { line: 7, kind: 2 }, 3),
         (Status::TooLarge, 3),

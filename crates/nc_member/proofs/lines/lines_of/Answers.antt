@@ -1,5 +1,5 @@
 use Rattle.nc_member.proofs.Needed.{no_lines}
-use Rattle.std.proofs.Common.{[], length, sym, ◌∙◌, ◌≡◌}
+use Rattle.std.proofs.Common.{length, sym, ◌∙◌, ◌≡◌}
 use Rattle.std.proofs.lemmas.Bool.{eqb-true}
 use Rattle.std.proofs.lemmas.List.{nil_from_length}
 use Rattle.nc_member.proofs.lines.lines_of.Goals as goal

@@ -2,7 +2,6 @@ use Rattle.nc_cofactor.specs.Claims.{AreNeededTraces, numbers_of}
 use Rattle.nc_member.proofs.Needed.{subtracted_named, usable}
 use Rattle.nc_member.specs.Found.{AreUsable}
 use Rattle.nc_snapshot.specs.Snapshots.{Snapshot}
-use Rattle.nc_theory.specs.States.{Trace}
 use Rattle.std.proofs.Common.{List, length, subst, sym, ℕ, ◌∙◌, ◌≡◌, ◌≤◌}
 use Rattle.std.proofs.lemmas.Result.{IfOk-weaker}
 use Rattle.std.specs.List.{All}

@@ -2,7 +2,6 @@ use Rattle.nc_algebra.specs.Polynomials.{Polynomial}
 use Rattle.nc_cofactor.specs.Claims.{IsRepresentation}
 use Rattle.nc_member.proofs.Ends.{represented, undecided, unrepresented}
 use Rattle.nc_member.specs.Members.{IsMember, IsRestOf}
-use Rattle.nc_member.specs.declared.membership.Membership.{Membership}
 use Rattle.nc_snapshot.specs.Snapshots.{IsSnapshot, Snapshot}
 use Rattle.nc_theory.specs.States.{Step}
 use Rattle.std.proofs.Common.{List, [], ap, refl, subst, sym, ◌∙◌, ◌≡◌}

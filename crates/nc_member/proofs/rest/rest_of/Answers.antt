@@ -1,4 +1,3 @@
-use Rattle.nc_algebra.specs.Elements.{Setting}
 use Rattle.nc_algebra.specs.Problems.{IsWithin}
 use Rattle.nc_member.proofs.Ends.{rest_at}
 use Rattle.nc_member.proofs.Letters.{claim_small}
