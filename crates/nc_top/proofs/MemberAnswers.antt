@@ -253,6 +253,7 @@ module _ (options : MemberOptions) (bytes : List ℕ) (r : Remainder) (is : IsRe
                 are = refl;
                 keeps = record { setting = problem.setting; claim = claim_in bytes r.problem r.claim is.text; lines = holds.0 };
                 valid = holds.1;
+                has = holds.2;
               }) refl,
             )
 

@@ -102,6 +102,7 @@ module _ (s : Snapshot) (h : IsSnapshot s) (ending : End) (e : IsEndAt s ending)
       are = proved.are;
       keeps = record { setting = h.problem.setting; claim = claim_in bytes s.problem claim text; lines = proved.keeps };
       valid = proved.valid;
+      has = proved.has;
     }
 
     module _ (setting : NamedSetting) (same : setting ≡ setting_of s.problem) where

@@ -68,13 +68,14 @@ abbrev pub certificate_with : Remainder → List Line → Certificate
 certificate_with r lines = record { setting = setting_of r.problem; claim = r.claim; lines = lines }
 
 -- the lines are those of the entries that are needed, by their traces, and that of what was subtracted; they keep the rule of
--- certificates, and the claim is their value
+-- certificates, and the claim is their value, which has a representation within the bound
 pub record AreProof (r : Remainder) (needed : List (ℕ × Trace)) (lines : List Line) : Type 0 where
   pub lists : ListsNeeded r.run.entries (numbers_of r.steps) (map (λ x. x.0) needed)
   pub traces : All (λ x. IsTraceIn r.run (EntryOf x.0) x.1) needed
   pub are : lines ≡ proof_lines r.problem.problem.setting.prime needed r.steps
   pub keeps : IsCertificate (certificate_with r lines)
   pub valid : IsValid r.problem.problem.setting r.claim lines
+  pub has : HasRepresentation r.problem.problem.setting (IsWithin r.problem.problem) r.claim
 
 -- nothing is left of the claim, and the report is the certificate with the lines that prove it
 pub record IsLines (bytes report : List ℕ) : Type 0 where
