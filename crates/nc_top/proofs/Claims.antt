@@ -3,7 +3,7 @@ use Rattle.nc_algebra.proofs.Alphabets.{text_word_light}
 use Rattle.nc_algebra.proofs.Finite.{over-append, over_back, over_front}
 use Rattle.nc_algebra.proofs.Monomials.{monomial_laws}
 use Rattle.nc_algebra.proofs.Sums.{at_other, key_dec, zero_number}
-use Rattle.nc_algebra.specs.Alphabets.{Alphabet, AreWordsIn, IsPolynomialIn, IsTextPolynomial, IsTextWord, IsLetterIn, IsWordIn, letter_at}
+use Rattle.nc_algebra.specs.Alphabets.{Alphabet, IsPolynomialIn, IsTextPolynomial, IsTextWord, IsLetterIn, IsWordIn, letter_at}
 use Rattle.nc_algebra.specs.Elements.{Element, IsLess, IsZeroPolynomial, Setting, WordsAre, element_times, generator, generator_weight}
 use Rattle.nc_algebra.specs.Finite.{IsOver}
 use Rattle.nc_algebra.specs.Monomials.{Monomial, Sig, monomial_of, same_monomial}

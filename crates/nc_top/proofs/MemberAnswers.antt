@@ -1,11 +1,9 @@
 -- The answer of `member` by its bytes.
-use Rattle.nc_algebra.proofs.Orders.{Decided, nat_order}
+use Rattle.nc_algebra.proofs.Orders.{Decided}
 use Rattle.nc_algebra.specs.Certificates.{Line}
-use Rattle.nc_algebra.specs.Elements.{IsIn, SamePolynomial, Setting, evaluation}
 use Rattle.nc_algebra.specs.Lists.{Among}
 use Rattle.nc_algebra.specs.Monomials.{Monomial, Sig}
 use Rattle.nc_algebra.specs.Polynomials.{Polynomial}
-use Rattle.nc_algebra.specs.Primes.{IsPrime}
 use Rattle.nc_algebra.specs.Problems.{IsProblem, IsWithin, NamedProblem, setting_of}
 use Rattle.nc_algebra.specs.Sums.{Term}
 use Rattle.nc_cofactor.proofs.Existence.{sum_exists}
@@ -33,11 +31,11 @@ use Rattle.nc_top.proofs.Needed.{AreListed, needed_dec, needed_list, needed_once
 use Rattle.nc_top.proofs.Remainders.{not_represented, rest_exists, rest_once, terms_evaluate, terms_lie}
 use Rattle.nc_top.proofs.Sums.{first_or_within, never_both, too_many_once}
 use Rattle.nc_top.specs.Inputs.{IsBadText, IsTooLarge}
-use Rattle.nc_top.specs.Member.{AreProof, IsClaimText, IsLines, IsMember, IsMemberAnswer, IsNotBelow, IsRemainder, IsRepresentation, IsTerms, IsTooManyInSum, IsTooManyTermsOf, IsUndecided, Remainder, certificate_with, reads_claim}
+use Rattle.nc_top.specs.Member.{AreProof, IsClaimText, IsLines, IsMember, IsMemberAnswer, IsRemainder, IsRepresentation, IsTerms, Remainder, certificate_with, reads_claim}
 use Rattle.nc_top.specs.Reports.{bad_text_report, not_below_report, too_many_report, undecided_report}
 use Rattle.nc_top.specs.declared.status.Status.{Status}
 use Rattle.nc_top.specs.declared.status.Status.TheVariants.{BadText, Budget, Done, Invalid, NotBelow, OutOfMemory, ReadFault, TooLarge, TooMany, TooMuch, Usage, WriteFault}
-use Rattle.std.proofs.Common.{Err, List, None, Ok, Option, Some, [], ap, ap₂, arith, codes, inl, inr, length, map, refl, subst, subst₂, sym, ℕ, ◌<◌, ◌∙◌, ◌∷◌, ◌≡◌, ◌≢◌, ◌≤◌, ◌⊎◌}
+use Rattle.std.proofs.Common.{Err, List, None, Ok, Option, Some, [], ap, ap₂, arith, codes, inl, inr, length, refl, subst, subst₂, sym, ℕ, ◌<◌, ◌∙◌, ◌∷◌, ◌≡◌, ◌≢◌, ◌≤◌, ◌⊎◌}
 use Rattle.std.proofs.lemmas.Bool.{cases_lt}
 use Rattle.std.specs.declared.result.Result.{Result}
 

@@ -1,15 +1,13 @@
 -- The answer of `member` from the end of a run.
 use Rattle.nc_algebra.specs.Certificates.{Line}
-use Rattle.nc_algebra.specs.Monomials.{Monomial, Sig, monomial_of}
+use Rattle.nc_algebra.specs.Monomials.{Monomial, Sig}
 use Rattle.nc_algebra.specs.Polynomials.{Polynomial}
-use Rattle.nc_algebra.specs.Problems.{IsWithin, NamedProblem, setting_of}
+use Rattle.nc_algebra.specs.Problems.{IsWithin, setting_of}
 use Rattle.nc_algebra.specs.Settings.{NamedSetting}
 use Rattle.nc_algebra.specs.Sums.{Term}
 use Rattle.nc_cofactor.specs.Claims.{AreWithinLimit, IsTooManyFor, ListsNeeded, numbers_of}
 use Rattle.nc_cofactor.specs.Sums.{IsSum}
 use Rattle.nc_cofactor.specs.Traces.{IsTraceIn}
-use Rattle.nc_cofactor.specs.declared.fault.CofactorFault.{CofactorFault}
-use Rattle.nc_cofactor.specs.declared.fault.CofactorFault.TheVariants.{TooMany}
 use Rattle.nc_desk.specs.Ends.{IsEndAt}
 use Rattle.nc_member.specs.Members.{IsOpen, IsProved, IsRepresented, IsRestOf, IsTooManyOf, IsUnrepresented}
 use Rattle.nc_module.specs.Modules.{element_of}
@@ -21,13 +19,12 @@ use Rattle.nc_snapshot.specs.declared.outcome.Listed.TheVariants.{Entry as Entry
 use Rattle.nc_theory.specs.Labels.{labels_of, step_multiples}
 use Rattle.nc_theory.specs.Reductions.{Reduction}
 use Rattle.nc_theory.specs.Runs.{End, SequentialRun}
-use Rattle.nc_theory.specs.States.{State, Step, Trace}
+use Rattle.nc_theory.specs.States.{State, Step}
 use Rattle.nc_top.proofs.BasisAnswers.{ended_run}
-use Rattle.nc_top.proofs.Claims.{claim_in, claim_named, problem_is, rest_named, terms_left, terms_right}
+use Rattle.nc_top.proofs.Claims.{claim_in, claim_named, rest_named, terms_left, terms_right}
 use Rattle.nc_top.proofs.Showing.{one_run}
-use Rattle.nc_top.specs.Member.{AreProof, IsClaimText, IsLines, IsNotBelow, IsRemainder, IsRepresentation, IsTerms, IsTooManyInSum, IsUndecided, Remainder}
+use Rattle.nc_top.specs.Member.{AreProof, IsClaimText, IsLines, IsNotBelow, IsRemainder, IsTerms, IsTooManyInSum, IsUndecided, Remainder}
 use Rattle.nc_top.specs.Reports.{not_below_report, too_many_report, undecided_report}
-use Rattle.nc_top.specs.Shown.{IsRunAt}
 use Rattle.std.proofs.Common.{All, List, Option, [], ap, length, map, refl, subst, sym, ℕ, ◌++◌, ◌<◌, ◌∙◌, ◌≡◌}
 
 -- what is written into a report that is empty

@@ -1,7 +1,6 @@
 -- Which label has too many terms for a representation: there is a first one, or none, and one alone.
 use Rattle.nc_algebra.proofs.Orders.{Decided, least, nat_order}
 use Rattle.nc_algebra.specs.Elements.{Element, Setting}
-use Rattle.nc_algebra.specs.Primes.{IsPrime}
 use Rattle.nc_cofactor.proofs.Existence.{terms_exist}
 use Rattle.nc_cofactor.proofs.Terms.{terms_once}
 use Rattle.nc_cofactor.specs.Claims.{AreWithinLimit, IsNeededFor, IsTooManyFor, numbers_of}

@@ -6,10 +6,10 @@
 --   IsRepresentation   the module element that does
 --   IsMemberAnswer     status and report for the bytes of an input
 use Rattle.nc_algebra.specs.Certificates.{Certificate, IsCertificate, IsValid, Line}
-use Rattle.nc_algebra.specs.Elements.{IsIn, SamePolynomial, Setting, evaluation}
+use Rattle.nc_algebra.specs.Elements.{IsIn, SamePolynomial, evaluation}
 use Rattle.nc_algebra.specs.Monomials.{Monomial, Sig}
 use Rattle.nc_algebra.specs.Polynomials.{Polynomial}
-use Rattle.nc_algebra.specs.Problems.{IsWithin, NamedProblem, Problem, setting_of}
+use Rattle.nc_algebra.specs.Problems.{IsWithin, NamedProblem, setting_of}
 use Rattle.nc_algebra.specs.Sums.{Term}
 use Rattle.nc_cofactor.specs.Claims.{AreWithinLimit, IsTooManyFor, ListsNeeded, numbers_of}
 use Rattle.nc_cofactor.specs.Sums.{IsSum}

@@ -2,7 +2,7 @@ use Rattle.nc_print.specs.Printing.{certificate_text}
 use Rattle.nc_algebra.specs.Problems.{NamedProblem, setting_of}
 use Rattle.nc_snapshot.specs.Snapshots.{IsSnapshot, Snapshot}
 use Rattle.nc_top.proofs.MemberEnds.{lines_at, lines_claim, lines_left, lines_right, written_new}
-use Rattle.std.proofs.Common.{ap, inl, inr, subst, ◌∙◌}
+use Rattle.std.proofs.Common.{ap, inr, subst, ◌∙◌}
 use Rattle.nc_top.proofs.member.answer_lines.Goals as goal
 
 pub write_proof-requires-clause-claim : goal.write_proof-requires-clause-claim

@@ -3,7 +3,7 @@ use Rattle.nc_print.specs.Printing.{terms_text}
 use Rattle.nc_algebra.specs.Problems.{NamedProblem, setting_of}
 use Rattle.nc_snapshot.specs.Snapshots.{IsSnapshot, Snapshot}
 use Rattle.nc_top.proofs.MemberEnds.{terms_at, terms_claim, terms_on_left, terms_on_right, written_new}
-use Rattle.std.proofs.Common.{ap, inl, inr, subst, ◌∙◌}
+use Rattle.std.proofs.Common.{ap, inl, subst, ◌∙◌}
 use Rattle.nc_top.proofs.member.answer_terms.Goals as goal
 
 pub write_terms-requires-clause-claim : goal.write_terms-requires-clause-claim
