@@ -12,6 +12,10 @@ const HEAD: &str = "certificate 1\nfield 101\nletters x y\ngenerator x\ngenerato
 
 const TERMS: &str = "claim y\nterm 1 1 [2] y\nterm 100 1 [1] y\nend\n";
 
+/// Uniqueness of the Moore-Penrose inverse, to degree 5.
+const INVERSES: &str =
+    "field 32003\nletters a b c p q r\ngenerator a*b*a - a\ngenerator b*a*b - b\ngenerator a*c*a - a\ngenerator c*a*c - c\ngenerator q*p - a*b\ngenerator p*q - b*a\ngenerator r*p - a*c\ngenerator p*r - c*a\ngenerator p*q*p - p\ngenerator q*p*q - q\ngenerator p*r*p - p\ngenerator r*p*r - r\nbound degree 5\nclaim b - c\n";
+
 /// A source of bytes that gives seven at a time, and fails at the calls that are listed.
 fn source_of(alloc: Global, bytes: &[u8], failing: &[u64]) -> Result<MemorySource, Fail> {
     Ok(MemorySource {

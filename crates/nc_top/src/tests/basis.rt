@@ -116,10 +116,6 @@ fn steps_are_a_budget(rt: HostRuntime) -> Result<(), Fail> {
     Ok(())
 }
 
-/// Uniqueness of the Moore-Penrose inverse, to degree 5.
-const INVERSES: &str =
-    "field 32003\nletters a b c p q r\ngenerator a*b*a - a\ngenerator b*a*b - b\ngenerator a*c*a - a\ngenerator c*a*c - c\ngenerator q*p - a*b\ngenerator p*q - b*a\ngenerator r*p - a*c\ngenerator p*r - c*a\ngenerator p*q*p - p\ngenerator q*p*q - q\ngenerator p*r*p - p\ngenerator r*p*r - r\nbound degree 5\nclaim b - c\n";
-
 #[test]
 fn the_moore_penrose_problem_is_complete(rt: HostRuntime) -> Result<(), Fail> {
     let alloc = rt.alloc();

@@ -125,6 +125,48 @@ fn representations_have_a_limit(rt: HostRuntime) -> Result<(), Fail> {
     };
     let report = "too many terms: entry 2 has 2\n";
     assert!(rt; answers(alloc, "--form 1 --limit 1", &text, status, report)?);
+    // The label of the entry has one term, and the claim two multiples of it.
+    let text = "field 101\nletters x y\ngenerator y*x - x*y\nbound degree 3\nclaim y*x*x - x*x*y\n";
+    let status = Status::TooMany {
+        listed: Listed::Claim,
+        terms: 2,
+    };
+    let report = "too many terms: claim has 2\n";
+    assert!(rt; answers(alloc, "--form 1 --limit 1", text, status, report)?);
+    Ok(())
+}
+
+/// Whether `member` with these options writes a certificate of the text's claim that `check` says is valid.
+fn is_certified(alloc: Global, options: &str, text: &str) -> Result<bool, Fail> {
+    let line = format!(in alloc; "member {options}")?;
+    let words = words_of(alloc, &line)?;
+    let mut source = source_of(alloc, text.as_bytes(), &[])?;
+    let mut sink = MemorySink::of(alloc, 100000, 500, Vec::new(alloc))?;
+    let found = run_alone(alloc, &words, &mut source, &mut sink);
+    let words = words_of(alloc, "check")?;
+    let mut certificate = source_of(alloc, sink.bytes.as_slice(), &[])?;
+    let mut verdict = MemorySink::of(alloc, 1000, 5, Vec::new(alloc))?;
+    let checked = run_alone(alloc, &words, &mut certificate, &mut verdict);
+    let valid = verdict.bytes.as_slice() == b"valid\n".as_slice();
+    Ok(found == Status::Done && checked == Status::Done && valid)
+}
+
+#[test]
+fn certificates_of_claims_are_valid(rt: HostRuntime) -> Result<(), Fail> {
+    let alloc = rt.alloc();
+    for text in [
+        INVERSES,
+        "field 101\nletters x y\ngenerator x*x - y\nbound degree 3\nclaim x*y - y*x\n",
+        "field 101\nletters x y\ngenerator x*x - y\nbound degree 3\nclaim 0\n",
+        "field 101\nletters x y\ngenerator x*x - y\nbound degree 3\nsteps 1\nclaim x*x - y\n",
+        "field 101\nletters x y\ngenerator x\ngenerator x + 1\nbound degree 2\nclaim y\n",
+        "field 101\nletters x y\nweights 1 2\ngenerator x*x - y\nbound degree 3\nclaim x*y - y*x\n",
+        "field 101\nletters x y\ngenerator y*x - x*y\nbound degree 3\nclaim y*x*x - x*x*y\n",
+    ] {
+        for options in ["", "--form 1"] {
+            assert!(rt; is_certified(alloc, options, text)?, "at {options} {text}");
+        }
+    }
     Ok(())
 }
 
