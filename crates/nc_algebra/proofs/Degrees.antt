@@ -9,6 +9,7 @@ use Rattle.nc_algebra.specs.Elements.{Element, IsLabelled, IsLeadingWord, IsLess
 use Rattle.nc_algebra.specs.Monomials.{Monomial, degree_of, same_monomial}
 use Rattle.nc_algebra.specs.Polynomials.{Polynomial, coefficient, leading}
 use Rattle.nc_algebra.specs.Primes.{IsZero}
+use Rattle.nc_algebra.specs.Problems.{Bound, IsInBound, bound_degree}
 use Rattle.nc_algebra.specs.Sums.{coefficient_by, is_at}
 use Rattle.nc_algebra.specs.Words.{IsWordLess, Word, same_word, word_weight}
 use Rattle.std.proofs.Common.{ap, arith, inl, inr, subst, sym, ◌++◌, ◌<◌, ◌∙◌, ◌≡◌, ◌≤◌, ◌⊎◌}
@@ -32,6 +33,11 @@ module _ (s : Setting) where
   degrees σ τ (inl e) = let d : degree_of (generator_weight s) σ ≡ degree_of (generator_weight s) τ = ap (degree_of (generator_weight s)) e in omega (arith, d)
   degrees σ τ (inr (inl h)) = omega arith
   degrees σ τ (inr (inr (e, h))) = omega (arith, e)
+
+  -- no monomial within a bound has a degree beyond it
+  pub degree_within : (b : Bound) (σ : Monomial) → IsInBound s b σ → degree_of (generator_weight s) σ ≤ bound_degree s b
+  degree_within (Bound.to_degree d) σ h = h
+  degree_within (Bound.under β) σ h = degrees σ β (inr h)
 
   pub words_limited : (α : Element) (τ : Monomial) → IsSignatureOf s α τ → (x : Word) → ¬ IsZero s.prime (coefficient (evaluation s α) x) → word_weight x ≤ degree_of (generator_weight s) τ
   words_limited α τ d x n = go (nat_order (word_weight x) (degree_of (generator_weight s) τ))

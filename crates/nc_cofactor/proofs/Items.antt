@@ -1,4 +1,5 @@
 -- The items of a snapshot beside those of the run that it stands for.
+use Rattle.nc_algebra.proofs.Degrees.{degree_within}
 use Rattle.nc_algebra.proofs.Primes.{field_from_prime}
 use Rattle.nc_algebra.specs.Elements.{IsGenerator, IsLess, Setting, degree}
 use Rattle.nc_algebra.specs.Monomials.{Monomial, times}
@@ -7,7 +8,7 @@ use Rattle.nc_algebra.specs.Primes.{IsField}
 use Rattle.nc_algebra.specs.Problems.{IsWithin, bound_degree}
 use Rattle.nc_algebra.specs.Words.{Word}
 use Rattle.nc_cofactor.proofs.Lesser.{first_of_rebuilt, lesser_than_entry}
-use Rattle.nc_cofactor.proofs.Named.{AreLight, IsLight, bound_light}
+use Rattle.nc_cofactor.proofs.Named.{AreLight, IsLight}
 use Rattle.nc_cofactor.specs.Claims.{AreSubtracted}
 use Rattle.nc_cofactor.specs.Rebuilding.{AreLesser, HasStart}
 use Rattle.nc_cofactor.specs.Traces.{HasTrace, IsListedSignature}
@@ -132,7 +133,7 @@ module _ (s : Snapshot) (h : IsSnapshot s) where
   divisor_light w d within =
       let e : Entry = entry d.entry d.listed in
       let there : Contains h.run.run.entries e = entry_listed d.entry d.listed in
-      let low : degree s.problem.problem.setting (times d.left d.entry.signature d.right) ≤ bound_degree s.problem.problem.setting s.problem.problem.bound = bound_light s.problem.problem.setting s.problem.problem.bound (signature_at s.problem.problem.setting s.state.entries w d) within.1 in record {
+      let low : degree s.problem.problem.setting (times d.left d.entry.signature d.right) ≤ bound_degree s.problem.problem.setting s.problem.problem.bound = degree_within s.problem.problem.setting s.problem.problem.bound (signature_at s.problem.problem.setting s.state.entries w d) within.1 in record {
         some = omega arith;
         entry = e;
         at = subst (λ i. slice_get h.run.run.entries i ≡ Some e) (omega arith) (slice_get_read h.run.run.entries (length h.run.run.entries) d.listed.0 e refl there.1 (sym there.2));

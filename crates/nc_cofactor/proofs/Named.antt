@@ -1,12 +1,12 @@
 -- What the trace of a listed item names: entries with lesser signatures, whose multiples are within the bound.
-use Rattle.nc_algebra.proofs.Degrees.{degrees}
+use Rattle.nc_algebra.proofs.Degrees.{degree_within, degrees}
 use Rattle.nc_algebra.proofs.Finite.{contains_among}
 use Rattle.nc_algebra.proofs.Monomials.{monomial_irrefl, monomial_trans}
 use Rattle.nc_algebra.specs.Elements.{IsGenerator, IsLess, Setting, degree, generator_weight}
 use Rattle.nc_algebra.specs.Monomials.{Monomial, times}
 use Rattle.nc_algebra.specs.Polynomials.{Polynomial}
 use Rattle.nc_algebra.specs.Primes.{IsField}
-use Rattle.nc_algebra.specs.Problems.{Bound, IsInBound, IsWithin, Problem, bound_degree}
+use Rattle.nc_algebra.specs.Problems.{IsWithin, Problem, bound_degree}
 use Rattle.nc_algebra.specs.Words.{Word}
 use Rattle.nc_cofactor.proofs.Keys.{all_among}
 use Rattle.nc_cofactor.specs.Terms.{Names, StartNames}
@@ -103,11 +103,6 @@ any_named s entries τ t j a (inr (step, c, e)) = record {
 
 -- ---- runs
 
--- no monomial within the bound has a degree above the bound's
-pub bound_light : (s : Setting) (b : Bound) (τ : Monomial) → IsInBound s b τ → degree s τ ≤ bound_degree s b
-bound_light s (Bound.to_degree d) τ h = h
-bound_light s (Bound.under β) τ h = degrees s τ β (inr h)
-
 -- entry j, whose multiple is one of at most the degree of the bound
 pub record IsLight (P : Problem) (entries : List Entry) (u : Word) (j : ℕ) (v : Word) : Type 0 where
   pub some : 1 ≤ j
@@ -116,7 +111,7 @@ pub record IsLight (P : Problem) (entries : List Entry) (u : Word) (j : ℕ) (v 
   pub light : degree P.setting (times u entry.signature v) ≤ bound_degree P.setting P.bound
 
 pub named_light : (P : Problem) (entries : List Entry) (τ : Monomial) (u : Word) (j : ℕ) (v : Word) → IsWithin P τ → IsNamed P.setting entries τ u j v → IsLight P entries u j v
-named_light P entries τ u j v within n = record { some = n.some; entry = n.entry; at = n.at; light = omega (arith, n.light, bound_light P.setting P.bound τ within.1) }
+named_light P entries τ u j v within n = record { some = n.some; entry = n.entry; at = n.at; light = omega (arith, n.light, degree_within P.setting P.bound τ within.1) }
 
 -- residues, and entries whose multiples are light
 pub record AreLight (P : Problem) (entries : List Entry) (steps : List Step) : Type 0 where

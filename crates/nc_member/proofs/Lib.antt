@@ -1,7 +1,6 @@
 pub mod Places
 pub mod Values
 pub mod Reaches
-pub mod Letters
 pub mod Proved
 pub mod Whole
 pub mod Ends

@@ -1,5 +1,6 @@
 -- The lines of the needed entries, one after the other, and that of the claim behind them: they keep the rule of certificates, and the
 -- claim is the value of the last one.
+use Rattle.nc_algebra.proofs.Degrees.{degree_within}
 use Rattle.nc_algebra.proofs.Primes.{field_from_prime}
 use Rattle.nc_algebra.specs.Certificates.{AreLines, IsPart, Line, item, line_reach, line_value, part_reach, values_after}
 use Rattle.nc_algebra.specs.Elements.{SamePolynomial, Setting, WordsAre, degree, generator}
@@ -12,22 +13,21 @@ use Rattle.nc_algebra.specs.Problems.{IsProblem, IsWithin, NamedProblem, bound_d
 use Rattle.nc_algebra.specs.Settings.{IsSetting, NamedSetting}
 use Rattle.nc_algebra.specs.Words.{Word}
 use Rattle.nc_cofactor.proofs.Letters.{trace_over}
-use Rattle.nc_cofactor.proofs.Named.{AreNamed, IsNamed, IsStartNamed, at_contains, bound_light, contains_at, names_earlier, rebuilds_named}
+use Rattle.nc_cofactor.proofs.Named.{AreNamed, IsNamed, IsStartNamed, at_contains, contains_at, names_earlier, rebuilds_named}
 use Rattle.nc_cofactor.specs.Claims.{IsNeededFor, ListsNeeded, numbers_of}
 use Rattle.nc_cofactor.specs.Letters.{IsStartIn, IsTraceOver}
 use Rattle.nc_cofactor.specs.Terms.{Names, StartNames}
 use Rattle.nc_cofactor.specs.Traces.{IsTraceIn}
-use Rattle.nc_member.proofs.Letters.{IsStepIn, claim_over, steps_in}
 use Rattle.nc_member.proofs.Places.{Ascends, ascends, item_before, item_last, line_at, stands_before}
 use Rattle.nc_member.proofs.Reaches.{IsLight, IsReached, IsShort, generator_part, line_part, line_short}
 use Rattle.nc_member.proofs.Values.{IsStartValued, IsValued, claim_value, trace_value}
 use Rattle.nc_member.specs.Lines.{claim_line, line_of, start_part, step_part, trace_line}
-use Rattle.nc_search.proofs.Letters.{generator_over}
+use Rattle.nc_search.proofs.Letters.{generator_over, polynomial_over, word_in}
 use Rattle.nc_search.specs.Named.{letters_of}
 use Rattle.nc_snapshot.specs.declared.outcome.Listed.TheVariants.{Entry as EntryOf}
 use Rattle.nc_theory.proofs.Completeness.{invariant}
+use Rattle.nc_theory.proofs.Letters.{StepOver, subtracted_over}
 use Rattle.nc_theory.proofs.Rebuilding.{rebuilt}
-use Rattle.nc_theory.proofs.Steps.{run_over}
 use Rattle.nc_theory.specs.Rebuilding.{Rebuilds}
 use Rattle.nc_theory.specs.Reductions.{Reduction}
 use Rattle.nc_theory.specs.Runs.{SequentialRun}
@@ -154,7 +154,7 @@ module _ (P : NamedProblem) (is : IsProblem P) (prime : IsPrime P.problem.settin
     over = trace_over P is prime runs (EntryOf j) e.trace (e, some, at, refl)
 
     low : degree P.problem.setting e.signature ≤ 80000
-    low = omega (arith, bound_light P.problem.setting P.problem.bound e.signature ((invariant P.problem field runs).within e listed).1, is.limited)
+    low = omega (arith, degree_within P.problem.setting P.problem.bound e.signature ((invariant P.problem field runs).within e listed).1, is.limited)
 
     first_at : (x : Entry) (c : Contains again.first x) → slice_get run.entries (c.0 + 1 - 1) ≡ Some x
     first_at x c =
@@ -202,7 +202,7 @@ module _ (P : NamedProblem) (is : IsProblem P) (prime : IsPrime P.problem.settin
 
     claim_lights : {g kept : Polynomial} {list : List Step} → Reduction P.problem.setting run.entries (IsWithin P.problem) g kept list → AllByRecursion (λ step. IsLight P.problem.setting run.entries (bound_degree P.problem.setting P.problem.bound) step.left step.number step.right) list
     claim_lights (Reduction.finished z) = tt
-    claim_lights (Reduction.subtract w l d chosen c small q rest) = (record { entry = d.entry; at = itself_at d.entry d.listed; light = bound_light P.problem.setting P.problem.bound _ chosen.allowed.1 }, claim_lights rest)
+    claim_lights (Reduction.subtract w l d chosen c small q rest) = (record { entry = d.entry; at = itself_at d.entry d.listed; light = degree_within P.problem.setting P.problem.bound _ chosen.allowed.1 }, claim_lights rest)
     claim_lights (Reduction.keep w l none c e rest) = claim_lights rest
 
     claim_listed : numbers ≡ numbers_of steps → (step : Step) → Contains steps step → Contains needed step.number
@@ -212,16 +212,16 @@ module _ (P : NamedProblem) (is : IsProblem P) (prime : IsPrime P.problem.settin
       inputs : (i : ℕ) → WordsAre P.problem.setting (IsOver (letters_of P.alphabet)) (generator P.problem.setting i)
       inputs = generator_over (setting_of P) is.setting
 
-      claim_sides : AllByRecursion (IsStepIn P.alphabet) steps
-      claim_sides = steps_in P.alphabet P.problem.setting inputs run.entries (invariant P.problem field runs).sound.nonzero (run_over P.problem field (letters_of P.alphabet) inputs runs) (IsWithin P.problem) reduces (claim_over P.alphabet P.problem.setting f in_it)
+      claim_sides : AllByRecursion (StepOver (letters_of P.alphabet)) steps
+      claim_sides = subtracted_over P.problem field (letters_of P.alphabet) inputs runs (IsWithin P.problem) reduces (polynomial_over P.alphabet P.problem.setting f in_it.words)
 
       -- the lines behind which it stands are those of all needed entries
       module _ (values : List Polynomial) (reaches : List ℕ) (behind : IsBehind P.problem.setting run.entries needed needed values reaches) where
         claim_ready : AllByRecursion (IsReady (setting_of P) is.setting field.above_one run.entries needed reaches (bound_degree P.problem.setting P.problem.bound) is.limited) steps
         claim_ready = each_listed (IsReady (setting_of P) is.setting field.above_one run.entries needed reaches (bound_degree P.problem.setting P.problem.bound) is.limited) steps (λ step c.
-            let sides : IsStepIn P.alphabet step = subst (IsStepIn P.alphabet) c.2 (All-from_recursion (IsStepIn P.alphabet) steps claim_sides c.0 step c.1) in (
+            let sides : StepOver (letters_of P.alphabet) step = subst (StepOver (letters_of P.alphabet)) c.2 (All-from_recursion (StepOver (letters_of P.alphabet)) steps claim_sides c.0 step c.1) in (
               subst (λ (t : Step). t.coefficient < P.problem.setting.prime) c.2 (All-from_recursion (λ (t : Step). t.coefficient < P.problem.setting.prime) steps (claim_residues reduces) c.0 step c.1),
-              (sides.left, sides.right),
+              (word_in P.alphabet step.left sides.0, word_in P.alphabet step.right sides.1),
               (
                 subst (λ (t : Step). IsLight P.problem.setting run.entries (bound_degree P.problem.setting P.problem.bound) t.left t.number t.right) c.2 (All-from_recursion (λ (t : Step). IsLight P.problem.setting run.entries (bound_degree P.problem.setting P.problem.bound) t.left t.number t.right) steps (claim_lights reduces) c.0 step c.1),
                 behind.reached step.number (claim_listed given step c),

@@ -54,14 +54,20 @@ fn alphabet(alloc: Global, weights: Vec<u8>) -> Result<Alphabet, Fail> {
     Ok(Alphabet::of(names, weights))
 }
 
+/// The sum of the terms.
+fn polynomial(p: Prime, terms: Vec<Term>) -> Result<Poly, Fail> {
+    if !terms.iter().all(|t| t.coefficient < p.number()) {
+        return Err("no residues".into());
+    }
+    Ok(Poly::of_terms(p, terms))
+}
+
 /// A polynomial of one term with coefficient 1.
 fn monomial(alloc: Global, p: Prime, letters: &[Letter]) -> Result<Poly, Fail>
-    requires few { length letters.now ≤ 24 }
-    requires prime { p ≡ 101 }
+    requires { length letters.now ≤ 24 }
 {
-    let mut terms = Vec::new(alloc);
-    terms.push(Term::of(1, Word::join(alloc, letters, &[], &[])?))?;
-    Ok(Poly::of_terms(p, terms))
+    let word = Word::join(alloc, letters, &[], &[])?;
+    polynomial(p, vec![in alloc; Term::of(1, word)]?)
 }
 
 #[test]
@@ -102,7 +108,6 @@ fn settings(rt: HostRuntime) -> Result<(), Fail> {
     assert_eq!(rt; setting.names()[1].bytes(), b"y_1".as_slice());
     assert_eq!(rt; setting.weights(), [1, 3].as_slice());
     assert_eq!(rt; setting.generators().len(), 2);
-    assert!(rt; setting.generators().len() == 2);
     assert_eq!(rt; setting.weight(1), 5);
     assert_eq!(rt; setting.weight(2), 3);
     assert_eq!(rt; setting.generator(1).terms().len(), 1);
@@ -118,10 +123,8 @@ fn settings(rt: HostRuntime) -> Result<(), Fail> {
     Ok(())
 }
 
-/// The problem with the generator x*y_1, to this degree; y_1 weighs 3.
-fn problem(alloc: Global, degree: u32) -> Result<Problem, Fail>
-    requires { degree ≤ 80000 }
-{
+/// The problem with the generator x*y_1, to this degree but at most 80,000; y_1 weighs 3.
+fn problem(alloc: Global, degree: u32) -> Result<Problem, Fail> {
     let p = Prime::of(101).ok_or("listed")?;
     let y = Letter::of(1, 3).ok_or("no such letter")?;
     let alphabet = alphabet(alloc, vec![in alloc; 1, 3]?)?;
@@ -130,18 +133,16 @@ fn problem(alloc: Global, degree: u32) -> Result<Problem, Fail>
         return Err("no setting".into());
     }
     let setting = Setting::of(p, alphabet, generators);
-    Ok(Problem::of(setting, Bound::Degree(degree), 10))
+    Ok(Problem::of(setting, Bound::Degree(degree.min(80000)), 10))
 }
 
-/// Whether u [1] 1 lies within the problem's bound, where the problem has a generator.
-fn is_within(alloc: Global, problem: &Problem, u: &[Letter]) -> Result<bool, Fail>
-    requires { length u.now ≤ 24 }
-{
+/// Whether x^n [1] 1 lies within the problem's bound, where the problem has a generator.
+fn is_within(alloc: Global, problem: &Problem, count: usize) -> Result<bool, Fail> {
     let setting = problem.setting();
     if setting.generators().is_empty() {
         return Err("no generator".into());
     }
-    let left = Word::join(alloc, u, &[], &[])?;
+    let left = Word::join(alloc, &[Letter::default(); 4][..count.min(4)], &[], &[])?;
     let sig = Sig::of(setting.weight(1), 1, left, Word::empty(alloc));
     Ok(problem.within(&sig))
 }
@@ -149,13 +150,13 @@ fn is_within(alloc: Global, problem: &Problem, u: &[Letter]) -> Result<bool, Fai
 #[test]
 fn problems(rt: HostRuntime) -> Result<(), Fail> {
     let alloc = rt.alloc();
-    let x = Letter::default();
     let first = problem(alloc, 5)?;
-    assert_eq!(rt; is_within(alloc, &first, &[])?, true);
-    assert_eq!(rt; is_within(alloc, &first, &[x])?, true);
-    assert_eq!(rt; is_within(alloc, &first, &[x, x])?, false);
-    assert!(rt; first.same(&problem(alloc, 5)?));
-    assert!(rt; !first.same(&problem(alloc, 6)?));
+    for (count, want) in [(0, true), (1, true), (2, false)] {
+        assert_eq!(rt; is_within(alloc, &first, count)?, want, "{count}");
+    }
+    for (degree, want) in [(5, true), (6, false)] {
+        assert_eq!(rt; first.same(&problem(alloc, degree)?), want, "{degree}");
+    }
     Ok(())
 }
 

@@ -1,12 +1,11 @@
 -- Lists to which signatures are added.
-use Rattle.nc_algebra.proofs.Degrees.{degrees}
+use Rattle.nc_algebra.proofs.Degrees.{degree_within, degrees}
 use Rattle.nc_algebra.proofs.Monomials.{degree-times}
 use Rattle.nc_algebra.proofs.Words.{length_at_most}
 use Rattle.nc_algebra.specs.Elements.{HasDegree, degree, generator_weight}
 use Rattle.nc_algebra.specs.Monomials.{Monomial, Sig, monomial_of, times}
 use Rattle.nc_algebra.specs.Polynomials.{leading}
 use Rattle.nc_algebra.specs.Problems.{IsWithin, Problem, bound_degree}
-use Rattle.nc_overlap.proofs.Sides.{within_degree}
 use Rattle.nc_overlap.specs.Overlaps.{Adds, IsEnough, MeetsEither}
 use Rattle.nc_search.proofs.Nexts.{Before, OfEntry}
 use Rattle.nc_search.specs.Meetings.{IsGreaterOf, IsOnly, MeetAt}
@@ -99,7 +98,7 @@ module _ (P : Problem) where
 
   -- a place with no room behind it has no signature within the bound
   room : (e f : Entry) (n k : ℕ) (ρ : Monomial) → bound_degree P.setting P.bound < n + degree P.setting f.signature → IsWithin P ρ → MeetAt P.setting e f k ρ → k < n
-  room e f n k ρ past w m = omega (arith, past, m.around.2, within_degree P.setting P.bound ρ w.1, length_at_most m.before, degree-times (generator_weight P.setting) m.before m.behind_second f.signature, at_least m.greater)
+  room e f n k ρ past w m = omega (arith, past, m.around.2, degree_within P.setting P.bound ρ w.1, length_at_most m.before, degree-times (generator_weight P.setting) m.before m.behind_second f.signature, at_least m.greater)
     where
       at_least : IsGreaterOf P.setting (times [] e.signature m.behind_first) (times m.before f.signature m.behind_second) ρ → degree P.setting (times m.before f.signature m.behind_second) ≤ degree P.setting ρ
       at_least (inl g) = let same : degree P.setting ρ ≡ degree P.setting (times m.before f.signature m.behind_second) = ap (degree P.setting) g.1 in omega (arith, same)

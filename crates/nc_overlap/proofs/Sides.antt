@@ -1,21 +1,16 @@
 -- Multiples of signatures, as the sides of an ambiguity.
+use Rattle.nc_algebra.proofs.Degrees.{degree_within}
 use Rattle.nc_algebra.proofs.Monomials.{degree-times}
 use Rattle.nc_algebra.proofs.Words.{length_at_most}
 use Rattle.nc_algebra.specs.Elements.{HasDegree, IsGenerator, Setting, degree, generator_weight}
 use Rattle.nc_algebra.specs.Monomials.{Monomial, Sig, compare_monomials, compare_sigs, monomial_of, sig_times, times}
-use Rattle.nc_algebra.specs.Problems.{Bound, IsInBound, IsProblem, IsWithin, IsWithinBound, NamedProblem, bound_degree}
+use Rattle.nc_algebra.specs.Problems.{Bound, IsProblem, IsWithin, IsWithinBound, NamedProblem}
 use Rattle.nc_algebra.specs.Words.{Word, word_weight}
 use Rattle.nc_search.proofs.Meetings.{equal_only, greater_only, less_only}
 use Rattle.nc_search.specs.Meetings.{IsGreaterOf, IsOnly}
-use Rattle.std.proofs.Common.{Equal, Greater, IsTrue, Less, None, Option, Ordering, Some, ap, ap₂, arith, inl, inr, length, subst, sym, ℕ, ◌+◌, ◌++◌, ◌∙◌, ◌↔◌, ◌≡◌, ◌≤◌}
+use Rattle.std.proofs.Common.{Equal, Greater, IsTrue, Less, None, Option, Ordering, Some, ap, ap₂, arith, length, subst, sym, ℕ, ◌+◌, ◌++◌, ◌∙◌, ◌↔◌, ◌≡◌, ◌≤◌}
 use Rattle.std.proofs.Math.Dec.{leb}
 use Rattle.std.proofs.lemmas.Bool.{le-leb, leb-true}
-
--- no monomial within a bound has a degree beyond it
-pub within_degree : (s : Setting) (b : Bound) (σ : Monomial) → IsInBound s b σ → degree s σ ≤ bound_degree s b
-within_degree s (Bound.to_degree d) σ h = h
-within_degree s (Bound.under β) σ (inl h) = omega arith
-within_degree s (Bound.under β) σ (inr (e, h)) = omega (arith, e)
 
 module _ (s : Setting) (u v : Word) (σ : Sig) (h : HasDegree s σ) where
   multiple_weighs : word_weight u + σ.degree + word_weight v ≡ degree s (times u (monomial_of σ) v)
@@ -29,7 +24,7 @@ module _ (s : Setting) (u v : Word) (σ : Sig) (h : HasDegree s σ) where
 pub multiple_fits : (P : NamedProblem) (u v : Word) (σ : Sig) → IsProblem P → HasDegree P.problem.setting σ → IsWithin P.problem (monomial_of (sig_times u σ v))
     → (word_weight u + σ.degree + word_weight v ≤ 80000) × (length u + length σ.left ≤ 80000) × (length σ.right + length v ≤ 80000)
 multiple_fits P u v σ is h w =
-    let whole : word_weight u + σ.degree + word_weight v ≤ 80000 = omega (arith, is.limited, multiple_weighs P.problem.setting u v σ h, within_degree P.problem.setting P.problem.bound (times u (monomial_of σ) v) w.1) in
+    let whole : word_weight u + σ.degree + word_weight v ≤ 80000 = omega (arith, is.limited, multiple_weighs P.problem.setting u v σ h, degree_within P.problem.setting P.problem.bound (times u (monomial_of σ) v) w.1) in
     let parts : σ.degree ≡ word_weight σ.left + generator_weight P.problem.setting σ.generator + word_weight σ.right = ap (λ (z : Sig). z.degree) h in
     (whole, omega (arith, whole, parts, length_at_most u, length_at_most σ.left), omega (arith, whole, parts, length_at_most v, length_at_most σ.right))
 

@@ -1,5 +1,5 @@
 -- The polynomial of a start: its words are small, and it is in normal form.
-use Rattle.nc_algebra.specs.Alphabets.{IsTextGenerator, IsTextWord}
+use Rattle.nc_algebra.specs.Alphabets.{IsTextGenerator}
 use Rattle.nc_algebra.specs.Elements.{IsGenerator, Setting, generator}
 use Rattle.nc_algebra.specs.Monomials.{Monomial}
 use Rattle.nc_algebra.specs.Polynomials.{AreResidues, IsNormal, Polynomial, polynomial_times}
@@ -34,7 +34,7 @@ module _ (s : NamedSetting) (is : IsSetting s) (i : ℕ) (valid : IsGenerator s.
   text = generator_is_text s i is valid
 
   generator_small : HasSmallWords s.setting (generator s.setting i)
-  generator_small = text_words s.alphabet is.alphabet s.setting (generator s.setting i) (recursion_from_All (λ t. IsTextWord s.alphabet t.key) (generator s.setting i) text.polynomial.words)
+  generator_small = text_words s.alphabet is.alphabet s.setting (generator s.setting i) text.polynomial.words
 
 -- ---- a multiple of an entry
 

@@ -4,14 +4,14 @@ use Rattle.nc_algebra.proofs.NormalForms.{normal_form_same}
 use Rattle.nc_algebra.specs.Finite.{AreLetters}
 use Rattle.nc_algebra.proofs.Sums.{coefficient-minus, same_from_zero, zero_mul_left, zero_number}
 use Rattle.nc_algebra.proofs.Words.{word_laws}
-use Rattle.nc_algebra.specs.Alphabets.{Alphabet, IsAlphabet, IsLetterIn, IsTextGenerator, IsTextWord}
+use Rattle.nc_algebra.specs.Alphabets.{Alphabet, AreWordsIn, IsAlphabet, IsLetterIn, IsTextGenerator, IsTextWord, IsWordIn}
 use Rattle.nc_algebra.specs.Settings.{IsSetting, NamedSetting}
 use Rattle.nc_algebra.specs.Elements.{IsGenerator, IsLess, Setting, generator}
 use Rattle.nc_algebra.specs.Monomials.{Monomial, times, unit_monomial}
 use Rattle.nc_algebra.specs.Polynomials.{IsNormal, Polynomial, coefficient, normal_form, polynomial_times}
 use Rattle.nc_algebra.specs.Primes.{IsZero}
 use Rattle.nc_algebra.specs.Sums.{SameSum, minus}
-use Rattle.nc_algebra.specs.Words.{IsWordLess, Word, same_word}
+use Rattle.nc_algebra.specs.Words.{IsWordLess, Word, same_word, word_weight}
 use Rattle.nc_search.proofs.Multiples.{shifted_few, shifted_small}
 use Rattle.nc_search.proofs.Turns.{reduction_same}
 use Rattle.nc_search.specs.Best.{IsBest}
@@ -29,7 +29,7 @@ use Rattle.nc_theory.specs.Syzygies.{Covered}
 use Rattle.std.proofs.Common.{List, None, Some, [], ap, ap₂, arith, get_or, inl, inr, length, refl, subst, sym, ℕ, ◌%◌, ◌*◌, ◌+◌, ◌-◌, ◌<◌, ◌∙◌, ◌∷◌, ◌≡◌, ◌≢◌, ◌≤◌, ◌⊎◌, suc, zero}
 use Rattle.std.proofs.Math.Nat.{mod-eq_of_lt, mod_self}
 use Rattle.std.proofs.lemmas.List.{get_or_read}
-use Rattle.std.proofs.lemmas.List.Elements.{recursion_from_All}
+use Rattle.std.proofs.lemmas.List.Elements.{All-weaker, recursion_from_All}
 use Rattle.std.specs.List.{All, AllByRecursion}
 
 -- ---- a multiple by itself
@@ -46,19 +46,24 @@ shifted_same p c g m one is e = record { at = λ x. ap (λ h. coefficient h x % 
     whole : (x : Word) → IsZero p (0 + (p - 1) * c * coefficient m x + (p - 1) * coefficient m x)
     whole x = subst (IsZero p) (sym (form (p - 1) c (coefficient m x) (omega (arith, one)) full)) (zero_mul_left p ((p - 1) * coefficient m x) p (mod_self p))
 
--- ---- words of generators
+-- ---- small words
 
 module _ (a : Alphabet) (is : IsAlphabet a) where
   letters_small : (w : Word) → AllByRecursion (IsLetterIn a) w → AreLetters 64 100 w
   letters_small [] l = tt
   letters_small (x ∷ w) l = ((omega (arith, is.few, l.0.0), letter_light a is x l.0), letters_small w l.1)
 
-  text_small : (w : Word) → IsTextWord a w → IsSmall w
-  text_small w t = (omega (arith, text_word_light a is w t), letters_small w (recursion_from_All (IsLetterIn a) w t.letters))
+  small_words : (s : Setting) (f : Polynomial) → AllByRecursion (λ t. IsWordIn a t.key) f → AllByRecursion (λ t. word_weight t.key ≤ 200000) f → HasSmallWords s f
+  small_words s [] l h = λ w m. absurd (m (zero_number s.prime))
+  small_words s (t ∷ f) l h = more_are s IsSmall t.coefficient t.key f (h.0, letters_small t.key (recursion_from_All (IsLetterIn a) t.key l.0)) (small_words s f l.1 h.1)
 
-  pub text_words : (s : Setting) (f : Polynomial) → AllByRecursion (λ t. IsTextWord a t.key) f → HasSmallWords s f
-  text_words s [] l = λ w m. absurd (m (zero_number s.prime))
-  text_words s (t ∷ f) l = more_are s IsSmall t.coefficient t.key f (text_small t.key l.0) (text_words s f l.1)
+  -- words over the alphabet within the limit
+  pub words_small : (s : Setting) (f : Polynomial) → AreWordsIn a f → All (λ t. word_weight t.key ≤ 200000) f → HasSmallWords s f
+  words_small s f are light = small_words s f (recursion_from_All (λ t. IsWordIn a t.key) f are) (recursion_from_All (λ t. word_weight t.key ≤ 200000) f light)
+
+  -- words of a text
+  pub text_words : (s : Setting) (f : Polynomial) → All (λ t. IsTextWord a t.key) f → HasSmallWords s f
+  text_words s f texts = words_small s f (All-weaker (λ t. IsTextWord a t.key) (λ t. IsWordIn a t.key) (λ t x. x.letters) f texts) (All-weaker (λ t. IsTextWord a t.key) (λ t. word_weight t.key ≤ 200000) (λ t x. omega (arith, text_word_light a is t.key x)) f texts)
 
 generator_at : (s : Setting) (i : ℕ) → 1 ≤ i → get_or s.generators (i - 1) [] ≡ generator s i
 unfolding generator
@@ -76,7 +81,7 @@ module _ (s : NamedSetting) (setting : IsSetting s) (i : ℕ) (valid : IsGenerat
   generator_normal = text.polynomial.normal
 
   pub generator_small : HasSmallWords s.setting f
-  generator_small = text_words s.alphabet setting.alphabet s.setting f (recursion_from_All (λ t. IsTextWord s.alphabet t.key) f text.polynomial.words)
+  generator_small = text_words s.alphabet setting.alphabet s.setting f text.polynomial.words
 
 -- ---- outcomes
 

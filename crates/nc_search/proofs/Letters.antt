@@ -14,7 +14,7 @@ use Rattle.nc_algebra.specs.Words.{IsWordLess, Letter, Word, same_word}
 use Rattle.nc_search.specs.Named.{letters_of}
 use Rattle.nc_theory.proofs.Properties.{more_are}
 use Rattle.std.proofs.Common.{Contains, [], ap, arith, get_or, inl, inr, length, subst, suc, sym, zero, ℕ, ◌<◌, ◌∙◌, ◌∷◌, ◌≡◌, ◌≢◌, ◌≤◌, ◌⊎◌}
-use Rattle.std.proofs.lemmas.List.Elements.{All-from_recursion, recursion_from_All}
+use Rattle.std.proofs.lemmas.List.Elements.{All-from_recursion, All-weaker, recursion_from_All}
 use Rattle.std.proofs.lemmas.List.FromFn.{get_or-map-range_with_len, length-map-range_with_len}
 use Rattle.std.proofs.lemmas.List.{get_or_past}
 use Rattle.std.specs.List.{AllByRecursion}
@@ -47,9 +47,12 @@ module _ (a : Alphabet) where
   pub word_in : (w : Word) → IsOver (letters_of a) w → IsWordIn a w
   word_in w o = All-from_recursion (IsLetterIn a) w (over_in w o)
 
-  words_over : (s : Setting) (f : Polynomial) → AllByRecursion (λ t. IsTextWord a t.key) f → WordsAre s (IsOver (letters_of a)) f
+  words_over : (s : Setting) (f : Polynomial) → AllByRecursion (λ t. IsWordIn a t.key) f → WordsAre s (IsOver (letters_of a)) f
   words_over s [] l = λ w m. absurd (m (zero_number s.prime))
-  words_over s (t ∷ f) l = more_are s (IsOver (letters_of a)) t.coefficient t.key f (word_over t.key (recursion_from_All (IsLetterIn a) t.key l.0.letters)) (words_over s f l.1)
+  words_over s (t ∷ f) l = more_are s (IsOver (letters_of a)) t.coefficient t.key f (word_over t.key (recursion_from_All (IsLetterIn a) t.key l.0)) (words_over s f l.1)
+
+  pub polynomial_over : (s : Setting) (f : Polynomial) → AreWordsIn a f → WordsAre s (IsOver (letters_of a)) f
+  polynomial_over s f are = words_over s f (recursion_from_All (λ t. IsWordIn a t.key) f are)
 
   -- all terms of a normal form have words of the polynomial
   words_in : (s : Setting) (f : Polynomial) → IsDescending f → AllByRecursion (λ t. t.coefficient < s.prime) f → WordsAre s (IsOver (letters_of a)) f → AllByRecursion (λ t. IsWordIn a t.key) f
@@ -69,7 +72,7 @@ generator_over s setting zero = λ w m. absurd (m (zero_number s.setting.prime))
 generator_over s setting (suc i) = go (nat_order i (length s.setting.generators))
   where
     listed : i < length s.setting.generators → WordsAre s.setting (IsOver (letters_of s.alphabet)) (get_or s.setting.generators i [])
-    listed l = words_over s.alphabet s.setting (get_or s.setting.generators i []) (recursion_from_All (λ t. IsTextWord s.alphabet t.key) (get_or s.setting.generators i []) (setting.each i [] l).polynomial.words)
+    listed l = polynomial_over s.alphabet s.setting (get_or s.setting.generators i []) (All-weaker (λ t. IsTextWord s.alphabet t.key) (λ t. IsWordIn s.alphabet t.key) (λ t is. is.letters) (get_or s.setting.generators i []) (setting.each i [] l).polynomial.words)
 
     past : length s.setting.generators ≤ i → WordsAre s.setting (IsOver (letters_of s.alphabet)) (get_or s.setting.generators i [])
     past l = subst (WordsAre s.setting (IsOver (letters_of s.alphabet))) (sym (get_or_past s.setting.generators i [] l)) (λ w m. absurd (m (zero_number s.setting.prime)))

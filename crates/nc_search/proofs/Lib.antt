@@ -12,6 +12,7 @@ pub mod Handling
 pub mod Tested
 pub mod Problems
 pub mod Meetings
+pub mod Ambiguities
 pub mod Nexts
 pub mod Letters
 pub mod Reached

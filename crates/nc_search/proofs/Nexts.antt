@@ -1,19 +1,17 @@
 -- The least candidate, from those of each kind.
 use Rattle.nc_algebra.proofs.Monomials.{monomial_total, monomial_trans}
 use Rattle.nc_algebra.specs.Elements.{IsLess, Setting, generator_weight}
-use Rattle.nc_algebra.specs.Monomials.{Monomial, compare_monomials, times, unit_monomial}
+use Rattle.nc_algebra.specs.Monomials.{Monomial, compare_monomials, unit_monomial}
 use Rattle.nc_algebra.specs.Polynomials.{leading}
 use Rattle.nc_algebra.specs.Problems.{Problem}
-use Rattle.nc_search.proofs.Meetings.{swap}
+use Rattle.nc_search.proofs.Ambiguities.{from_ambiguity, to_ambiguity}
 use Rattle.nc_search.proofs.Orders.{less_test, less_tested}
-use Rattle.nc_search.specs.Meetings.{IsGreaterOf, IsOnly, MeetAt}
+use Rattle.nc_search.specs.Meetings.{IsOnly, MeetAt}
 use Rattle.nc_search.specs.Nexts.{IsFoundLeft, IsLeastLeft, IsLeft, IsNextOf, IsOfAmbiguity, IsUnit, MeetSomewhere, MeetsSome, lesser_of}
 use Rattle.nc_theory.proofs.Determinism.{listed_same}
-use Rattle.nc_theory.specs.Ambiguities.{Ambiguity}
-use Rattle.nc_theory.specs.Divisors.{Divisor}
 use Rattle.nc_theory.specs.Runs.{IsAfter}
 use Rattle.nc_theory.specs.States.{Entry, State}
-use Rattle.std.proofs.Common.{Bool, Contains, IsTrue, List, None, Option, Ordering, Some, [], ap, arith, cond, false, get_or, inl, inr, length, refl, subst, suc, sym, true, zero, ℕ, ◌+◌, ◌++◌, ◌<◌, ◌↔◌, ◌∙◌, ◌≡◌, ◌≤◌, ◌⊎◌}
+use Rattle.std.proofs.Common.{Bool, Contains, IsTrue, List, None, Option, Ordering, Some, ap, arith, cond, false, get_or, inl, inr, length, refl, subst, suc, sym, true, zero, ℕ, ◌+◌, ◌<◌, ◌↔◌, ◌∙◌, ◌≡◌, ◌≤◌, ◌⊎◌}
 use Rattle.std.proofs.lemmas.Bool.{false≢true}
 use Rattle.std.specs.Ordering.{is_lt}
 
@@ -145,83 +143,6 @@ module _ (P : Problem) (last : Option Monomial) where
     all_entries n o h = same_left (Before (OfEntry entries property) n) (λ σ. (e : Entry) × Contains entries e × property e σ) o (λ σ b. (b.2.0, b.2.1, b.2.3)) (λ σ l a. (a.1.0, omega (arith, h, a.1.1), (a.0, a.1, refl, a.2)))
 
 -- ---- ambiguities
-
-module _ (s : Setting) (entries : List Entry) (σ : Monomial) where
-  pub from_ambiguity : IsOfAmbiguity s entries σ → (e : Entry) × Contains entries e × MeetsSome s entries e σ
-  from_ambiguity (w, a) = go a.spans_front
-    where
-      go : (a.high.left ≡ []) ⊎ (a.low.left ≡ []) → (e : Entry) × Contains entries e × MeetsSome s entries e σ
-      go (inl i) = (
-        a.high.entry,
-        a.high.listed,
-        (
-          a.low.entry,
-          a.low.listed,
-          (
-            length a.low.left,
-            record {
-              before = a.low.left;
-              behind_first = a.high.right;
-              behind_second = a.low.right;
-              around = (ap (λ x. x ++ (leading s.prime a.high.entry.polynomial ++ a.high.right)) (sym i) ∙ (a.high.spells ∙ sym a.low.spells), a.spans_back, refl);
-              within = omega (arith, a.low_begins, ap length i);
-              some = omega (arith, a.high_begins);
-              greater = inr (subst (λ x. IsLess s (times a.low.left a.low.entry.signature a.low.right) (times x a.high.entry.signature a.high.right)) i a.below, sym a.signed ∙ ap (λ x. times x a.high.entry.signature a.high.right) i);
-            },
-          ),
-        ),
-      )
-      go (inr i) = (
-        a.low.entry,
-        a.low.listed,
-        (
-          a.high.entry,
-          a.high.listed,
-          (
-            length a.high.left,
-            record {
-              before = a.high.left;
-              behind_first = a.low.right;
-              behind_second = a.high.right;
-              around = (ap (λ x. x ++ (leading s.prime a.low.entry.polynomial ++ a.low.right)) (sym i) ∙ (a.low.spells ∙ sym a.high.spells), swap a.spans_back, refl);
-              within = omega (arith, a.high_begins, ap length i);
-              some = omega (arith, a.low_begins);
-              greater = inl (subst (λ x. IsLess s (times x a.low.entry.signature a.low.right) (times a.high.left a.high.entry.signature a.high.right)) i a.below, sym a.signed);
-            },
-          ),
-        ),
-      )
-
-  pub to_ambiguity : (e : Entry) × Contains entries e × MeetsSome s entries e σ → IsOfAmbiguity s entries σ
-  to_ambiguity (e, c, (f, d, (k, m))) = (leading s.prime e.polynomial ++ m.behind_first, go m.greater)
-    where
-      first : Divisor s entries (leading s.prime e.polynomial ++ m.behind_first)
-      first = record { entry = e; listed = c; left = []; right = m.behind_first; spells = refl }
-
-      second : Divisor s entries (leading s.prime e.polynomial ++ m.behind_first)
-      second = record { entry = f; listed = d; left = m.before; right = m.behind_second; spells = sym m.around.0 }
-
-      go : IsGreaterOf s (times [] e.signature m.behind_first) (times m.before f.signature m.behind_second) σ → Ambiguity s entries σ (leading s.prime e.polynomial ++ m.behind_first)
-      go (inl g) = record {
-        high = second;
-        low = first;
-        spans_front = inr refl;
-        spans_back = swap m.around.1;
-        high_begins = omega (arith, m.within, m.around.2);
-        low_begins = omega (arith, m.some, m.around.2);
-        below = g.0;
-        signed = sym g.1;
-      }
-      go (inr g) = record {
-        high = first;
-        low = second;
-        spans_front = inl refl;
-        spans_back = m.around.1;
-        high_begins = omega (arith, m.some, m.around.2);
-        low_begins = omega (arith, m.within, m.around.2);
-        below = g.0;
-        signed = sym g.1;
-      }
 
 module _ (P : Problem) (last : Option Monomial) where
   pub all_ambiguities : (entries : List Entry) (o : Option Monomial) → IsLeastLeft P last (λ σ. (e : Entry) × Contains entries e × MeetsSome P.setting entries e σ) o → IsLeastLeft P last (IsOfAmbiguity P.setting entries) o

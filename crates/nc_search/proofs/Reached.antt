@@ -1,5 +1,5 @@
 -- What a run over a program's setting reaches: entries that can be used, and signatures that can be handled.
-use Rattle.nc_algebra.proofs.Degrees.{degrees, labelled_limited}
+use Rattle.nc_algebra.proofs.Degrees.{degree_within, labelled_limited}
 use Rattle.nc_algebra.proofs.Ranks.{over_letters}
 use Rattle.nc_algebra.proofs.Sums.{zero_number}
 use Rattle.nc_algebra.specs.Elements.{Element, IsGenerator, IsLabelled, IsLess, IsZeroPolynomial, Setting, WordsAre, degree, generator}
@@ -7,7 +7,7 @@ use Rattle.nc_algebra.specs.Finite.{AreLetters, IsOver}
 use Rattle.nc_algebra.specs.Monomials.{Monomial, unit_monomial}
 use Rattle.nc_algebra.specs.Polynomials.{IsNormal}
 use Rattle.nc_algebra.specs.Primes.{IsField}
-use Rattle.nc_algebra.specs.Problems.{Bound, IsInBound, IsWithin, Problem, bound_degree}
+use Rattle.nc_algebra.specs.Problems.{IsWithin, Problem, bound_degree}
 use Rattle.nc_algebra.specs.Settings.{IsSetting, NamedSetting}
 use Rattle.nc_algebra.specs.Words.{Word}
 use Rattle.nc_search.proofs.Letters.{generator_over, letter_of}
@@ -32,11 +32,6 @@ use Rattle.std.proofs.lemmas.List.{get_or_default}
 use Rattle.std.specs.List.{All}
 
 -- ---- a run
-
--- within the bound the degree is no greater than that of the bound
-bounded : (s : Setting) (b : Bound) (σ : Monomial) → IsInBound s b σ → degree s σ ≤ bound_degree s b
-bounded s (Bound.to_degree d) σ h = h
-bounded s (Bound.under β) σ h = degrees s σ β (inr h)
 
 module _ (s : NamedSetting) (setting : IsSetting s) (prime_field : IsField s.setting.prime) (P : Problem) (same : P.setting ≡ s.setting) (limit : bound_degree P.setting P.bound ≤ 100000) {n : ℕ} {state : State} {last : Option Monomial} (run : SequentialRun P n state last) where
   field : IsField P.setting.prime
@@ -75,10 +70,10 @@ module _ (s : NamedSetting) (setting : IsSetting s) (prime_field : IsField s.set
   run_usable k e l = entry_usable (get_or state.entries k e) (listed k e l)
 
   pub run_short : All (λ e. degree P.setting e.signature ≤ 100000) state.entries
-  run_short k e l = omega (arith, limit, bounded P.setting P.bound (get_or state.entries k e).signature ((invariant P field run).within (get_or state.entries k e) (listed k e l)).1)
+  run_short k e l = omega (arith, limit, degree_within P.setting P.bound (get_or state.entries k e).signature ((invariant P field run).within (get_or state.entries k e) (listed k e l)).1)
 
   pub signature_usable : (σ : Monomial) → IsWithin P σ → IsOver (letters_of s.alphabet) σ.left × IsOver (letters_of s.alphabet) σ.right → IsUsableSignature P.setting σ
-  signature_usable σ within o = record { limited = omega (arith, limit, bounded P.setting P.bound σ within.1); left = letters σ.left o.0; right = letters σ.right o.1 }
+  signature_usable σ within o = record { limited = omega (arith, limit, degree_within P.setting P.bound σ within.1); left = letters σ.left o.0; right = letters σ.right o.1 }
 
   pub candidate_usable : (σ : Monomial) → IsCandidate P state σ → IsUsableSignature P.setting σ
   candidate_usable σ c = signature_usable σ c.0 (candidate_over P field (letters_of s.alphabet) inputs state alive over σ c)

@@ -14,7 +14,6 @@ pub mod PartLines
 pub mod Weights
 pub mod LinesLeft
 pub mod ReadProblems
-pub mod Numbers
 pub mod Names
 pub mod RoundTripPolynomials
 pub mod RoundTripRows

@@ -6,7 +6,6 @@ use Rattle.nc_algebra.specs.Polynomials.{Polynomial}
 use Rattle.nc_algebra.specs.Settings.{NamedSetting}
 use Rattle.nc_algebra.specs.Words.{Word}
 use Rattle.nc_text.proofs.Names.{AreNames}
-use Rattle.nc_text.proofs.Numbers.{number_plain}
 use Rattle.nc_text.proofs.ReadRows.{IsTextMonomial, IsTextPart}
 use Rattle.nc_tokens.proofs.PlainBytes.{ArePlain, decimal_plain, name_plain, plain_append}
 use Rattle.nc_text.proofs.RoundTripPolynomials.{AreLetters, ArePrinted, are_letters}
@@ -31,12 +30,12 @@ word_plain a [] ns all = refl
 word_plain a (x ∷ w) ns all = plain_append (name_of a.names x) _ (name_plain (name_of a.names x) (ns.each x all.0)) (tail_plain a w ns all.1)
 
 term_plain : (a : Alphabet) (c : ℕ) (w : Word) → c < 65536 → AreNames a → AreLetters a w → ArePlain (coefficient_and_word a.names c w)
-term_plain a c [] small ns all = decimal_plain c small
+term_plain a c [] small ns all = decimal_plain c (omega (arith, small))
 term_plain a c (x ∷ w) small ns all = plain_append (cond (eqb c 1) [] (decimal c ++ 42 ∷ [])) (word_text a.names (x ∷ w)) (by_one (eqb c 1)) (word_plain a (x ∷ w) ns all)
   where
     by_one : (b : Bool) → ArePlain (cond b [] (decimal c ++ 42 ∷ []))
     by_one true = refl
-    by_one false = plain_append (decimal c) (42 ∷ []) (decimal_plain c small) refl
+    by_one false = plain_append (decimal c) (42 ∷ []) (decimal_plain c (omega (arith, small))) refl
 
 terms_plain : (p : ℕ) (a : Alphabet) (f : Polynomial) → p < 65536 → AreNames a → ArePrinted p a f → ArePlain (flat_map (λ y. (32 ∷ 43 ∷ 32 ∷ []) ++ y) (map (term_text a.names) f))
 terms_plain p a [] small ns all = refl
@@ -54,8 +53,8 @@ sig_plain a generators σ ns few h =
     (plain_append (decimal σ.generator) (93 ∷ 32 ∷ word_text a.names σ.right) (decimal_plain σ.generator (let k = h.listed in omega arith)) (word_plain a σ.right ns (are_letters a σ.right h.right)))
 
 factor_plain : (of : Factor) → number_in of ≤ 4000000000 → ArePlain (factor_text of)
-factor_plain (Factor.a_generator i) few = plain_append (decimal i) (93 ∷ 32 ∷ []) (number_plain i few) refl
-factor_plain (Factor.a_line k) few = plain_append (decimal k) (125 ∷ 32 ∷ []) (number_plain k few) refl
+factor_plain (Factor.a_generator i) few = plain_append (decimal i) (93 ∷ 32 ∷ []) (decimal_plain i few) refl
+factor_plain (Factor.a_line k) few = plain_append (decimal k) (125 ∷ 32 ∷ []) (decimal_plain k few) refl
 
 pub part_plain : (s : NamedSetting) (reaches : List ℕ) (part : Part) → s.setting.prime < 65536 → AreNames s.alphabet → number_in part.of ≤ 4000000000 → IsTextPart s reaches part → ArePlain (part_text s.alphabet.names part)
 part_plain s reaches part small ns few h =

@@ -186,7 +186,7 @@ word_tokens a x w bytes ns all h =
 
 text_tokens : (a : Alphabet) (c : ℕ) (w : Word) (bytes : List ℕ) → c < 65536 → AreNames a → AreLetters a w → IsBreak bytes
     → tokens (coefficient_and_word a.names c w ++ bytes) ≡ term_tokens a.names c w (tokens bytes)
-text_tokens a c [] bytes small ns all h = literal_token (decimal c) bytes c (decimal_is c small) h
+text_tokens a c [] bytes small ns all h = literal_token (decimal c) bytes c (decimal_is c (omega (arith, small))) h
 text_tokens a c (x ∷ w) bytes small ns all h = by_one (eqb c 1) (word_tokens a x w bytes ns all h)
   where
     by_one : (b : Bool) → tokens (word_text a.names (x ∷ w) ++ bytes) ≡ Name (name_of a.names x) ∷ word_rest a.names w (tokens bytes)
@@ -194,7 +194,7 @@ text_tokens a c (x ∷ w) bytes small ns all h = by_one (eqb c 1) (word_tokens a
     by_one true word = word
     by_one false word =
         let regrouped : ((decimal c ++ 42 ∷ []) ++ word_text a.names (x ∷ w)) ++ bytes ≡ decimal c ++ (42 ∷ (word_text a.names (x ∷ w) ++ bytes)) = append_assoc (decimal c ++ 42 ∷ []) (word_text a.names (x ∷ w)) bytes ∙ append_assoc (decimal c) (42 ∷ []) (word_text a.names (x ∷ w) ++ bytes) in
-        ap tokens regrouped ∙ literal_token (decimal c) (42 ∷ (word_text a.names (x ∷ w) ++ bytes)) c (decimal_is c small) (refl, refl)
+        ap tokens regrouped ∙ literal_token (decimal c) (42 ∷ (word_text a.names (x ∷ w) ++ bytes)) c (decimal_is c (omega (arith, small))) (refl, refl)
         ∙ ap (λ (ts : List Token). Literal c ∷ ts) (times_token (word_text a.names (x ∷ w) ++ bytes) ∙ ap (λ (ts : List Token). Times ∷ ts) word)
 
 abbrev terms_text : List (List ℕ) → Polynomial → List ℕ

@@ -11,7 +11,6 @@ use Rattle.nc_algebra.specs.Sums.{Term}
 use Rattle.nc_algebra.specs.Words.{Word}
 use Rattle.nc_tokens.proofs.Digits.{decimal_is, one_is}
 use Rattle.nc_text.proofs.Names.{AreNames}
-use Rattle.nc_text.proofs.Numbers.{number_is}
 use Rattle.nc_text.proofs.ReadRows.{IsTextMonomial, IsTextPart}
 use Rattle.nc_tokens.proofs.Bytes.{bytes_apart}
 use Rattle.nc_tokens.proofs.PrintedTokens.{IsBreak, close_token, literal_token, name_token, nothing, open_token, space_token}
@@ -44,7 +43,7 @@ prime_small s is = (listed_facts s.setting.prime is.prime).1
 pub field_again : (p : ℕ) → p < 65536 → is_listed_prime p ≡ true → field_at (tokens (decimal p)) ≡ Ok p
 unfolding field_at literal_at end_at
 field_again p small listed =
-    let text : tokens (decimal p) ≡ Literal p ∷ [] = ap tokens (sym (append-nil (decimal p))) ∙ literal_token (decimal p) [] p (decimal_is p small) tt ∙ ap (λ (ts : List Token). Literal p ∷ ts) nothing in
+    let text : tokens (decimal p) ≡ Literal p ∷ [] = ap tokens (sym (append-nil (decimal p))) ∙ literal_token (decimal p) [] p (decimal_is p (omega (arith, small))) tt ∙ ap (λ (ts : List Token). Literal p ∷ ts) nothing in
     ap field_at text ∙ rw (listed) refl
 
 -- ---- letters
@@ -167,7 +166,7 @@ brackets_text : (i : ℕ) (bytes : List ℕ) → i ≤ 4000000000 → tokens (32
 brackets_text i bytes few =
     let closed : tokens (93 ∷ 32 ∷ bytes) ≡ Close ∷ tokens bytes = close_token (32 ∷ bytes) ∙ ap (λ (ts : List Token). Close ∷ ts) (space_token bytes) in
     space_token (91 ∷ (decimal i ++ 93 ∷ 32 ∷ bytes)) ∙ open_token (decimal i ++ 93 ∷ 32 ∷ bytes)
-    ∙ ap (λ (ts : List Token). Open ∷ ts) (literal_token (decimal i) (93 ∷ 32 ∷ bytes) i (number_is i few) (refl, refl) ∙ ap (λ (ts : List Token). Literal i ∷ ts) closed)
+    ∙ ap (λ (ts : List Token). Open ∷ ts) (literal_token (decimal i) (93 ∷ 32 ∷ bytes) i (decimal_is i few) (refl, refl) ∙ ap (λ (ts : List Token). Literal i ∷ ts) closed)
 
 open_brace_token : (rest : List ℕ) → tokens (123 ∷ rest) ≡ OpenBrace ∷ tokens rest
 unfolding tokens pieces
@@ -183,7 +182,7 @@ braces_text : (k : ℕ) (bytes : List ℕ) → k ≤ 4000000000 → tokens (32 �
 braces_text k bytes few =
     let closed : tokens (125 ∷ 32 ∷ bytes) ≡ CloseBrace ∷ tokens bytes = close_brace_token (32 ∷ bytes) ∙ ap (λ (ts : List Token). CloseBrace ∷ ts) (space_token bytes) in
     space_token (123 ∷ (decimal k ++ 125 ∷ 32 ∷ bytes)) ∙ open_brace_token (decimal k ++ 125 ∷ 32 ∷ bytes)
-    ∙ ap (λ (ts : List Token). OpenBrace ∷ ts) (literal_token (decimal k) (125 ∷ 32 ∷ bytes) k (number_is k few) (refl, refl) ∙ ap (λ (ts : List Token). Literal k ∷ ts) closed)
+    ∙ ap (λ (ts : List Token). OpenBrace ∷ ts) (literal_token (decimal k) (125 ∷ 32 ∷ bytes) k (decimal_is k few) (refl, refl) ∙ ap (λ (ts : List Token). Literal k ∷ ts) closed)
 
 -- the number of a generator or a line
 abbrev pub number_in : Factor → ℕ

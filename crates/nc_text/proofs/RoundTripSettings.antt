@@ -68,7 +68,7 @@ module _ (s : NamedSetting) (is : IsSetting s) where
   claim_text f = codes "claim " ++ poly_text names f
 
   field_is : IsLineOf (codes "field") (tokens (decimal p)) (codes "field " ++ decimal p)
-  field_is = spaced_line (codes "field") (decimal p) (record { name = refl; begun = λ rest. refl }) (decimal_plain p small)
+  field_is = spaced_line (codes "field") (decimal p) (record { name = refl; begun = λ rest. refl }) (decimal_plain p (omega (arith, small)))
 
   letters_is : IsLineOf (codes "letters") (tokens (names_text names)) (names_line names)
   letters_is = keyword_line (codes "letters") (names_text names) (record { name = refl; begun = λ rest. refl }) (names_break names) (names_plain names each_name)

@@ -19,7 +19,7 @@ all_digits : (ds : List ℕ) → all_ascii_digits ds ≡ true → list_all is_as
 all_digits [] h = refl
 all_digits (d ∷ ds) h = let k = and_parts (is_ascii_digit d) (all_ascii_digits ds) h in and_from _ _ k.0 (all_digits ds k.1)
 
-pub decimal_is : (n : ℕ) → n < 65536 → AreDigitsOf (decimal n) n
+pub decimal_is : (n : ℕ) → n ≤ 4000000000 → AreDigitsOf (decimal n) n
 decimal_is n small = record {
   some = decimal_nonempty n (omega arith);
   few = length-decimal-le 18 n (omega arith) (omega arith) (omega arith);

@@ -2,7 +2,7 @@
 use Rattle.nc_algebra.specs.Alphabets.{is_name, is_name_byte}
 use Rattle.nc_tokens.proofs.Digits.{decimal_is}
 use Rattle.nc_tokens.specs.Lines.{is_allowed}
-use Rattle.std.proofs.Common.{Bool, List, [], arith, decimal, eqb, false, length, not, refl, true, ℕ, ◌&&◌, ◌++◌, ◌<◌, ◌∙◌, ◌∷◌, ◌≡◌}
+use Rattle.std.proofs.Common.{Bool, List, [], arith, decimal, eqb, false, length, not, refl, true, ℕ, ◌&&◌, ◌++◌, ◌∙◌, ◌∷◌, ◌≡◌, ◌≤◌}
 use Rattle.std.proofs.lemmas.Bool.Decides.{nat_tests}
 use Rattle.std.proofs.lemmas.Bool.{and_from, and_parts}
 use Rattle.std.proofs.lemmas.List.Folds.{list_all-append}
@@ -35,7 +35,7 @@ digit_plain b e = grind (arith, nat_tests)
 name_byte_plain : (b : ℕ) → is_name_byte b ≡ true → is_plain b ≡ true
 name_byte_plain b e = grind (arith, nat_tests)
 
-pub decimal_plain : (n : ℕ) → n < 65536 → ArePlain (decimal n)
+pub decimal_plain : (n : ℕ) → n ≤ 4000000000 → ArePlain (decimal n)
 decimal_plain n small = all_weaker is_ascii_digit is_plain digit_plain (decimal n) (decimal_is n small).digits
 
 pub name_plain : (name : List ℕ) → is_name name ≡ true → ArePlain name

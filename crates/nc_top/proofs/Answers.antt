@@ -14,8 +14,9 @@ use Rattle.nc_search.specs.Named.{letters_of}
 use Rattle.nc_search.specs.Untraced.{untraced}
 use Rattle.nc_theory.specs.Bases.{HasRepresentation}
 use Rattle.nc_theory.specs.Runs.{End, IsEnd}
-use Rattle.nc_top.proofs.BasisAnswers.{Known, basis_answer, ended_run, err_or_ok, known, one_basis, prime_of, problem_of_text, same_problem}
+use Rattle.nc_top.proofs.BasisAnswers.{Known, basis_answer, ended_run, known, one_basis, prime_of, problem_of_text, same_problem}
 use Rattle.nc_top.proofs.CheckAnswers.{check_answer, one_check}
+use Rattle.nc_top.proofs.Inputs.{err_or_ok}
 use Rattle.nc_top.proofs.MemberAnswers.{member_answer, one_member, same_claims}
 use Rattle.nc_top.proofs.Claims.{problem_is}
 use Rattle.nc_top.proofs.Remainders.{is_represented}

@@ -35,6 +35,7 @@ use Rattle.nc_theory.specs.Runs.{End, IsEnd, SequentialRun}
 use Rattle.nc_theory.specs.States.{State, Syzygy}
 use Rattle.nc_tokens.specs.Kinds.{number_of}
 use Rattle.nc_tokens.specs.declared.fault.TextFault.{TextFault}
+use Rattle.nc_top.proofs.Inputs.{err_or_ok, same_fault}
 use Rattle.nc_top.specs.Basis.{AreLabelled, AreShort, AreShown, IsBasis, IsBasisAnswer, IsProblemText, IsTooManyTerms, reads_relations, status_at}
 use Rattle.nc_top.specs.Inputs.{IsBadText, IsTooLarge}
 use Rattle.nc_top.specs.Reports.{bad_text_report, basis_report, cofactor_lines, entry_lines, syzygy_lines, too_many_report}
@@ -70,6 +71,11 @@ module _ (s : Setting) (prime : IsPrime s.prime) (run : State) (labels labels' :
 
 -- ---- what holds at an end
 
+-- the run that ends so
+pub ended_run : (P : Problem) {n : ℕ} {run : State} {ending : End} → IsEnd P n run ending → (last : Option Monomial) × SequentialRun P n run last
+ended_run P (IsEnd.is_complete {last = last} l r none) = (last, r)
+ended_run P (IsEnd.is_budget {last = last} e r τ next) = (last, r)
+
 pub prime_of : (P : NamedProblem) → IsProblem P → IsPrime P.problem.setting.prime
 prime_of P is = listed_is_prime P.problem.setting.prime is.setting.prime
 
@@ -92,10 +98,6 @@ module _ (bytes : List ℕ) (P : NamedProblem) (text : IsProblemText bytes P) wh
   canonical : {n : ℕ} {run : State} {last : Option Monomial} → SequentialRun P.problem n run last → AreCanonical P.problem.setting run
   canonical r e k = (entry_canonical P.problem field r e k, entry_unique P.problem field r e k)
 
-  runs_to : {n : ℕ} {run : State} {ending : End} → IsEnd P.problem n run ending → (last : Option Monomial) × SequentialRun P.problem n run last
-  runs_to (IsEnd.is_complete {last = last} l r none) = (last, r)
-  runs_to (IsEnd.is_budget {last = last} e r τ next) = (last, r)
-
   -- the end of the run, with the report on it, is what `basis` answers
   pub basis_from : (options : BasisOptions) (labels : Listed → Element) (n : ℕ) (run : State) (ending : End) (report : List ℕ) → IsEnd P.problem n run ending → AreShown options.cofactors P.problem.setting run labels → AreShort options P.problem.setting run
       → report ≡ basis_report options.cofactors P.alphabet.names labels n run ending → IsBasis options bytes ending report
@@ -105,19 +107,14 @@ module _ (bytes : List ℕ) (P : NamedProblem) (text : IsProblemText bytes P) wh
     handled = n;
     run = run;
     ends = ends;
-    labelled = labelled (runs_to ends).1;
-    canonical = canonical (runs_to ends).1;
+    labelled = labelled (ended_run P.problem ends).1;
+    canonical = canonical (ended_run P.problem ends).1;
     bases = moved_bases_at P.problem (untraced run) run (untraced_twice run) ending (end_facts P.problem (prime_of P is) n (untraced run) ending (record { run = run; ends = ends; stands = refl }));
     labels = labels;
     are = are;
     short = short;
     written = written;
   }
-
--- the run that ends so
-pub ended_run : (P : Problem) {n : ℕ} {run : State} {ending : End} → IsEnd P n run ending → (last : Option Monomial) × SequentialRun P n run last
-ended_run P (IsEnd.is_complete {last = last} l r none) = (last, r)
-ended_run P (IsEnd.is_budget {last = last} e r τ next) = (last, r)
 
 -- ---- one answer
 
@@ -202,20 +199,6 @@ pub answered : (options : BasisOptions) (bytes : List ℕ) (e : End) (report : L
 answered options bytes End.complete report h = h
 answered options bytes (End.budget τ) report h = (τ, h)
 
-pub err_or_ok : {t : ProblemText} {fault : TextFault} → Err fault ≡ Ok t → ⊥
-err_or_ok e = absurd cc
-
-same_fault : (bytes : List ℕ) (l k l' k' : ℕ) (r r' : List ℕ) → IsBadText reads_relations bytes l k r → IsBadText reads_relations bytes l' k' r' → (BadText l k ≡ BadText l' k') × (r ≡ r')
-same_fault bytes l k l' k' r r' a b =
-    let one : a.fault ≡ b.fault = ap fault_in (sym a.read ∙ b.read) in
-    let line : l ≡ l' = a.at_line ∙ (ap (λ (f : TextFault). f.line) one ∙ sym b.at_line) in
-    let kind : k ≡ k' = a.of_kind ∙ (ap (λ (f : TextFault). number_of f.kind) one ∙ sym b.of_kind) in
-    (ap₂ BadText line kind, a.written ∙ (ap₂ bad_text_report line kind ∙ sym b.written))
-  where
-    fault_in : Result ProblemText TextFault → TextFault
-    fault_in (Ok t) = a.fault
-    fault_in (Err f) = f
-
 module _ (options : BasisOptions) (bytes : List ℕ) where
   both_known : (s s' : Status) (r r' : List ℕ) → Known options bytes s r → Known options bytes s' r' → (s ≡ s') × (r ≡ r')
   both_known s s' r r' (Known.is_large a) (Known.is_large b) = (refl, a.written ∙ sym b.written)
@@ -223,7 +206,7 @@ module _ (options : BasisOptions) (bytes : List ℕ) where
   both_known s s' r r' (Known.is_large a) (Known.ended_at e b) = absurd (omega (arith, a.large, b.text.small))
   both_known s s' r r' (Known.is_large a) (Known.is_many l n b) = absurd (omega (arith, a.large, b.text.small))
   both_known s s' r r' (Known.is_bad l k a) (Known.is_large b) = absurd (omega (arith, b.large, a.small))
-  both_known s s' r r' (Known.is_bad l k a) (Known.is_bad l' k' b) = same_fault bytes l k l' k' r r' a b
+  both_known s s' r r' (Known.is_bad l k a) (Known.is_bad l' k' b) = same_fault reads_relations bytes l k l' k' r r' a b
   both_known s s' r r' (Known.is_bad l k a) (Known.ended_at e b) = absurd (err_or_ok (sym a.read ∙ b.text.read))
   both_known s s' r r' (Known.is_bad l k a) (Known.is_many l' n b) = absurd (err_or_ok (sym a.read ∙ b.text.read))
   both_known s s' r r' (Known.ended_at e a) (Known.is_large b) = absurd (omega (arith, b.large, a.text.small))

@@ -1,3 +1,4 @@
+pub mod Inputs
 pub mod CheckAnswers
 pub mod BasisAnswers
 pub mod Answers

@@ -26,6 +26,7 @@ use Rattle.nc_tokens.specs.Kinds.{number_of}
 use Rattle.nc_tokens.specs.declared.fault.TextFault.{TextFault}
 use Rattle.nc_top.proofs.BasisAnswers.{ended_run, field_of, prime_of}
 use Rattle.nc_top.proofs.Claims.{claim_in, has_claim, problem_is}
+use Rattle.nc_top.proofs.Inputs.{err_or_ok, same_fault}
 use Rattle.nc_top.proofs.MemberLines.{proof_holds}
 use Rattle.nc_top.proofs.Needed.{AreListed, needed_dec, needed_list, needed_once, needed_within, number_dec, numbers_within}
 use Rattle.nc_top.proofs.Remainders.{not_represented, rest_exists, rest_once, terms_evaluate, terms_lie}
@@ -172,30 +173,16 @@ remains_once : (options : MemberOptions) (bytes : List ℕ) (s s' : Status) (rep
 remains_once options bytes s s' report report' r r' a b told told' =
     told_once options r (some_prime r.problem (problem_is bytes r.problem r.claim a.text)) s s' report report' told (subst (λ (x : Remainder). Told options x s' report') (sym (same_remainders bytes r r' a b)) told')
 
-no_fault : {t : ProblemText} {fault : TextFault} → Err fault ≡ Ok t → ⊥
-no_fault e = absurd cc
-
-same_fault : (bytes : List ℕ) (l k l' k' : ℕ) (r r' : List ℕ) → IsBadText reads_claim bytes l k r → IsBadText reads_claim bytes l' k' r' → (BadText l k ≡ BadText l' k') × (r ≡ r')
-same_fault bytes l k l' k' r r' a b =
-    let one : a.fault ≡ b.fault = ap fault_in (sym a.read ∙ b.read) in
-    let line : l ≡ l' = a.at_line ∙ (ap (λ (f : TextFault). f.line) one ∙ sym b.at_line) in
-    let kind : k ≡ k' = a.of_kind ∙ (ap (λ (f : TextFault). number_of f.kind) one ∙ sym b.of_kind) in
-    (ap₂ BadText line kind, a.written ∙ (ap₂ bad_text_report line kind ∙ sym b.written))
-  where
-    fault_in : Result ProblemText TextFault → TextFault
-    fault_in (Ok t) = a.fault
-    fault_in (Err f) = f
-
 module _ (options : MemberOptions) (bytes : List ℕ) where
   both_known : (s s' : Status) (r r' : List ℕ) → Known options bytes s r → Known options bytes s' r' → (s ≡ s') × (r ≡ r')
   both_known s s' q q' (Known.is_large a) (Known.is_large b) = (refl, a.written ∙ sym b.written)
   both_known s s' q q' (Known.is_large a) (Known.is_bad l k b) = absurd (omega (arith, a.large, b.small))
   both_known s s' q q' (Known.is_large a) (Known.remains (r, b, told)) = absurd (omega (arith, a.large, b.text.small))
   both_known s s' q q' (Known.is_bad l k a) (Known.is_large b) = absurd (omega (arith, b.large, a.small))
-  both_known s s' q q' (Known.is_bad l k a) (Known.is_bad l' k' b) = same_fault bytes l k l' k' q q' a b
-  both_known s s' q q' (Known.is_bad l k a) (Known.remains (r, b, told)) = absurd (no_fault (sym a.read ∙ b.text.read))
+  both_known s s' q q' (Known.is_bad l k a) (Known.is_bad l' k' b) = same_fault reads_claim bytes l k l' k' q q' a b
+  both_known s s' q q' (Known.is_bad l k a) (Known.remains (r, b, told)) = absurd (err_or_ok (sym a.read ∙ b.text.read))
   both_known s s' q q' (Known.remains (r, a, told)) (Known.is_large b) = absurd (omega (arith, b.large, a.text.small))
-  both_known s s' q q' (Known.remains (r, a, told)) (Known.is_bad l k b) = absurd (no_fault (sym b.read ∙ a.text.read))
+  both_known s s' q q' (Known.remains (r, a, told)) (Known.is_bad l k b) = absurd (err_or_ok (sym b.read ∙ a.text.read))
   both_known s s' q q' (Known.remains (r, a, told)) (Known.remains (r', b, told')) = remains_once options bytes s s' q q' r r' a b told told'
 
   pub one_member : (s s' : Status) (r r' : List ℕ) → IsMemberAnswer options bytes s r → IsMemberAnswer options bytes s' r' → (s ≡ s') × (r ≡ r')

@@ -1,8 +1,8 @@
 use Rattle.nc_algebra.specs.Problems.{IsWithin}
 use Rattle.nc_member.proofs.Ends.{rest_at}
-use Rattle.nc_member.proofs.Letters.{claim_small}
 use Rattle.nc_member.specs.Members.{IsRestOf}
 use Rattle.nc_reduce.specs.declared.reduction.Rest.{Rest}
+use Rattle.nc_search.proofs.Handling.{words_small}
 use Rattle.nc_search.specs.Usable.{HasSmallWords}
 use Rattle.nc_snapshot.specs.Snapshots.{IsSnapshot, Snapshot}
 use Rattle.nc_theory.specs.Reductions.{Reduction}
@@ -14,7 +14,7 @@ pub reduce_within-requires-clause-small : goal.reduce_within-requires-clause-sma
 reduce_within-requires-clause-small c =
     let s : Snapshot = c.args.finished.now.snapshot in
     let is : IsSnapshot s = subst IsSnapshot c.snapshot-snapshot.ensures.snapshot c.problem-problem.ensures.snapshot in
-    subst (λ (x : Snapshot). HasSmallWords x.problem.problem.setting c.args.claim.now) (sym c.snapshot-snapshot.ensures.snapshot) (claim_small s.problem.alphabet is.problem.setting.alphabet s.problem.problem.setting c.args.claim.now c.requires.claim c.requires.light)
+    subst (λ (x : Snapshot). HasSmallWords x.problem.problem.setting c.args.claim.now) (sym c.snapshot-snapshot.ensures.snapshot) (words_small s.problem.alphabet is.problem.setting.alphabet s.problem.problem.setting c.args.claim.now c.requires.claim.words c.requires.light)
 
 pub returns-clause-rest : goal.returns-clause-rest
 returns-clause-rest c =
