@@ -42,8 +42,7 @@ module _ (P : NamedProblem) where
   -- each term of a sum in normal form has a monomial of what is added up
   pub sum_over : (α : Element) → KeysOver letters α → (m : List (Term Sig)) → IsSum P.problem.setting α m → All (λ t. IsWordIn P.alphabet t.key.left) m × All (λ t. IsWordIn P.alphabet t.key.right) m
   sum_over α o m sum =
-      let both : AllByRecursion BothOver m = among_all BothOver m (λ t k. keys_found letters P.problem.setting α o (monomial_of t.key) (listed_counts P.problem.setting α m sum t k)) in
-      (
+      let both : AllByRecursion BothOver m = among_all BothOver m (λ t k. keys_found letters P.problem.setting α o (monomial_of t.key) (listed_counts P.problem.setting α m sum t k)) in (
         map_all BothOver (λ (t : Term Sig). IsWordIn P.alphabet t.key.left) m both (λ t k. word_in P.alphabet t.key.left k.0),
         map_all BothOver (λ (t : Term Sig). IsWordIn P.alphabet t.key.right) m both (λ t k. word_in P.alphabet t.key.right k.1),
       )

@@ -1,4 +1,4 @@
-ghost use Rattle.std.specs.Prelude.{IfOk, length, ◌≡◌, ◌≤◌};
+ghost use Rattle.std.specs.Prelude.{IfOk, ◌≡◌};
 
 use super::*;
 use nc_field::Prime;
@@ -18,14 +18,19 @@ fn name(bytes: &[u8]) -> Result<Name, Fail>
     Ok(Name::of(bytes).ok_or("no name")?)
 }
 
-/// The polynomial x.
-fn letter(alloc: Global, p: Prime) -> Result<Poly, Fail>
-    requires { p ≡ 101 }
-{
-    let x = Letter::of(0, 1).ok_or("no such letter")?;
-    let mut terms = Vec::new(alloc);
-    terms.push(Term::of(1, Word::join(alloc, &[x], &[], &[])?))?;
+/// The sum of the terms.
+fn sum(p: Prime, terms: Vec<Term>) -> Result<Poly, Fail> {
+    if !terms.iter().all(|t| t.coefficient < p.number()) {
+        return Err("no residues".into());
+    }
     Ok(Poly::of_terms(p, terms))
+}
+
+/// The polynomial x.
+fn letter(alloc: Global, p: Prime) -> Result<Poly, Fail> {
+    let x = Letter::of(0, 1).ok_or("no such letter")?;
+    let word = Word::join(alloc, &[x], &[], &[])?;
+    sum(p, vec![in alloc; Term::of(1, word)]?)
 }
 
 /// The problem with that generator, to degree 4.

@@ -112,14 +112,21 @@ fn name(bytes: &[u8]) -> Result<Name, Fail>
     Ok(Name::of(bytes).ok_or("no name")?)
 }
 
-/// The polynomial x x - y.
-fn square(alloc: Global, p: Prime) -> Result<Poly, Fail>
-    requires { p ≡ 101 }
-{
-    let mut terms = Vec::new(alloc);
-    terms.push(Term::of(1, word(alloc, "xx")?))?;
-    terms.push(Term::of(100, word(alloc, "y")?))?;
+/// The sum of the terms.
+fn sum(p: Prime, terms: Vec<Term>) -> Result<Poly, Fail> {
+    if !terms.iter().all(|t| t.coefficient < p.number()) {
+        return Err("no residues".into());
+    }
     Ok(Poly::of_terms(p, terms))
+}
+
+/// The polynomial x x - y.
+fn square(alloc: Global, p: Prime) -> Result<Poly, Fail> {
+    let (square, letter) = (word(alloc, "xx")?, word(alloc, "y")?);
+    sum(
+        p,
+        vec![in alloc; Term::of(1, square), Term::of(100, letter)]?,
+    )
 }
 
 /// The problem with that generator, to degree 10.

@@ -2,7 +2,7 @@
 
 ghost use Rattle.nc_algebra.specs.Elements.{IsGenerator};
 ghost use Rattle.nc_theory.specs.Runs.{opening};
-ghost use Rattle.std.specs.Prelude.{IfOk, length, ◌≡◌, ◌≤◌};
+ghost use Rattle.std.specs.Prelude.{IfOk, ◌≡◌, ◌≤◌};
 
 use crate::{Desk, End, Finished, handle};
 use nc_field::Prime;
@@ -24,16 +24,24 @@ fn name(bytes: &[u8]) -> Result<Name, Fail>
     Ok(Name::of(bytes).ok_or("no name")?)
 }
 
+/// The sum of the terms.
+fn sum(p: Prime, terms: Vec<Term>) -> Result<Poly, Fail> {
+    if !terms.iter().all(|t| t.coefficient < p.number()) {
+        return Err("no residues".into());
+    }
+    Ok(Poly::of_terms(p, terms))
+}
+
 /// The polynomial x x - y.
-fn square(alloc: Global, p: Prime) -> Result<Poly, Fail>
-    requires { p ≡ 101 }
-{
+fn square(alloc: Global, p: Prime) -> Result<Poly, Fail> {
     let x = Letter::of(0, 1).ok_or("no such letter")?;
     let y = Letter::of(1, 1).ok_or("no such letter")?;
-    let mut terms = Vec::new(alloc);
-    terms.push(Term::of(1, Word::join(alloc, &[x], &[x], &[])?))?;
-    terms.push(Term::of(100, Word::join(alloc, &[y], &[], &[])?))?;
-    Ok(Poly::of_terms(p, terms))
+    let square = Word::join(alloc, &[x], &[x], &[])?;
+    let letter = Word::join(alloc, &[y], &[], &[])?;
+    sum(
+        p,
+        vec![in alloc; Term::of(1, square), Term::of(100, letter)]?,
+    )
 }
 
 /// The problem with that generator, to this degree, of so many steps.

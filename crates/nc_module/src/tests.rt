@@ -55,7 +55,7 @@ fn alphabet(alloc: Global, weights: Vec<u8>) -> Result<Alphabet, Fail> {
 }
 
 /// The sum of the terms.
-fn polynomial(p: Prime, terms: Vec<Term>) -> Result<Poly, Fail> {
+fn sum(p: Prime, terms: Vec<Term>) -> Result<Poly, Fail> {
     if !terms.iter().all(|t| t.coefficient < p.number()) {
         return Err("no residues".into());
     }
@@ -67,7 +67,7 @@ fn monomial(alloc: Global, p: Prime, letters: &[Letter]) -> Result<Poly, Fail>
     requires { length letters.now ≤ 24 }
 {
     let word = Word::join(alloc, letters, &[], &[])?;
-    polynomial(p, vec![in alloc; Term::of(1, word)]?)
+    sum(p, vec![in alloc; Term::of(1, word)]?)
 }
 
 #[test]

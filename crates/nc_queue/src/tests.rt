@@ -1,7 +1,7 @@
 //! The queue of a problem over x and y, which weigh 1 and 3, with the generators x x y and y. Signatures are written as
 //! degree and generator; their words are empty.
 
-ghost use Rattle.std.specs.Prelude.{length, ◌≡◌, ◌≤◌};
+ghost use Rattle.std.specs.Prelude.{length, ◌≤◌};
 
 use crate::Waiting;
 use nc_field::Prime;
@@ -13,14 +13,20 @@ use std::alloc::Global;
 use std::sync::Arc;
 use std::test::Fail;
 
+/// The sum of the terms.
+fn sum(p: Prime, terms: Vec<Term>) -> Result<Poly, Fail> {
+    if !terms.iter().all(|t| t.coefficient < p.number()) {
+        return Err("no residues".into());
+    }
+    Ok(Poly::of_terms(p, terms))
+}
+
 /// A polynomial of one term with coefficient 1.
 fn monomial(alloc: Global, p: Prime, letters: &[Letter]) -> Result<Poly, Fail>
-    requires few { length letters.now ≤ 24 }
-    requires prime { p ≡ 101 }
+    requires { length letters.now ≤ 24 }
 {
-    let mut terms = Vec::new(alloc);
-    terms.push(Term::of(1, Word::join(alloc, letters, &[], &[])?))?;
-    Ok(Poly::of_terms(p, terms))
+    let word = Word::join(alloc, letters, &[], &[])?;
+    sum(p, vec![in alloc; Term::of(1, word)]?)
 }
 
 /// The setting: its generators weigh 5 and 3.

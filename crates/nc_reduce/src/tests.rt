@@ -1,6 +1,6 @@
 ghost use Rattle.nc_algebra.specs.Elements.{IsGenerator};
 ghost use Rattle.nc_theory.specs.Runs.{opening};
-ghost use Rattle.std.specs.Prelude.{IfOk, length, ◌≡◌, ◌≤◌};
+ghost use Rattle.std.specs.Prelude.{IfOk, ◌≡◌};
 
 use crate::{Reduced, reduce};
 use nc_field::Prime;
@@ -31,16 +31,21 @@ fn alphabet(alloc: Global) -> Result<Alphabet, Fail> {
     Ok(Alphabet::of(names, weights))
 }
 
+/// The sum of the terms.
+fn sum(p: Prime, terms: Vec<Term>) -> Result<Poly, Fail> {
+    if !terms.iter().all(|t| t.coefficient < p.number()) {
+        return Err("no residues".into());
+    }
+    Ok(Poly::of_terms(p, terms))
+}
+
 /// 3 xy + 5 y.
-fn poly(alloc: Global, p: Prime) -> Result<Poly, Fail>
-    requires prime { p ≡ 101 }
-{
+fn poly(alloc: Global, p: Prime) -> Result<Poly, Fail> {
     let x = Letter::of(0, 1).ok_or("no such letter")?;
     let y = Letter::of(1, 1).ok_or("no such letter")?;
-    let mut terms = Vec::new(alloc);
-    terms.push(Term::of(3, Word::join(alloc, &[x], &[y], &[])?))?;
-    terms.push(Term::of(5, Word::join(alloc, &[y], &[], &[])?))?;
-    Ok(Poly::of_terms(p, terms))
+    let first = Word::join(alloc, &[x], &[y], &[])?;
+    let second = Word::join(alloc, &[y], &[], &[])?;
+    sum(p, vec![in alloc; Term::of(3, first), Term::of(5, second)]?)
 }
 
 /// The problem with this one generator, to degree 10.

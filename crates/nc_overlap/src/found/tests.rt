@@ -33,14 +33,21 @@ fn name(bytes: &[u8]) -> Result<Name, Fail>
     Ok(Name::of(bytes).ok_or("no name")?)
 }
 
-/// The polynomial x x - y.
-fn square(alloc: Global, p: Prime) -> Result<Poly, Fail>
-    requires { p ≡ 101 }
-{
-    let mut terms = Vec::new(alloc);
-    terms.push(Term::of(1, word(alloc, "xx")?))?;
-    terms.push(Term::of(100, word(alloc, "y")?))?;
+/// The sum of the terms.
+fn sum(p: Prime, terms: Vec<Term>) -> Result<Poly, Fail> {
+    if !terms.iter().all(|t| t.coefficient < p.number()) {
+        return Err("no residues".into());
+    }
     Ok(Poly::of_terms(p, terms))
+}
+
+/// The polynomial x x - y.
+fn square(alloc: Global, p: Prime) -> Result<Poly, Fail> {
+    let (square, letter) = (word(alloc, "xx")?, word(alloc, "y")?);
+    sum(
+        p,
+        vec![in alloc; Term::of(1, square), Term::of(100, letter)]?,
+    )
 }
 
 /// The problem with the generators x x - y and y, to this degree.
@@ -54,9 +61,8 @@ fn problem(alloc: Global, degree: u32) -> Result<Problem, Fail>
         return Err("no alphabet".into());
     }
     let alphabet = Alphabet::of(names, weights);
-    let mut terms = Vec::new(alloc);
-    terms.push(Term::of(1, word(alloc, "y")?))?;
-    let generators = vec![in alloc; square(alloc, p)?, Poly::of_terms(p, terms)]?;
+    let letter = sum(p, vec![in alloc; Term::of(1, word(alloc, "y")?)]?)?;
+    let generators = vec![in alloc; square(alloc, p)?, letter]?;
     if !Setting::takes(p, &alphabet, &generators) {
         return Err("no setting".into());
     }

@@ -11,8 +11,10 @@ use std::test::Fail;
 /// Appends a module monomial.
 fn push_monomial(out: &mut String, m: &Monomial) -> Result<(), Fail> {
     push_word(out, m.left().letters())?;
-    write!(out, "[{}]", m.number())?;
-    push_word(out, m.right().letters())
+    let number = m.number();
+    write!(out, "[{number}]")?;
+    push_word(out, m.right().letters())?;
+    Ok(())
 }
 
 /// Appends an entry.
