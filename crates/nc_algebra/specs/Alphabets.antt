@@ -1,4 +1,12 @@
--- Alphabets: the names and the weights of the letters that a text may use, and the words and polynomials over them.
+-- Alphabets: names and weights of letters, and the words and polynomials over them.
+--
+-- Texts give letters by names; the theory knows them by numbers, which count from 0. A word is over
+-- an alphabet where each of its letters has its number in the alphabet, and the weight that stands
+-- there. A letter with another weight is another letter.
+--
+-- The limits of texts are tighter than those of values. A word in a text has at most 255 letters,
+-- while a word that was computed may have more. The definitions with `Text` in their names say what
+-- may stand in a text; the others ask only for the alphabet.
 use Rattle.nc_algebra.specs.Lists.{IsDistinct}
 use Rattle.nc_algebra.specs.Polynomials.{IsNormal, Polynomial}
 use Rattle.nc_algebra.specs.Words.{Letter, Word}

@@ -1,4 +1,18 @@
--- Certificates of ideal membership: lines, each a sum of multiples of generators and of earlier lines.
+-- Certificates of ideal membership: lines, each a sum of multiples of generators and earlier lines.
+--
+-- A certificate shows that its claim lies in the ideal of the generators. A part c a f b has a
+-- generator or the value of an earlier line as its factor f, and a line is the sum of its parts.
+-- Later lines may use a line any number of times, so a certificate can be much shorter than its
+-- claim written out in generators. Values are lists of terms, not normal forms. Generators and
+-- lines are counted from 1, and the value of a number out of range is zero.
+--
+-- The reach of a line limits the letters of the words in its value, and is told without making the
+-- value. The rule of certificates bounds it, so that a check knows the length of its words
+-- beforehand.
+--
+-- A line also stands for a module element: itself with all lines before it written out in
+-- generators. By the law `Cofactors` it evaluates to the value of the line, so a valid certificate
+-- has cofactors of its claim. In turn, the terms of a module element are a certificate of one line.
 use Rattle.nc_algebra.specs.Alphabets.{IsPolynomialIn, IsTextPolynomial, IsTextWord, IsWordIn}
 use Rattle.nc_algebra.specs.Elements.{Element, IsGenerator, SamePolynomial, Setting, element_times, generator}
 use Rattle.nc_algebra.specs.Monomials.{Monomial, unit_monomial}

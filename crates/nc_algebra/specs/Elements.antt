@@ -1,4 +1,15 @@
--- Module elements: sums of module monomials over the generators of a setting, and what they evaluate to.
+-- Module elements: sums of module monomials over the generators of a setting, and their values.
+--
+-- A setting is a prime and a list of generators. The weight of a generator is that of its leading
+-- word. So a setting fixes the degree of each monomial, and the order on monomials.
+--
+-- A module element evaluates to a polynomial. It is a label of a polynomial f with signature τ
+-- where it has only generators of the setting, evaluates to f, and has τ as its greatest monomial,
+-- with coefficient 1. A label tells how f is made of the generators; a polynomial may have many.
+--
+-- All this counts modulo the prime. In particular the monomials of an element and the words of a
+-- polynomial are those whose coefficient is not zero, whatever else the list has: so in `IsIn`,
+-- `WordsAre` and `IsSignatureOf`.
 use Rattle.nc_algebra.specs.Monomials.{IsMonomialLess, Monomial, Sig, degree_of, monomial_of, same_monomial, sig_of, times}
 use Rattle.nc_algebra.specs.Polynomials.{Polynomial, coefficient, leading, polynomial_times}
 use Rattle.nc_algebra.specs.Primes.{IsZero}

@@ -1,4 +1,16 @@
--- The laws that the functions of this crate carry.
+-- The theorems of this crate: on orders, normal forms, bounds and certificates.
+--
+-- `WordOrder` and `MonomialOrder` say that the two orders are strict, total and well-founded, and
+-- compatible with multiplication, and that the comparisons compute them. `LabelLimit` bounds the
+-- weight of what has a label, and `Inverses` gives inverses modulo a prime. `SigLaw` justifies
+-- monomials that carry their degree. `FiniteBound` says that the list of a bound's monomials is
+-- right, and `NormalForms` that each polynomial has one normal form.
+--
+-- The last three are on certificates: one is valid exactly where its rest is empty, each one has
+-- cofactors, and a module element makes a certificate of one line.
+--
+-- Each theorem is the contract of a public function with an empty body. A crate that calls the
+-- function has the theorem.
 use Rattle.nc_algebra.specs.Certificates.{Certificate, IsCertificate, IsValid, Line, element_lines, lines_element, lines_value, rest_of}
 use Rattle.nc_algebra.specs.Elements.{degree, Element, IsGenerator, IsIn, IsLabelled, IsLess, Setting, WeighsAtMost, evaluation, generator_weight}
 use Rattle.nc_algebra.specs.Finite.{IsOver, monomials_within}

@@ -1,4 +1,7 @@
--- Lists without repetition.
+-- Membership in a list, and lists without repetition.
+--
+-- `Among` is defined by recursion on the list, while the library's `Contains` gives the place of
+-- the item. Statements use `Contains`; `Among` is for proofs by induction, and for `IsDistinct`.
 use Rattle.std.specs.Prelude.{List, [], ◌∷◌, ◌≡◌, ◌⊎◌}
 
 -- x is an element: by recursion, for what is proved by recursion

@@ -1,4 +1,10 @@
 -- Numbers modulo a prime, and the primes that the program works with.
+--
+-- Coefficients are natural numbers, and count modulo a prime p. There are no negative numbers:
+-- `p - 1` times a number stands for its negative. A residue is a number less than p.
+--
+-- `IsPrime` is the usual definition. `IsField` is what the arithmetic uses: inverses. The law
+-- `Inverses` derives them from `IsPrime`.
 use Rattle.std.specs.Int.{◌∣◌}
 use Rattle.std.specs.Prelude.{Bool, nat_eq, ℕ, ◌%◌, ◌*◌, ◌<◌, ◌||◌, ◌≡◌, ◌⊎◌}
 

@@ -1,4 +1,7 @@
--- Settings as texts give them: with an alphabet.
+-- Settings as texts give them: with an alphabet, and within the limits of a program.
+--
+-- The theory needs no names, so `Setting` has none. A text names its letters, and a report prints
+-- them, so a program carries both. There may be no generator at all; then the ideal is zero.
 use Rattle.nc_algebra.specs.Alphabets.{Alphabet, IsAlphabet, IsTextGenerator}
 use Rattle.nc_algebra.specs.Elements.{Setting}
 use Rattle.nc_algebra.specs.Primes.{is_listed_prime}

@@ -1,4 +1,13 @@
--- Finite sums of keys with coefficients: of words they are polynomials, of module monomials module elements.
+-- Finite sums of keys with coefficients.
+--
+-- With words as keys, sums are polynomials; with module monomials, they are module elements. A sum
+-- is a list of terms in any order. A key may stand several times, and a coefficient may be zero.
+-- What counts is the total coefficient of each key modulo p: lists that agree there are the same
+-- sum (`SameSum`). The empty list is zero.
+--
+-- So addition is the appending of lists, and a normal form is only needed where one list has to
+-- stand for a sum. The functions take a test `same` of two keys, since a key may be of any type.
+-- Where an argument p is missing, the result is a number not yet reduced modulo p.
 use Rattle.nc_algebra.specs.Primes.{IsZero}
 use Rattle.std.specs.Prelude.{Bool, List, [], cond, ℕ, ◌%◌, ◌*◌, ◌++◌, ◌+◌, ◌-◌, ◌∷◌, ◌≡◌}
 

@@ -1,4 +1,7 @@
--- The limit on work as a function: what a search for the first part beyond it finds.
+-- The limit on work as a function: a search for the first part that passes it.
+--
+-- `IsTooMuch` in `Charges.antt` says what that part is, and this function computes it. Proofs use
+-- it to show that there is one exactly where the limit is passed.
 use Rattle.nc_cert.specs.Charges.{Charge}
 use Rattle.std.specs.Prelude.{List, None, Option, Some, [], if◌then◌else◌, nat_lt, ℕ, ◌+◌, ◌∷◌}
 

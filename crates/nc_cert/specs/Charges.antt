@@ -1,4 +1,12 @@
 -- The work that the lines of a certificate ask for, and the limit on it.
+--
+-- A short text may ask for very long values, since later lines use earlier ones again and again. So
+-- the check counts the work before it does it. Each product of words costs one and its letters. The
+-- charge up to a part is the sum of the charges of all parts before it and its own, line by line.
+-- The first part where this passes the limit stops the check.
+--
+-- Charges are those of values in normal form, as the check keeps them, so they depend on the
+-- certificate alone and not on how it is checked. Lines count from 1.
 use Rattle.nc_algebra.specs.Certificates.{Line, Part, factor_value, line_value}
 use Rattle.nc_algebra.specs.Elements.{Setting}
 use Rattle.nc_algebra.specs.Polynomials.{Polynomial, normal_form}

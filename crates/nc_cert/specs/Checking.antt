@@ -1,4 +1,8 @@
--- What the check of a certificate answers.
+-- What the check of a certificate answers: valid, not valid with the rest, or too much work.
+--
+-- The check keeps the value of each line in normal form, and makes later lines of what it keeps. A
+-- certificate that asks for more work than the limit has the verdict `TooMuch` and no other, even
+-- if it is valid.
 use Rattle.nc_algebra.specs.Certificates.{Certificate, IsValid, Line, rest_of, values_of}
 use Rattle.nc_algebra.specs.Elements.{Setting}
 use Rattle.nc_algebra.specs.Polynomials.{Polynomial, normal_form}

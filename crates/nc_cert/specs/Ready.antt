@@ -1,4 +1,8 @@
--- Parts whose value can be computed from the values of the lines before.
+-- Parts whose value can be made from the values of the lines before them.
+--
+-- A part is ready where its factor is there, its coefficients are residues, and its products are
+-- words of a length that a program can have. The rule of certificates makes each part ready when
+-- its turn comes, for its reach is limited.
 use Rattle.nc_algebra.specs.Certificates.{IsFactor, Part, factor_value}
 use Rattle.nc_algebra.specs.Elements.{Setting}
 use Rattle.nc_algebra.specs.Polynomials.{AreResidues, Polynomial}

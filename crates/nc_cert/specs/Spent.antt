@@ -1,4 +1,8 @@
--- What is spent on the parts of a line.
+-- What is spent on the parts of one line, and the first part that goes too far.
+--
+-- `Charges.antt` speaks of a whole certificate by its values. Here the values are those that the
+-- check keeps, in normal form already, so that a charge can be counted as it stands. What was spent
+-- before the line is given as a number.
 use Rattle.nc_algebra.specs.Certificates.{Line, Part, factor_value}
 use Rattle.nc_algebra.specs.Elements.{Setting}
 use Rattle.nc_algebra.specs.Polynomials.{Polynomial}

@@ -1,4 +1,8 @@
--- Lists in chunks.
+-- Lists in chunks of at most 256 items, which copies of a list share.
+--
+-- Each snapshot of a run has lists of its own, though it differs from the one before by an item at
+-- most. In chunks, a new item copies one chunk at most, and the list of chunks. Each chunk but the
+-- last is full, so an index gives its chunk by division.
 use Rattle.std.specs.Prelude.{◌≡◌, ℕ, ◌+◌, ◌<◌, ◌≤◌, List, [], ◌∷◌, get_or, length}
 
 -- each chunk but the last has 256 items, and the last has no more; f gives the items of a chunk

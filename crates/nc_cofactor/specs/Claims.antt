@@ -1,9 +1,11 @@
--- What a sum of multiples of entries needs, and the module element that it stands for: a representation of a claim.
---   IsNeededFor        the entries that some need
---   AreNeededFor       these entries as a list, ascending and each once
---   AreNeededTraces    these entries with their traces
---   IsRepresentation   the sum of the multiples' labels, in normal form
---   IsTooManyFor       which label has more terms than the limit: that of an entry that is needed, or else the sum
+-- What a sum of multiples of entries needs, and the module element that it stands for.
+--
+-- A claim is reduced by multiples of entries. These name entries, whose traces name further ones,
+-- and so on: all of them are needed. Where nothing of the claim is left, the sum of the multiples'
+-- labels is a representation of the claim, that is, a module element that evaluates to it. The
+-- definitions speak of any multiples that were subtracted within a bound, whatever was reduced.
+--
+-- The limit on terms holds for the label of each entry that is needed, and for the sum itself.
 use Rattle.nc_algebra.specs.Monomials.{Monomial, Sig}
 use Rattle.nc_algebra.specs.Polynomials.{Polynomial}
 use Rattle.nc_algebra.specs.Problems.{IsWithin, Problem}

@@ -1,4 +1,8 @@
--- What the expansion of a listed item gives.
+-- What the expansion of a listed item gives: its label, or what has too many terms.
+--
+-- To expand is to compute the label that a trace stands for from the labels of the entries that the
+-- trace names. Either one item is expanded with all that it needs, or all items one after the
+-- other. In each case `OutOfMemory` may come whatever the item is.
 use Rattle.nc_algebra.specs.Monomials.{Monomial, Sig}
 use Rattle.nc_algebra.specs.Problems.{Problem}
 use Rattle.nc_algebra.specs.Sums.{Term}

@@ -1,4 +1,9 @@
 -- Labels of listed items as module elements in normal form.
+--
+-- The label is that which the traces of the run give (`Labels.antt` of nc_theory). That element may
+-- have many terms that cancel; code keeps its normal form, each monomial with its degree. An item
+-- has one label in normal form, by the law `OneLabel`. Lists of labels follow the numbers of their
+-- items: the first one belongs to number 1.
 use Rattle.nc_algebra.specs.Elements.{Element, HasDegree, Setting}
 use Rattle.nc_algebra.specs.Monomials.{Monomial, Sig, compare_sigs, same_monomial}
 use Rattle.nc_algebra.specs.Problems.{Problem}

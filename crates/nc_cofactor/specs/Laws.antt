@@ -1,4 +1,8 @@
--- The theorems that functions of this crate carry.
+-- The theorems on labels.
+--
+-- A label has one normal form, and one number of terms; each label has a normal form; and either
+-- all labels of a run are within a limit, or one item is the first whose label is not. A further
+-- theorem, `CofactorsAreOver`, stands in `Letters.antt`.
 use Rattle.nc_algebra.specs.Elements.{Element, Setting}
 use Rattle.nc_algebra.specs.Monomials.{Sig}
 use Rattle.nc_algebra.specs.Primes.{IsPrime}

@@ -1,4 +1,6 @@
--- Traces and labels over an alphabet.
+-- Traces and labels over an alphabet: a report can name all their letters.
+--
+-- `CofactorsAreOver` is a theorem of this crate.
 use Rattle.nc_algebra.specs.Alphabets.{Alphabet, IsWordIn}
 use Rattle.nc_algebra.specs.Monomials.{Monomial, Sig}
 use Rattle.nc_algebra.specs.Primes.{IsPrime}

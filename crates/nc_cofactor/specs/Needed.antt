@@ -1,8 +1,12 @@
--- The entries that are reached from marks, as a sweep finds them and keeps their labels.
---   IsReached     an entry that is marked, or that the trace of one that is reached names
---   AreFound      the traces of the entries that are reached
---   AreFilled     their labels, each in its place
---   IsFirstMany   the first of them whose label has too many terms
+-- The entries that are reached from marks, as a sweep finds them, and their labels.
+--
+-- A trace names only entries with lesser numbers. So one sweep from the last entry to the first
+-- finds all that are needed: where an entry is marked, its trace is made again, and what it names
+-- is marked as well. The traces lie on a stack, that of entry 1 on top. A second sweep, from the
+-- first entry to the last, makes the labels.
+--
+-- `IsReached` is the same notion as `IsNeededFor` in `Claims.antt`, with marks in the place of a
+-- list of numbers.
 use Rattle.nc_algebra.specs.Monomials.{Monomial, Sig}
 use Rattle.nc_algebra.specs.Problems.{Problem}
 use Rattle.nc_algebra.specs.Sums.{Term}

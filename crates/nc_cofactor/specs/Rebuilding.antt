@@ -1,4 +1,8 @@
 -- The entries that an item is made again from, and what is reduced over them.
+--
+-- The entries ascend by signature, so those below τ are the first m. Over them the item's own
+-- signature is handled as it was in the run. An item was not settled then, so there is something to
+-- reduce.
 use Rattle.nc_algebra.specs.Elements.{IsLess, Setting}
 use Rattle.nc_algebra.specs.Monomials.{Monomial}
 use Rattle.nc_algebra.specs.Polynomials.{Polynomial}

@@ -1,4 +1,9 @@
--- Sums of module monomials that code builds term by term, and the sum that a trace stands for over labels in their places.
+-- Sums of module monomials that code builds term by term, from labels that stand in their places.
+--
+-- A trace names entries by their numbers, and the label of entry j stands in place j of a list,
+-- counted from 1. A label that was not needed may be missing: anything may stand in its place. The
+-- conditions say when the multiples that a trace names can be added: all that is named is there,
+-- with residues and right degrees, and no degree passes a limit.
 use Rattle.nc_algebra.specs.Elements.{Element, HasDegree, IsGenerator, Setting}
 use Rattle.nc_algebra.specs.Monomials.{Sig, compare_sigs, same_monomial}
 use Rattle.nc_algebra.specs.Sums.{SameSum, Term}
@@ -33,6 +38,8 @@ abbrev pub IsStartPlaced : Setting → List (List (Term Sig)) → Start → Type
 IsStartPlaced s labels (Start.a_generator i) = IsGenerator s i
 IsStartPlaced s labels (Start.a_multiple u j v) = IsPlaced s labels u j v
 
+-- a trace whose start and steps name labels that are in their places, with coefficients that are
+-- residues
 pub record IsSummable (s : Setting) (labels : List (List (Term Sig))) (trace : Trace) : Type 0 where
   pub start : IsStartPlaced s labels trace.start
   pub residues : All (λ t. t.coefficient < s.prime) trace.steps

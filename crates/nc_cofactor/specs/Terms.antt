@@ -1,4 +1,12 @@
 -- How many terms a module element has, and which labels have too many.
+--
+-- Labels can be very long, so a caller gives a limit on the terms of each. It is a limit on labels
+-- in normal form, never on a sum on the way. So whether it is kept depends on the run alone, and
+-- not on the order in which code adds.
+--
+-- To expand an item's label, code needs the labels of the entries that its trace names, those that
+-- their traces name, and so on. Those labels count as well. Where several have too many terms the
+-- least entry is named, and a syzygy only where no entry that counts has too many.
 use Rattle.nc_algebra.specs.Elements.{Element}
 use Rattle.nc_algebra.specs.Lists.{IsDistinct}
 use Rattle.nc_algebra.specs.Monomials.{Monomial, same_monomial}

@@ -1,4 +1,9 @@
 -- The traces of listed items, as the sequential run gave them.
+--
+-- A snapshot keeps no traces, but it stands for a run that has them. The trace of an item is made
+-- again from its signature and the entries with lesser signatures. Items are entries and syzygies,
+-- each counted from 1. `Claim` names neither: it stands for a claim where a report names what has
+-- too many terms.
 use Rattle.nc_algebra.specs.Monomials.{Monomial}
 use Rattle.nc_algebra.specs.Problems.{Problem}
 use Rattle.nc_snapshot.specs.declared.outcome.Listed.{Listed}

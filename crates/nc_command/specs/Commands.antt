@@ -1,5 +1,7 @@
 -- The commands that are handed to `clap`, as the data that its contracts speak of.
---   command_for  a command with options that take a value, maybe a number, and no `--help`
+--
+-- Each option takes a value, and so does the number. The flag `--help`, which `clap` adds to
+-- commands, is switched off.
 use Rattle.std.specs.Prelude.{Bool, true, false, List, [], ◌∷◌, Some}
 use Rattle.nc_command.specs.Pieces.{Text}
 use Rattle.nc_command.specs.Uses.{number_id}
@@ -21,6 +23,7 @@ args_for [] true = number_arg ∷ []
 args_for [] false = []
 args_for (name ∷ names) takes_number = option_arg name ∷ args_for names takes_number
 
+-- a command with these options, maybe with a number, and without `--help`
 abbrev pub command_for : Text → List Text → Bool → App
 command_for name names takes_number = record {
   top = record (new_shape name) { rules = args_for names takes_number; disable_help_flag = true };

@@ -1,4 +1,8 @@
--- The laws that the functions of this crate carry.
+-- The theorems on the words of a command line.
+--
+-- Words are uses exactly where they spell them, and the order of the uses is free. Both hold where
+-- no name of an option has a `=`, as `are_names` asks. Each law is the contract of a public
+-- function with an empty body.
 use Rattle.std.specs.Prelude.{◌≡◌, ◌↔◌, Bool, true, not, List, Some, IsPermutation}
 use Rattle.std.specs.List.{list_all}
 use Rattle.nc_command.specs.Pieces.{Text, has_equals}

@@ -1,11 +1,13 @@
--- What a word behind the command word is.
---   Text      a word, a name or a value, as a list of bytes
---   Piece     an option with its value, an option's name, a plain word, or a stray word
---   piece_of  the piece that a word is
+-- What a word is: an option with its value, an option, a plain word, or a stray one.
+--
+-- Words are lists of bytes. The names of a command's options are given as a list; they are written
+-- in full, without hyphens, and have no `=`. What a word is does not depend on the words beside it;
+-- what it means may (`Uses.antt`).
 use Rattle.std.specs.Prelude.{◌==◌, ℕ, Bool, List, [], ◌∷◌, Option, Some, None, if◌then◌else◌}
 use Rattle.std.specs.List.{list_any, before_first, after_first}
 use Rattle.std.specs.Str.{bytes_eq}
 
+-- a word, a name or a value, as a list of bytes
 abbrev pub Text : Type 0
 Text = List ℕ
 
@@ -26,9 +28,11 @@ name_in text = before_first (λ byte. byte == 61) text
 abbrev pub value_in : Text → Text
 value_in text = after_first (λ byte. byte == 61) text
 
+-- a text has a `=`
 abbrev pub has_equals : Text → Bool
 has_equals text = list_any (λ byte. byte == 61) text
 
+-- what a word can be
 pub data Piece : Type 0 where
   -- `--name=value`, of one of the names
   joined : Text → Text → Piece

@@ -1,11 +1,13 @@
--- Uses as words: what may stand behind the command word.
---   IsPlain     a word does not begin with a hyphen
---   IsSpelled   words are one use: `--name=value`, `--name value`, or the number
---   AreSpelled  words are uses, one behind another
+-- Uses as words: all that may stand behind a command word.
+--
+-- `Uses.antt` says what words mean; this file says how a meaning is written. The law
+-- `UsesAreSpelled` shows that they agree. A value that begins with a hyphen can only be written as
+-- `--name=value`.
 use Rattle.std.specs.Prelude.{◌≡◌, ◌++◌, ◌⊎◌, Bool, true, List, [], ◌∷◌, None, codes}
 use Rattle.nc_command.specs.Pieces.{Text, after_hyphen, is_among}
 use Rattle.nc_command.specs.Uses.{Use, number_id}
 
+-- the word does not begin with a hyphen
 abbrev pub IsPlain : Text → Type 0
 IsPlain word = after_hyphen word ≡ None
 
@@ -35,9 +37,11 @@ pub record IsNumber (takes_number : Bool) (u : Use) (words : List Text) : Type 0
   pub value : IsPlain u.1
   pub words_are : words ≡ u.1 ∷ []
 
+-- the words are one use, in one of the three ways
 abbrev pub IsSpelled : List Text → Bool → Use → List Text → Type 0
 IsSpelled names takes_number u words = IsJoined names u words ⊎ (IsParted names u words ⊎ IsNumber takes_number u words)
 
+-- the words are these uses, one behind another
 abbrev pub AreSpelled : List Text → Bool → List Use → List Text → Type 0
 AreSpelled names takes_number [] words = words ≡ []
 AreSpelled names takes_number (u ∷ uses) words =

@@ -1,8 +1,12 @@
--- The words behind the command word, as values with the names of their options.
---   Use       a value and its option's name; the number that stands alone has the name `number`
---   uses_of   the uses that the words are, if they are uses, each name at most once
---   value_of  the value of a name
--- `names` are the options of the command, and `takes_number` says whether it takes a number.
+-- The words behind the command word as uses: values with the names of their options.
+--
+-- A use is a name and its value. A number that stands alone is a use with the name `number`, which
+-- no option has, so that one rule, each name at most once, serves options and number alike. The
+-- words are read from left to right. The only thing to keep in mind is an option that still wants
+-- its value. Where a word fits nothing, the words are no uses at all.
+--
+-- In each definition `names` are the options of the command, and `takes_number` says whether it
+-- takes a number.
 use Rattle.std.specs.Prelude.{◌&&◌, Bool, true, not, List, [], ◌∷◌, Option, Some, None, codes, if◌then◌else◌, find, option_map, option_and_then}
 use Rattle.std.specs.List.{list_any}
 use Rattle.std.specs.Str.{bytes_eq}
@@ -46,6 +50,7 @@ abbrev pub is_distinct : List Use → Bool
 is_distinct [] = true
 is_distinct (u ∷ rest) = not (list_any (λ v. bytes_eq v.0 u.0) rest) && is_distinct rest
 
+-- the uses, if no name stands twice
 abbrev pub if_distinct : List Use → Option (List Use)
 if_distinct uses = if is_distinct uses then Some uses else None
 

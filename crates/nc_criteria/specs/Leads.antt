@@ -1,4 +1,12 @@
--- Leading words with signatures, and the two sides of their trivial syzygies.
+-- The two sides of a trivial syzygy, compared without being made.
+--
+-- Two entries with signatures σ and σ' and leading words v and v' give the sides σ m v' and v m σ'
+-- for each word m. A test compares them for many words m. It compares degrees and generators first,
+-- which do not depend on m: the word m weighs the same in both sides. Only where these are equal
+-- are the words compared, piece by piece in place.
+--
+-- The own entry is the one whose multiple is at hand. The other leading word stands behind it or
+-- before it, so most definitions come twice.
 use Rattle.nc_algebra.specs.Elements.{HasDegree, Setting}
 use Rattle.nc_algebra.specs.Monomials.{compare_sigs, monomial_of, sig_times}
 use Rattle.nc_algebra.specs.Polynomials.{leading}

@@ -1,4 +1,10 @@
 -- What a search for the best multiple finds among some of the entries.
+--
+-- The search is cut by ranges of numbers, so that the answers for two ranges can be put together. A
+-- range begins behind `after` and ends with `until`. An answer names the entry by its number, and
+-- the words around it by places in τ, so that no word is copied.
+--
+-- `BestMultipleLaw` is a theorem of this crate, and the contract of `best_multiple_law`.
 use Rattle.nc_algebra.specs.Elements.{Setting}
 use Rattle.nc_algebra.specs.Monomials.{Monomial}
 use Rattle.nc_algebra.specs.Words.{IsWordLess, Word}

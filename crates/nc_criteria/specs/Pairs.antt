@@ -1,4 +1,8 @@
--- Trivial syzygies by the places of their two entries.
+-- Trivial syzygies by the places of their two entries, as a search asks for them.
+--
+-- The definition of a trivial syzygy leaves open which entry's signature is in the greater side. A
+-- search fixes that entry as its own, and tries every other one, itself included, on both sides of
+-- it. The places of entries count from 0 here.
 use Rattle.nc_algebra.specs.Elements.{IsLess, Setting}
 use Rattle.nc_algebra.specs.Monomials.{Divides, Monomial}
 use Rattle.nc_algebra.specs.Words.{Word}

@@ -1,4 +1,7 @@
--- What the search for the best multiple finds on its way.
+-- What the search for the best multiple has on its way: the best one of a range.
+--
+-- To compare two multiples the search needs their words, which `IsBestWithin` in `Multiples.antt`
+-- leaves out. A word is held in three pieces on the way, and is not made.
 use Rattle.nc_algebra.specs.Elements.{Setting}
 use Rattle.nc_algebra.specs.Monomials.{Monomial}
 use Rattle.nc_criteria.specs.Multiples.{IsMultipleWithin}

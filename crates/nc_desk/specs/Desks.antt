@@ -1,4 +1,11 @@
--- The desk: what a run on one thread holds between two signatures.
+-- The desk of a run on one thread: what it holds between two signatures.
+--
+-- Beside a snapshot, it keeps the leading words with signatures, which reductions search, and the
+-- signatures that wait. Both follow from the snapshot, and are kept so that a step need not compute
+-- them anew. The definitions say that they fit it.
+--
+-- This is the desk that code has. The desk of `Desk.antt` of nc_theory also tells of tickets and
+-- works.
 use Rattle.nc_algebra.specs.Elements.{HasDegree}
 use Rattle.nc_algebra.specs.Monomials.{Monomial, Sig, monomial_of}
 use Rattle.nc_index.specs.Chosen.{leads_of}

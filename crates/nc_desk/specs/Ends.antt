@@ -1,4 +1,6 @@
--- How a run on one thread ends.
+-- How a run on one thread ends: complete, or by the budget of its problem with the next signature.
+--
+-- The end of the code carries a degree beside the signature.
 use Rattle.nc_algebra.specs.Elements.{HasDegree, Setting}
 use Rattle.nc_algebra.specs.Monomials.{monomial_of}
 use Rattle.nc_desk.specs.Desks.{LeadsOf, MayStep}

@@ -1,4 +1,8 @@
--- One step of a desk: what becomes of the next signature.
+-- One step of a desk: what becomes of its next signature, and what that brings.
+--
+-- The step takes the next signature of the run over the desk's own snapshot, so its outcome always
+-- stands. A new entry adds a leading word, and brings the signatures of its ambiguities; any other
+-- outcome brings none. By the law `WaitingLaw` of nc_theory, nothing else comes to wait.
 use Rattle.nc_algebra.specs.Elements.{HasDegree}
 use Rattle.nc_algebra.specs.Monomials.{Monomial, Sig, monomial_of}
 use Rattle.nc_algebra.specs.Problems.{IsWithin, Problem}

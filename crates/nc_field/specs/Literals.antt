@@ -1,4 +1,7 @@
--- The literals of numbers.
+-- The literals of numbers: decimal digits.
+--
+-- A number of eighteen digits fits in 64 bits, whichever digits it has. So the length alone limits
+-- a literal, and leading zeros count as digits. No digits at all are no literal.
 use Rattle.std.specs.Char.{IsAsciiDigit}
 use Rattle.std.specs.Prelude.{All, List, ℕ, ◌<◌, ◌≤◌, length}
 

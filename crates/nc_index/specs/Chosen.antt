@@ -1,4 +1,9 @@
--- The first pair of a run's entries is the divisor that a reduction chooses.
+-- The first pair of a run's entries that stands regularly is the divisor that a reduction chooses.
+--
+-- The pairs of `Pairs.antt` are read off the entries, in their order. The bound β is a signature
+-- with its degree. A bound by degree is such a signature too (`above_degree` of nc_algebra).
+--
+-- `LeadsLaw` is the theorem of this crate, and the contract of `leads_law`.
 use Rattle.nc_algebra.specs.Elements.{Setting, generator_weight}
 use Rattle.nc_algebra.specs.Monomials.{Monomial, Sig, compare_sigs, sig_of}
 use Rattle.nc_algebra.specs.Polynomials.{leading}

@@ -1,4 +1,9 @@
--- Pairs of a leading word and a signature, and the first of them that stands in a word with a signature below a bound.
+-- Pairs of a leading word and a signature, and the first one that stands in a word.
+--
+-- A search for a reducer reads no more of an entry than this pair. It goes through the pairs in
+-- order, and through the places from the left, and takes the first one whose multiple has a
+-- signature below the bound β. So the definitions need no run and no setting. Pairs count from 0
+-- here, and the number in an answer counts from 1, as numbers of entries do.
 use Rattle.nc_algebra.specs.Monomials.{Sig, compare_sigs, sig_times}
 use Rattle.nc_algebra.specs.Words.{Word}
 use Rattle.nc_index.specs.declared.hit.Hit.{Hit}

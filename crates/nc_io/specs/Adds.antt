@@ -1,7 +1,8 @@
 -- What a sink holds after a call.
---   Adds       what is still told has grown by these bytes
---   PutAdds    what one put appends
---   AddsFront  some of the bytes, from the first on, were appended
+--
+-- A sink may tell contracts all bytes that were written to it so far, or not: then it tells `None`.
+-- Sinks in memory tell theirs, those over the standard library's writers do not. Where nothing is
+-- told, these facts say nothing. A sink that has stopped telling its bytes never tells them again.
 use Rattle.std.specs.Prelude.{◌≡◌, ℕ, List, [], ◌++◌, take, MatchResult, Result, Some, None}
 use Rattle.std.specs.declared.option.Option.{Option}
 

@@ -1,6 +1,8 @@
--- Where a failure comes from.
---   Rose      a count of failures has risen
---   HasCause  the count never falls, and has risen where a call failed
+-- Where a failure comes from: sources and sinks count their failures.
+--
+-- A contract cannot see the world outside. But it can say that a call failed for a reason: the
+-- count of failures rose in it. A caller that knows the count before and after a run knows whether
+-- anything failed.
 use Rattle.std.specs.Prelude.{ℕ, ◌<◌, ◌≤◌, OnErr, Result}
 
 -- there have been more failures since

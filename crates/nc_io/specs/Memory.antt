@@ -1,11 +1,9 @@
--- What the forms in memory do.
---   call_number   the number of the next call
---   IsFailing     the next call of a source fails
---   IsFailingPut  the next call of a sink fails
---   given_count   how many bytes a source gives
---   kept_count    how many bytes a sink keeps
---   put_count     how many bytes a sink reports as put
---   told          the bytes that a sink tells
+-- When the source and the sink in memory fail, and how many bytes pass in a call.
+--
+-- They are for tests of failures: they fail at the calls that are listed in them, which count from
+-- 1, and hand on only so many bytes at a time. The count of calls and the count of failures stop at
+-- the last value of 64 bits. Once the count of failures has stopped it can rise no more; so from
+-- then on nothing fails, and the sink does not tell its bytes.
 use Rattle.std.specs.Prelude.{◌≡◌, ℕ, ◌+◌, ◌-◌, ◌^◌, ◌<◌, min, List, Contains, Some, None, if◌then◌else◌, ◌==◌, ◌⊎◌}
 use Rattle.std.specs.declared.option.Option.{Option}
 

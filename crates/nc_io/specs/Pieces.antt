@@ -1,8 +1,9 @@
 -- What was taken from a source.
---   TakesPiece   one turn: a piece, behind what was taken before
---   TakesWhole   all there was, or as many bytes as the limit
---   TakesFront   some bytes, no more than the limit
---   IsReadFault  a fault of reading has its cause
+--
+-- A source may tell contracts the bytes that are not taken yet, or not, as a sink may with its own
+-- (`Adds.antt`). Where it does not, some bytes were taken, and of them only the number is limited.
+-- Reading takes pieces until there are no more bytes, or as many as a limit. A caller that wants to
+-- know whether a text is too long reads with a limit of one byte more than it allows.
 use Rattle.std.specs.Prelude.{◌≡◌, ℕ, ◌≤◌, ◌<◌, List, ◌++◌, length}
 use Rattle.std.specs.declared.option.Option.{Option}
 use Rattle.std.specs.Io.KnownBytes.{Consumes, IsAtEnd}

@@ -1,4 +1,7 @@
--- What the functions of this crate hand to one another.
+-- What the functions of this crate hand to one another: traces and lines.
+--
+-- The lines of a proof follow from the needed entries and the subtracted multiples alone
+-- (`Lines.antt`). These facts say what of them a function may rely on.
 use Rattle.nc_algebra.specs.Certificates.{Line}
 use Rattle.nc_algebra.specs.Problems.{Problem}
 use Rattle.nc_cofactor.specs.Claims.{AreNeededTraces, numbers_of}

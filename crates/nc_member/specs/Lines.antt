@@ -1,8 +1,13 @@
 -- The lines that prove a claim: one for each entry that is needed, and one for the claim.
---   line_of       the line of an entry
---   trace_line    an entry's line, by its trace: the start, less the steps
---   claim_line    the claim's line: the multiples that were subtracted
---   proof_lines   all of them, the claim's last
+--
+-- A trace says how the polynomial of an entry arises from a generator or an earlier entry. So it is
+-- a line of a certificate as it stands: the start, less the steps. The needed entries come in
+-- ascending order, each with its line after the lines that it uses. The last line is that of the
+-- claim: the multiples that its reduction subtracted. Lines and entries are both counted from 1,
+-- and `line_of` leads from the ones to the others.
+--
+-- Such a proof needs no label, so it stays short where labels are long. Coefficients of steps are
+-- negated modulo p, as p minus the coefficient.
 use Rattle.nc_algebra.specs.Certificates.{Factor, Line, Part}
 use Rattle.nc_theory.specs.States.{Start, Step, Trace}
 use Rattle.std.specs.Prelude.{List, [], count_by, map, nat_le, ℕ, ◌%◌, ◌++◌, ◌-◌, ◌∷◌}

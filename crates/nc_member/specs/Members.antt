@@ -1,7 +1,13 @@
 -- Whether a claim has a representation within the bound of a problem, as the end of its run tells.
---   IsRestOf       what is left of a claim, and what was subtracted from it
---   IsMember       the answer, with a representation as a module element
---   IsProof        the answer, with a representation as lines
+--
+-- The claim is reduced by the entries, by multiples with signatures within the bound. If nothing is
+-- left, what was subtracted is a representation. If something is left and the run is complete,
+-- there is none, by the law `MembershipTheorem`. If something is left and the steps were used up,
+-- the question stays open. No representation within the bound does not mean that the claim lies
+-- outside of the ideal.
+--
+-- A representation is given as a module element, whose labels may have too many terms, or as lines
+-- of a certificate, for which no limit on terms is needed.
 use Rattle.nc_algebra.specs.Certificates.{AreLines, IsValid, Line}
 use Rattle.nc_algebra.specs.Elements.{IsIn, SamePolynomial, evaluation}
 use Rattle.nc_algebra.specs.Monomials.{Monomial, Sig}
@@ -58,6 +64,7 @@ pub record IsOpen (P : Problem) (n : ℕ) (ending : End) (claim rest : Polynomia
 
 -- ---- with a module element
 
+-- the answer: a representation, that there is none within the bound, or that it stays open
 abbrev pub IsMember : Finished → Polynomial → ℕ → Membership → Type 0
 IsMember f claim limit (Represented m) = IsRepresented f.snapshot.problem.problem f.snapshot.handled claim limit m
 IsMember f claim limit (Unrepresented rest) = IsUnrepresented f.snapshot.problem.problem f.snapshot.handled f.ending claim rest
@@ -88,6 +95,7 @@ pub record IsProved (P : NamedProblem) (n : ℕ) (claim : Polynomial) (lines : L
   pub valid : IsValid P.problem.setting claim lines
   pub has : HasRepresentation P.problem.setting (IsWithin P.problem) claim
 
+-- the answer, with lines of a certificate in the place of the module element
 abbrev pub IsProof : Finished → Polynomial → Proof → Type 0
 IsProof f claim (Below lines) = IsProved f.snapshot.problem f.snapshot.handled claim lines
 IsProof f claim (NotBelow rest) = IsUnrepresented f.snapshot.problem.problem f.snapshot.handled f.ending claim rest

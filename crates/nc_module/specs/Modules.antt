@@ -1,4 +1,7 @@
--- Module elements as code keeps them: sums of module monomials with their degrees.
+-- Module elements as code keeps them: lists of terms whose monomials carry their degree.
+--
+-- In code the terms descend, and coefficients are residues. The degree of a monomial follows from
+-- the setting, so these functions forget it, or carry it along.
 use Rattle.nc_algebra.specs.Elements.{Element}
 use Rattle.nc_algebra.specs.Monomials.{Sig, compare_sigs, monomial_of, sig_times}
 use Rattle.nc_algebra.specs.Sums.{Term, map_keys}

@@ -1,4 +1,7 @@
--- Bounds, as the definitions have them.
+-- Bounds of the code as those of the definitions.
+--
+-- The monomial of a bound carries its degree in code. The degree is only right in the setting of
+-- the problem, so that is a fact of its own.
 use Rattle.nc_algebra.specs.Elements.{HasDegree, Setting}
 use Rattle.nc_algebra.specs.Monomials.{monomial_of}
 use Rattle.nc_algebra.specs.Problems.{Bound as Limit}

@@ -1,4 +1,6 @@
--- The laws that the functions of this crate carry.
+-- The theorems on options: their order is free, and their numbers lie in their ranges.
+--
+-- Each law is the contract of a public function with an empty body.
 use Rattle.std.specs.Prelude.{◌≡◌, ◌≤◌, ℕ, Bool, List, [], ◌∷◌, Some, codes, if◌then◌else◌, IsPermutation}
 use Rattle.std.specs.Str.{bytes_eq}
 use Rattle.nc_command.specs.Pieces.{Text}
@@ -14,6 +16,7 @@ names_of command = if bytes_eq command (codes "basis") then basis_names
     else (if bytes_eq command (codes "member") then member_names
     else (if bytes_eq command (codes "demo") then demo_names else []))
 
+-- whether a command takes a number
 abbrev pub takes_number : Text → Bool
 takes_number command = bytes_eq command (codes "demo")
 
@@ -23,6 +26,7 @@ OptionsInAnyOrder = (command : Text) (words words' : List Text) (uses uses' : Li
     → AreSpelled (names_of command) (takes_number command) uses words → AreSpelled (names_of command) (takes_number command) uses' words' → IsPermutation uses uses'
     → options_of (command ∷ words) ≡ options_of (command ∷ words')
 
+-- the number lies in the range, both ends included
 abbrev pub IsWithin : ℕ → ℕ → ℕ → Type 0
 IsWithin low high number = (low ≤ number) × (number ≤ high)
 

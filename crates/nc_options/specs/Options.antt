@@ -1,8 +1,9 @@
--- The options that the words of a command line give.
---   basis_of, member_of, demo_of            the options of a command, by the texts that were given under each name
---   basis_after, member_after, check_after,
---   demo_after                              the options that the words behind the command word give
---   options_of                              the options that all words give, the command word first
+-- The options that the words of a command line give, the command word first.
+--
+-- The words behind the command word are uses (`Uses.antt` of nc_command), and each option takes its
+-- value from them by its name. If the text of one option is no value of it, there are no options at
+-- all. `basis` and `member` take no number, `check` takes nothing at all, and `demo` takes a
+-- number. Ranges and defaults stand in `Values.antt`.
 use Rattle.std.specs.Prelude.{ℕ, true, false, List, [], ◌∷◌, Option, Some, None, codes, if◌then◌else◌, option_and_then, option_map}
 use Rattle.std.specs.Str.{bytes_eq}
 use Rattle.nc_command.specs.Pieces.{Text}
@@ -21,16 +22,19 @@ basis_with (Some workers) (Some window) (Some limit) (Some cofactors) =
     Some (record { workers = workers; window = window; limit = limit; cofactors = cofactors })
 basis_with _ _ _ _ = None
 
+-- the same of `member`
 abbrev pub member_with : Option ℕ → Option ℕ → Option ℕ → Option ℕ → Option MemberOptions
 member_with (Some workers) (Some window) (Some limit) (Some form) =
     Some (record { workers = workers; window = window; limit = limit; form = form })
 member_with _ _ _ _ = None
 
+-- the same of `demo`
 abbrev pub demo_with : Option ℕ → Option ℕ → Option ℕ → Option ℕ → Option DemoOptions
 demo_with (Some number) (Some degree) (Some workers) (Some window) =
     Some (record { number = number; degree = degree; workers = workers; window = window })
 demo_with _ _ _ _ = None
 
+-- the options of a command, by the texts that were given under each name
 abbrev pub basis_of : (Text → Option Text) → Option BasisOptions
 basis_of given = basis_with (workers_of given) (window_of given) (limit_of given) (cofactors_of given)
 
@@ -40,6 +44,7 @@ member_of given = member_with (workers_of given) (window_of given) (limit_of giv
 abbrev pub demo_of : (Text → Option Text) → Option DemoOptions
 demo_of given = demo_with (number_of given) (degree_of given) (workers_of given) (window_of given)
 
+-- the names of a command's options
 abbrev pub basis_names : List Text
 basis_names = codes "workers" ∷ codes "window" ∷ codes "limit" ∷ codes "cofactors" ∷ []
 
@@ -53,9 +58,11 @@ demo_names = codes "degree" ∷ codes "workers" ∷ codes "window" ∷ []
 abbrev pub basis_after : List Text → Option Options
 basis_after words = option_and_then (λ uses. option_map Basis (basis_of (λ name. value_of name uses))) (uses_of basis_names false words)
 
+-- the same of `member`
 abbrev pub member_after : List Text → Option Options
 member_after words = option_and_then (λ uses. option_map Member (member_of (λ name. value_of name uses))) (uses_of member_names false words)
 
+-- the same of `demo`, which takes a number
 abbrev pub demo_after : List Text → Option Options
 demo_after words = option_and_then (λ uses. option_map Demo (demo_of (λ name. value_of name uses))) (uses_of demo_names true words)
 

@@ -1,4 +1,9 @@
--- The values of the options, each by a function from names to the texts that were given: the ranges and the defaults.
+-- The values of the options: their ranges and defaults.
+--
+-- Values are texts until here. `given` is a function from names to the texts that were given, or
+-- `None`. A number has 1 to 18 decimal digits and lies in its range; leading zeros are digits. A
+-- default holds where the option was not given, and never for a text that is no value. `cofactors`
+-- says what is shown of the cofactors: none, the traces, or the labels in full.
 use Rattle.std.specs.Prelude.{◌&&◌, ℕ, Option, Some, None, codes, if◌then◌else◌, length, nat_le, nat_lt, option_and_then}
 use Rattle.std.specs.Char.{is_ascii_digit}
 use Rattle.std.specs.List.{list_all}
@@ -27,18 +32,23 @@ abbrev pub number_or : ℕ → ℕ → ℕ → Option Text → Option ℕ
 number_or low high default None = Some default
 number_or low high default (Some text) = number_in low high text
 
+-- 1 to 64 workers, 1 by default
 abbrev pub workers_of : (Text → Option Text) → Option ℕ
 workers_of given = number_or 1 64 1 (given (codes "workers"))
 
+-- a window of 1 to 4,096, 64 by default
 abbrev pub window_of : (Text → Option Text) → Option ℕ
 window_of given = number_or 1 4096 64 (given (codes "window"))
 
+-- a limit of 1 to 10,000,000 terms, 10,000 by default
 abbrev pub limit_of : (Text → Option Text) → Option ℕ
 limit_of given = number_or 1 10000000 10000 (given (codes "limit"))
 
+-- form 1 or 2, form 2 by default
 abbrev pub form_of : (Text → Option Text) → Option ℕ
 form_of given = number_or 1 2 2 (given (codes "form"))
 
+-- a degree of 2 to 10, 6 by default
 abbrev pub degree_of : (Text → Option Text) → Option ℕ
 degree_of given = number_or 2 10 6 (given (codes "degree"))
 
@@ -46,14 +56,17 @@ degree_of given = number_or 2 10 6 (given (codes "degree"))
 abbrev pub number_of : (Text → Option Text) → Option ℕ
 number_of given = option_and_then (number_in 0 65536) (given number_id)
 
+-- the cofactors that a text names: none, trace or full
 abbrev pub cofactors_named : Text → Option Cofactors
 cofactors_named text = if bytes_eq text (codes "none") then Some Omitted
     else (if bytes_eq text (codes "trace") then Some Trace
     else (if bytes_eq text (codes "full") then Some Full else None))
 
+-- those that were given, none by default
 abbrev pub cofactors_or : Option Text → Option Cofactors
 cofactors_or None = Some Omitted
 cofactors_or (Some text) = cofactors_named text
 
+-- the value of the option
 abbrev pub cofactors_of : (Text → Option Text) → Option Cofactors
 cofactors_of given = cofactors_or (given (codes "cofactors"))

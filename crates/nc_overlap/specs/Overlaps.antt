@@ -1,4 +1,10 @@
--- Signatures of the ambiguities that a new entry brings.
+-- The signatures of the ambiguities that a new entry brings, within the bound of a problem.
+--
+-- The new entry meets each listed entry and itself, either way round. For each pair and each place
+-- where the second leading word begins within the first, the two signatures are compared, and the
+-- greater one is an ambiguity's signature if it lies within the bound. A search need not try each
+-- place: k letters before the second word weigh at least k, so from some place on the signatures
+-- pass the bound.
 use Rattle.nc_algebra.specs.Elements.{HasDegree, IsGenerator, Setting}
 use Rattle.nc_algebra.specs.Monomials.{Monomial, Sig, monomial_of}
 use Rattle.nc_algebra.specs.Polynomials.{leading}

@@ -1,4 +1,7 @@
--- Sides of an ambiguity.
+-- Sides of an ambiguity in code: a signature and the words around it.
+--
+-- The two sides are compared without being multiplied out. Only the greater one is made, if it lies
+-- within the bound.
 use Rattle.nc_algebra.specs.Monomials.{Sig, sig_times}
 use Rattle.nc_overlap.specs.declared.side.Side.{Side}
 

@@ -1,5 +1,8 @@
--- How a list of terms whose words descend is collected: each coefficient is carried on to the next term with the same
--- word, and then the terms without a coefficient are left out.
+-- How a list of terms is brought into normal form in place, once its words descend.
+--
+-- Code sorts the terms first, so that equal words stand together. Then each coefficient is carried
+-- on to the next term with the same word, modulo p, which leaves 0 behind. Last, the terms with
+-- coefficient 0 are dropped. This needs no second list.
 use Rattle.nc_algebra.specs.Polynomials.{Polynomial}
 use Rattle.nc_algebra.specs.Sums.{Term}
 use Rattle.nc_algebra.specs.Words.{IsWordLess, Word, same_word}

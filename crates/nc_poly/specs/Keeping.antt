@@ -1,4 +1,10 @@
--- What a sum keeps beside each key, and what the lists of its entries mean.
+-- What a sum in a tree keeps beside each key, and the terms that its entries stand for.
+--
+-- A sum over ordered keys stands in a tree, the least key first. A slot has the coefficient as it
+-- is, and the coefficient from before the pass that changed it last. So a pass that runs out of
+-- memory halfway can be undone without memory: `before_at` reads the sum without the changes of
+-- that pass. `now_of` reads the sum as it is. An entry may have the coefficient 0; it stands for no
+-- term.
 use Rattle.nc_algebra.specs.Sums.{Term}
 use Rattle.nc_poly.specs.declared.sum.Slot.{Slot}
 use Rattle.std.specs.Prelude.{List, [], cond, nat_eq, ℕ, ◌%◌, ◌+◌, ◌++◌, ◌<◌, ◌∷◌, ◌≡◌}

@@ -1,4 +1,8 @@
--- Multiples as code lists them: term by term, with residues.
+-- Multiples as code lists them: term by term, with residues for coefficients.
+--
+-- The functions of `Sums.antt` and `Polynomials.antt` of nc_algebra multiply coefficients without
+-- reducing them. Code reduces each product modulo p at once. A multiple of a normal form is then a
+-- normal form, if c is not zero modulo the prime.
 use Rattle.nc_algebra.specs.Polynomials.{Polynomial}
 use Rattle.nc_algebra.specs.Sums.{Term}
 use Rattle.nc_algebra.specs.Words.{Word}

@@ -1,4 +1,7 @@
--- Lists of terms by an order of their keys.
+-- Lists of terms by any order of their keys, the greatest key first.
+--
+-- This is the normal form of `Polynomials.antt` of nc_algebra for keys of any type. Module elements
+-- use it, with monomials that carry their degree.
 use Rattle.nc_algebra.specs.Sums.{Term}
 use Rattle.std.specs.Prelude.{All, List, [], ℕ, ◌<◌, ◌∷◌, ◌≡◌}
 use Rattle.std.specs.declared.cmp.Ordering.{Ordering}

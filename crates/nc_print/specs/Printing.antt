@@ -1,4 +1,15 @@
 -- The printed forms of words, polynomials, monomials, module elements and certificates.
+--
+-- Each value that may stand in a text has one printed form, and the laws of nc_text say that
+-- reading gives it back. The reader accepts more than printed forms. Terms come in the order in
+-- which they are listed, so the terms of a normal form descend. Zero is `0`, and the empty word is
+-- `1`.
+--
+-- A certificate is printed in form 2. The terms of a module element have a printed form as well: a
+-- certificate of form 1. docs/FORMATS.md shows both forms to users.
+--
+-- The functions take the names of the letters, by their numbers. A letter without a name would have
+-- an empty one.
 use Rattle.nc_algebra.specs.Alphabets.{Alphabet}
 use Rattle.nc_algebra.specs.Certificates.{Certificate, Factor, Part}
 use Rattle.nc_algebra.specs.Elements.{Element}

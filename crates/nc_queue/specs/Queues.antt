@@ -1,4 +1,9 @@
--- Ascending sets of signatures.
+-- Sets of signatures that wait, as ascending lists.
+--
+-- A run handles the least signature that waits, and a new entry may bring more of them. A signature
+-- of several ambiguities stands once. The relations say of an operation which signatures its result
+-- has; with `IsAscending` they leave one list. Each signature carries its degree, so the order
+-- needs no setting.
 use Rattle.nc_algebra.specs.Elements.{generator_weight}
 use Rattle.nc_algebra.specs.Monomials.{Sig, compare_sigs, sig_of, unit_monomial}
 use Rattle.nc_algebra.specs.Problems.{IsWithin, Problem}

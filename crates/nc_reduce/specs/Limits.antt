@@ -1,4 +1,7 @@
--- The bound of a problem as the monomials below one.
+-- The bound of a problem, as the monomials below one signature.
+--
+-- A reduction takes a signature as its bound. With this, one piece of code serves for reduction at
+-- a signature and for that of a claim within the bound of a problem.
 use Rattle.nc_algebra.specs.Elements.{IsGenerator}
 use Rattle.nc_algebra.specs.Monomials.{Monomial, Sig}
 use Rattle.nc_algebra.specs.Problems.{IsWithin, Problem}

@@ -1,4 +1,8 @@
--- What a reduction begins with.
+-- What a reduction begins with: a generator, or a multiple of an entry.
+--
+-- A start names what is reduced by numbers and words, and so can name what is not there.
+-- `IsStartAt` and `IsReadable` exclude that. Entries are counted from 1, and the polynomial of a
+-- number without an entry is zero.
 use Rattle.nc_algebra.specs.Elements.{IsGenerator, Setting, generator}
 use Rattle.nc_algebra.specs.Monomials.{Monomial, times, unit_monomial}
 use Rattle.nc_algebra.specs.Polynomials.{Polynomial, polynomial_times}

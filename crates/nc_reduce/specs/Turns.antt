@@ -1,4 +1,7 @@
--- One turn of a reduction.
+-- One turn of a reduction in code, where the bound is a signature with its degree.
+--
+-- The turn is one of the two that `Turns.antt` of nc_search defines: a term was kept, or a multiple
+-- was subtracted.
 use Rattle.nc_algebra.specs.Elements.{Setting}
 use Rattle.nc_algebra.specs.Monomials.{Sig}
 use Rattle.nc_algebra.specs.Polynomials.{Polynomial}

@@ -1,10 +1,9 @@
 -- The lines of the report on a run.
---   end_line                  how the run ended
---   counts_line               how many signatures were handled, and what became of them
---   entry_line, syzygy_line   an item behind its number
---   numbered                  the lines of all items, each with its number
---   run_lines                 all lines of a report
---   run_report                the report as a text
+--
+-- A report has a line on how the run ended, a line with counts, and then the entries and the
+-- syzygies, each behind its number. The lines of an item are a parameter, so that a caller can put
+-- the cofactors behind them. Entries and syzygies are numbered separately, each from 1.
+-- docs/FORMATS.md shows reports to users.
 use Rattle.nc_algebra.specs.Monomials.{Monomial}
 use Rattle.nc_print.specs.Printing.{ended, poly_text, sig_text}
 use Rattle.nc_theory.specs.Runs.{End}

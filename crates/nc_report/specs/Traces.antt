@@ -1,8 +1,9 @@
 -- The printed form of traces.
---   start_text   what was reduced
---   step_text    a multiple that was subtracted
---   trace_text   the start, and the steps behind it
---   StartIsNamed each letter of the start has a name
+--
+-- A generator's number stands in brackets and an entry's in braces, as generators and lines do in
+-- certificates. The words around it stand before and behind it, the empty word as `1`. A step
+-- stands behind a minus sign, with its coefficient even if that is 1. `StartIsNamed` keeps a start
+-- from letters without names.
 use Rattle.nc_algebra.specs.Words.{Word}
 use Rattle.nc_print.specs.Printing.{word_text}
 use Rattle.nc_theory.specs.States.{Start, Step, Trace}

@@ -1,4 +1,8 @@
 -- What a search for the best multiple finds.
+--
+-- An entry has at most one multiple with a given signature, so a search asks each entry once and
+-- keeps the better of two multiples. On equal words it keeps the first, since the earlier entry
+-- wins. In `IsAt` entries count from 0, and in a `Best` from 1.
 use Rattle.nc_algebra.specs.Elements.{Setting}
 use Rattle.nc_algebra.specs.Monomials.{Monomial}
 use Rattle.nc_algebra.specs.Words.{IsWordLess, Word, compare_words}

@@ -1,4 +1,9 @@
 -- What the tests for covered signatures find.
+--
+-- A trivial syzygy signature is found by places, as `ApartAt` of nc_theory says it: a multiple with
+-- signature τ has the word w and its leading word from place k up to n, and some other leading word
+-- stands in w before k or behind n, with a lesser signature. So the test looks for a place in one
+-- word, and tries no words between two entries.
 use Rattle.nc_algebra.specs.Elements.{IsLess, Setting}
 use Rattle.nc_algebra.specs.Monomials.{Divides, Monomial, times}
 use Rattle.nc_algebra.specs.Polynomials.{leading}

@@ -1,4 +1,7 @@
--- Steps of a run.
+-- One step of a run, as a relation between the state before and the state after it.
+--
+-- A program that keeps no traces does not say which outcome there was, only that there was one
+-- which leads to the later state.
 use Rattle.nc_algebra.specs.Elements.{Setting}
 use Rattle.nc_algebra.specs.Monomials.{Monomial}
 use Rattle.nc_theory.specs.Runs.{Handles, Outcome, state_after}

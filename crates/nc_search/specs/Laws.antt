@@ -1,4 +1,17 @@
--- The laws that the functions of this crate carry.
+-- The theorems on runs without traces, as programs use them.
+--
+-- `TracesDoNotMatter` says that searches, outcomes, candidates and bases are the same with and
+-- without traces. `UntracedRunsLaw` says that the run without traces is a run of its own, and just
+-- one. `SnapshotFactsLaw`, `CandidateFactsLaw` and `NextFactsLaw` tell what a program may count on
+-- that goes on with such a state: words within limits, signatures within the bound and in order.
+-- `UntracedStepsLaw` is how it goes on, and what waits after a step.
+--
+-- The last ones are on ends and words: an end has enough entries and syzygies, a problem has at
+-- most one end, each entry is canonical, all words are over the alphabet, and with enough steps
+-- each end is complete.
+--
+-- Where a law takes a `NamedProblem`, it holds within the limits of `IsProblem`. Each law is the
+-- contract of a public function with an empty body.
 use Rattle.nc_algebra.specs.Elements.{IsLess, Setting}
 use Rattle.nc_algebra.specs.Finite.{monomials_within}
 use Rattle.nc_algebra.specs.Monomials.{Monomial, Sig, unit_monomial}
@@ -62,6 +75,7 @@ pub record UntracedRuns (P : Problem) : Type 0 where
   pub one : IsPrime P.setting.prime → (n : ℕ) (state state' : State) → IsRunOf P n state → IsRunOf P n state' → state ≡ state'
   pub one_next : IsPrime P.setting.prime → (n : ℕ) (state state' : State) (τ τ' : Monomial) → IsNextOfRun P n state τ → IsNextOfRun P n state' τ' → τ ≡ τ'
 
+-- so it is for each problem
 abbrev pub UntracedRunsLaw : Type 0
 UntracedRunsLaw = (P : Problem) → UntracedRuns P
 
@@ -84,9 +98,11 @@ pub record CandidateFacts (P : Problem) (state : State) (τ : Monomial) : Type 0
   pub usable : IsUsableSignature P.setting τ
   pub source : ((i : ℕ) × (τ ≡ unit_monomial i)) ⊎ ((w : Word) × Multiple P.setting state.entries τ w)
 
+-- for a problem that a program takes, each candidate is such
 abbrev pub CandidateFactsLaw : Type 0
 CandidateFactsLaw = (P : NamedProblem) → IsProblem P → IsPrime P.problem.setting.prime → (n : ℕ) (state : State) → IsRunOf P.problem n state → (τ : Monomial) → IsCandidate P.problem state τ → CandidateFacts P.problem state τ
 
+-- and the next signature is such a candidate
 abbrev pub NextFactsLaw : Type 0
 NextFactsLaw = (P : NamedProblem) → IsProblem P → IsPrime P.problem.setting.prime → (n : ℕ) (state : State) (τ : Monomial) → IsNextOfRun P.problem n state τ → CandidateFacts P.problem state τ
 

@@ -1,4 +1,9 @@
--- Two words that meet, and the signature where two entries' leading words do.
+-- Two words that meet, and the signature of the ambiguity where two leading words do.
+--
+-- The first word begins at 0, and the second one k letters on. They meet where each begins before
+-- the other ends: that is what `within` and `some` ask in `MeetAt`. To find all ambiguities of two
+-- entries, a search takes them in both orders and each k. Where the two signatures are equal there
+-- is no ambiguity.
 use Rattle.nc_algebra.specs.Elements.{IsLess, Setting}
 use Rattle.nc_algebra.specs.Monomials.{Monomial, times}
 use Rattle.nc_algebra.specs.Polynomials.{leading}

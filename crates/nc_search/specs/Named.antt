@@ -1,4 +1,7 @@
--- Words over the alphabet of a named problem.
+-- Words over the alphabet of a problem, in a run.
+--
+-- The theory knows letters by numbers and weights. A report names them, so each letter that a run
+-- reaches must have a name. The law `AlphabetLaw` says that it has one.
 use Rattle.nc_algebra.specs.Alphabets.{Alphabet, AreWordsIn, IsWordIn, letter_at}
 use Rattle.nc_algebra.specs.Monomials.{Monomial}
 use Rattle.nc_algebra.specs.Problems.{NamedProblem}

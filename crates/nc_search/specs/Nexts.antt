@@ -1,4 +1,9 @@
 -- What a search for the next signature finds.
+--
+-- The search goes through all generators, and through all pairs of entries at all places. Each part
+-- of it finds the least candidate of a set that is left, and `lesser_of` puts two answers together.
+-- What is left lies within the bound and is greater than the last signature that was handled; at
+-- the opening of a run all candidates are left.
 use Rattle.nc_algebra.specs.Elements.{IsLess, Setting, generator_weight}
 use Rattle.nc_algebra.specs.Monomials.{Monomial, compare_monomials, unit_monomial}
 use Rattle.nc_algebra.specs.Problems.{IsWithin, Problem}

@@ -1,4 +1,7 @@
--- The outcome of a whole reduction.
+-- The outcome of a whole reduction, by what was kept.
+--
+-- This holds at a signature that is neither covered nor settled. The other two outcomes need no
+-- reduction.
 use Rattle.nc_algebra.specs.Polynomials.{Polynomial}
 use Rattle.nc_theory.specs.Runs.{Outcome}
 use Rattle.nc_theory.specs.States.{Start, Step}

@@ -1,4 +1,9 @@
--- Places of a word in a word, and what a search for a regular divisor finds.
+-- What a search for a divisor finds: a place of a word in a word.
+--
+-- `IsPlace` and `IsRegularPlace` speak of one entry at one place, `IsFirstPlace` of one entry at
+-- all places, and `IsChoiceOf` and `IsChoice` of all entries. A regular place is one where the
+-- multiple has a signature below τ; σ is the signature of the entry with leading word v. The places
+-- of a word count from 0, the numbers of entries from 1.
 use Rattle.nc_algebra.specs.Elements.{IsLess, Setting}
 use Rattle.nc_algebra.specs.Monomials.{Divides, Monomial, times}
 use Rattle.nc_algebra.specs.Words.{Word}

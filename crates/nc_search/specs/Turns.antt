@@ -1,4 +1,8 @@
--- One turn of a reduction.
+-- One turn of a reduction: the leading word is cancelled by a multiple, or kept as a term.
+--
+-- The set has the signatures that a multiple may have: those below τ in a run, those within the
+-- bound for a claim. Code keeps the polynomial in normal form from turn to turn, which `Reduction`
+-- does not ask. So the new polynomial of a turn is a normal form here.
 use Rattle.nc_algebra.specs.Elements.{IsLeadingWord, IsLess, Setting}
 use Rattle.nc_algebra.specs.Monomials.{Monomial}
 use Rattle.nc_algebra.specs.Polynomials.{Polynomial, coefficient, leading, normal_form}

@@ -1,4 +1,10 @@
--- States without traces, as a program holds them that keeps none.
+-- States without traces, as a program holds that keeps none.
+--
+-- A trace may be longer than its item, and can be made again. So a program keeps a run without
+-- them. For the theory's definitions to apply, its state has one fixed trace in the place of each
+-- of the run's own. The definitions here say that a state is that of the sequential run up to this
+-- change. The law `TracesDoNotMatter` says that nothing but the traces of the items differs between
+-- the two.
 use Rattle.nc_algebra.specs.Elements.{Setting}
 use Rattle.nc_algebra.specs.Monomials.{Monomial}
 use Rattle.nc_algebra.specs.Problems.{Problem}
@@ -16,9 +22,11 @@ no_trace = record { start = Start.a_generator 0; steps = [] }
 abbrev pub untraced_entry : Entry → Entry
 untraced_entry e = record { signature = e.signature; polynomial = e.polynomial; trace = no_trace }
 
+-- the same of a syzygy
 abbrev pub untraced_syzygy : Syzygy → Syzygy
 untraced_syzygy h = record { signature = h.signature; trace = no_trace }
 
+-- the same of all items of a state
 abbrev pub untraced : State → State
 untraced state = record { entries = map untraced_entry state.entries; syzygies = map untraced_syzygy state.syzygies; covered = state.covered; settled = state.settled }
 
@@ -26,6 +34,7 @@ untraced state = record { entries = map untraced_entry state.entries; syzygies =
 abbrev pub SameEntries : List Entry → List Entry → Type 0
 SameEntries es es' = map untraced_entry es ≡ map untraced_entry es'
 
+-- the same signatures, in order
 abbrev pub SameSyzygies : List Syzygy → List Syzygy → Type 0
 SameSyzygies hs hs' = map untraced_syzygy hs ≡ map untraced_syzygy hs'
 

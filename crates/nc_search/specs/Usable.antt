@@ -1,4 +1,8 @@
--- What a run has: words that are not too long, over letters of limited number and weight, and entries that are not zero.
+-- What the words and the entries of a run have: limits, and polynomials that are not zero.
+--
+-- The limits are those of a program: an alphabet has at most 64 letters, of weight at most 100, and
+-- no word weighs more than 200,000. The laws `SnapshotFactsLaw` and `CandidateFactsLaw` say that a
+-- run of a problem within the limits of `IsProblem` keeps to them.
 use Rattle.nc_algebra.specs.Finite.{AreLetters}
 use Rattle.nc_algebra.specs.Elements.{Setting, WeighsAtMost, WordsAre, degree}
 use Rattle.nc_algebra.specs.Monomials.{Monomial}

@@ -1,4 +1,7 @@
--- The order of signatures.
+-- The order of signatures is total, in the form that maps ask for.
+--
+-- The comparison goes through the degree, the generator, the left word and the right word; each of
+-- them is compared by a total order.
 use Rattle.nc_algebra.proofs.Words.{words_order}
 use Rattle.nc_algebra.specs.Monomials.{compare_sigs}
 use Rattle.std.specs.Cmp.{IsTotalOrder, nat_cmp_total, on_total, then_total}

@@ -1,4 +1,8 @@
--- What calls on signatures say.
+-- What calls on signatures answer: a quotient, and a bound by degree.
+--
+-- Code compares with a signature in each case, whether a bound is a degree or a monomial.
+-- `IsBoundBy` says when a signature stands for a degree; it holds in each setting, since the degree
+-- is compared first.
 use Rattle.nc_algebra.specs.Elements.{Setting, degree, generator_weight}
 use Rattle.nc_algebra.specs.Monomials.{Divides, Monomial, Sig, compare_sigs, sig_of, times}
 use Rattle.nc_algebra.specs.Words.{Letter}

@@ -1,4 +1,7 @@
--- Outcomes, as the theory has them.
+-- The outcomes of the code as those of the theory, and what was found with one more of them.
+--
+-- The trace of an outcome goes no further than the outcome. What was found keeps the signature of a
+-- new item with its degree, and drops the trace.
 use Rattle.nc_algebra.specs.Monomials.{Sig}
 use Rattle.nc_snapshot.specs.Snapshots.{Found}
 use Rattle.nc_snapshot.specs.declared.outcome.Outcome.{Outcome}

@@ -1,4 +1,11 @@
--- Snapshots: a problem, how many signatures were handled, and what was found, without traces.
+-- Snapshots: what the run of a problem has found after a number of steps, without traces.
+--
+-- A snapshot stays as it is when the run goes on; the next step makes a new one. So several threads
+-- may read one. It holds signatures with their degrees, and no traces: these can be made again
+-- (`Rebuilding.antt` of nc_theory).
+--
+-- `Found` is what code stores. `Snapshot` is what contracts say of it: a problem, a number of
+-- steps, and a state of the theory, with one fixed trace for each item.
 use Rattle.nc_algebra.specs.Elements.{HasDegree, Setting}
 use Rattle.nc_algebra.specs.Monomials.{Sig, monomial_of}
 use Rattle.nc_algebra.specs.Polynomials.{Polynomial}
@@ -16,6 +23,7 @@ pub record Signed : Type 0 where
 abbrev pub entry_of : Signed → Entry
 entry_of e = record { signature = monomial_of e.sig; polynomial = e.polynomial; trace = no_trace }
 
+-- a syzygy of the theory, without a trace
 abbrev pub syzygy_of : Sig → Syzygy
 syzygy_of σ = record { signature = monomial_of σ; trace = no_trace }
 

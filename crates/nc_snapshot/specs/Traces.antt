@@ -1,4 +1,7 @@
--- What a reduction begins with, as the theory has it.
+-- What a reduction begins with: the variants of the code as those of the theory.
+--
+-- Traces are not kept in a snapshot, but code makes them while a signature is handled, and again
+-- when one is asked for.
 use Rattle.nc_snapshot.specs.declared.trace.Start.{Start}
 use Rattle.nc_snapshot.specs.declared.trace.Start.TheVariants.{Generator, Multiple}
 use Rattle.nc_theory.specs.States.{Start as Beginning}

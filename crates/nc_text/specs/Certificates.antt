@@ -1,4 +1,15 @@
 -- Reading a certificate text, line after line.
+--
+-- The lines come in a fixed order: `certificate`, the lines of the setting, `claim`, the lines of
+-- the form, `end`. Each definition takes what is written, and gives a value with what is written
+-- behind it, or the first fault, which is the number of a line and a kind.
+--
+-- Form 1 lists the terms of a module element. They are read as the parts of one line, so a text of
+-- either form is a certificate by lines, and there is only one notion of validity. Form 2 has a
+-- line `line` before the parts of each line.
+--
+-- The reader accepts blanks, comments, carriage returns, exponents, minus signs, and terms in any
+-- order.
 use Rattle.nc_algebra.specs.Alphabets.{Alphabet}
 use Rattle.nc_algebra.specs.Certificates as certificates
 use Rattle.nc_algebra.specs.Certificates.{Certificate, Part, line_reach}

@@ -1,4 +1,11 @@
--- The laws that the functions of this crate carry.
+-- The theorems on reading and printing.
+--
+-- What is printed is read as what it was: certificates, certificates of form 1, polynomials and
+-- monomials. So two certificates with one text are one. What is read obeys the rules: certificates
+-- may stand in a text, and problems are within their limits. The last law says that two definitions
+-- of words agree.
+--
+-- Each law is the contract of a public function with an empty body.
 use Rattle.nc_algebra.specs.Alphabets.{Alphabet, IsTextPolynomial, IsTextWord}
 use Rattle.nc_algebra.specs.Certificates.{Certificate, IsTextCertificate, element_lines}
 use Rattle.nc_algebra.specs.Elements.{Element, IsGenerator}
@@ -30,6 +37,7 @@ ReadsTerms = (s : NamedSetting) (claim : Polynomial) (terms : Element) → IsTex
 abbrev pub ReadsPolynomials : Type 0
 ReadsPolynomials = (s : NamedSetting) (f : Polynomial) → IsSetting s → IsTextPolynomial s.alphabet s.setting.prime f → poly_at s.setting.prime s.alphabet (tokens (poly_text s.alphabet.names f)) ≡ Ok f
 
+-- What is printed of a monomial is read as that monomial.
 abbrev pub ReadsMonomials : Type 0
 ReadsMonomials = (s : NamedSetting) (σ : Monomial) → IsSetting s → IsGenerator s.setting σ.generator → IsTextWord s.alphabet σ.left → IsTextWord s.alphabet σ.right
     → mono_at s.alphabet (length s.setting.generators) (tokens (sig_text s.alphabet.names σ)) ≡ Ok σ

@@ -1,4 +1,8 @@
--- A word told by patterns on its tokens: the same words and the same faults as factor after factor.
+-- A word, read by patterns on its tokens.
+--
+-- `Reading.antt` tells a word step by step, close to the code. This is a second definition, close
+-- to the grammar: each clause is one form that a word can have. The law `SameWords` says that the
+-- two agree, faults included.
 use Rattle.nc_algebra.specs.Alphabets.{Alphabet, letter_at}
 use Rattle.nc_algebra.specs.Words.{Word}
 use Rattle.nc_tokens.specs.declared.fault.Kind.{Kind}

@@ -1,4 +1,9 @@
 -- Reading a problem text, line after line.
+--
+-- The lines come in a fixed order: those of the setting, `bound`, `steps`, `claim`. The last two
+-- may be missing, except that the line `claim` must be there where a claim is wanted. A text with a
+-- claim is also a text of a problem: the command that has no use for the claim ignores it. What is
+-- read is within the limits of `IsProblem`, by the law `ReadsProblems`.
 use Rattle.nc_algebra.specs.Alphabets.{Alphabet}
 use Rattle.nc_algebra.specs.Polynomials.{Polynomial}
 use Rattle.nc_algebra.specs.Problems.{Bound, NamedProblem}
@@ -28,6 +33,7 @@ abbrev pub steps_in : Written → Option Row → Result (ℕ × Written) TextFau
 steps_in w None = Ok (1000000, w)
 steps_in w (Some line) = at_line line.number (steps_at line.tokens) >>= λ steps. Ok (steps, line.after)
 
+-- the line `steps`, where it may come next
 unfoldable pub steps_line : Written → Result (ℕ × Written) TextFault
 steps_line w = steps_in w (a_line (codes "steps") w)
 
@@ -36,6 +42,7 @@ abbrev pub claim_in : ℕ → Alphabet → Written → Option Row → Result (Op
 claim_in p a w None = Ok (None, w)
 claim_in p a w (Some line) = at_line line.number (poly_at p a line.tokens) >>= λ f. Ok (Some f, line.after)
 
+-- the line `claim`, where it may come next
 unfoldable pub optional_claim : ℕ → Alphabet → Written → Result (Option Polynomial × Written) TextFault
 optional_claim p a w = claim_in p a w (a_line (codes "claim") w)
 

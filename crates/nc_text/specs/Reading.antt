@@ -1,4 +1,14 @@
 -- Reading words and polynomials from the tokens of a line, up to the first fault.
+--
+-- A word is one or more factors with `*` between them; a factor is a name, or a name with an
+-- exponent. A term is a literal, a literal times a word, or a word. A polynomial is terms with `+`
+-- or `-` between them, and a sign may stand before the first. Words in capitals name the parts of
+-- the grammar in docs/FORMATS.md.
+--
+-- What is read of a polynomial is its normal form, so terms may come in any order, and equal words
+-- several times. The limit of 255 letters holds for each word as it is written, even if its term
+-- cancels. Definitions that would not end by themselves take the greatest number of factors or
+-- terms, which is the number of tokens.
 use Rattle.nc_algebra.specs.Alphabets.{Alphabet, letter_at}
 use Rattle.nc_algebra.specs.Polynomials.{Polynomial, normal_form}
 use Rattle.nc_algebra.specs.Sums.{Term}

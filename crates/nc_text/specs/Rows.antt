@@ -1,4 +1,12 @@
--- What stands behind the keyword of each line.
+-- What stands behind the keyword of each line, up to the end of the line.
+--
+-- The comments name the keyword of a line, and in capitals the parts of the grammar in
+-- docs/FORMATS.md. A literal is tested for its range where it stands, before what is behind it. So
+-- the first fault of a line is the leftmost one, except where a whole value is tested: that a
+-- generator is not zero, and the reach of a part.
+--
+-- A part is read behind the reaches of the lines before its own. Their number says which lines it
+-- may name, and from them follows its own reach.
 use Rattle.nc_algebra.specs.Alphabets.{Alphabet, is_name}
 use Rattle.nc_algebra.specs.Certificates.{Factor, Part, part_reach}
 use Rattle.nc_algebra.specs.Elements.{Setting}

@@ -1,4 +1,8 @@
 -- The lines `field`, `letters`, `weights` and `generator`, which give the setting of a text.
+--
+-- They come in this order. Without a line `weights`, each letter weighs 1. There may be no line
+-- `generator`, and the first other line ends them; in each definition that looks for such a line,
+-- bytes that are not allowed count as another line.
 use Rattle.nc_algebra.specs.Alphabets.{Alphabet}
 use Rattle.nc_algebra.specs.Polynomials.{Polynomial}
 use Rattle.nc_algebra.specs.Settings.{NamedSetting}
@@ -27,6 +31,7 @@ abbrev pub weights_in : ℕ → Written → Option Row → Result (List ℕ × W
 weights_in letters w None = Ok (replicate letters 1, w)
 weights_in letters w (Some line) = at_line line.number (weights_at letters line.tokens) >>= λ weights. Ok (weights, line.after)
 
+-- the line `weights` of so many letters, where it may come next
 unfoldable pub weights_line : ℕ → Written → Result (List ℕ × Written) TextFault
 weights_line letters w = weights_in letters w (a_line (codes "weights") w)
 

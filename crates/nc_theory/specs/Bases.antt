@@ -1,4 +1,16 @@
--- What a state that has enough entries and syzygies says of all module elements.
+-- What it means that a state has enough entries and enough syzygies.
+--
+-- A set of monomials is given, such as those within a bound. A state is a basis there if each
+-- module element in the set evaluates to a polynomial that reduces to zero, by multiples whose
+-- signatures do not exceed that of the element. It is a syzygy basis there if the signature of each
+-- element in the set that evaluates to zero is covered. The first is known as a signature Gröbner
+-- basis up to the bound.
+--
+-- Both speak of all module elements. `IsSound` and `IsClosed` speak of the state's own items, and
+-- so can be kept by each step of a run. The law `ClosureTheorem` leads from these to the former.
+--
+-- Unlike a reduction in a run, `ReducesToZero` may subtract a multiple with signature τ itself, and
+-- leaves the choice of the divisor open.
 use Rattle.nc_algebra.specs.Elements.{Element, IsIn, IsLabelled, IsLeadingWord, IsLess, IsSignatureOf, IsZeroPolynomial, SamePolynomial, Setting, evaluation}
 use Rattle.nc_algebra.specs.Monomials.{Monomial, unit_monomial}
 use Rattle.nc_algebra.specs.Polynomials.{Polynomial, coefficient, leading}

@@ -1,4 +1,18 @@
--- The theorems that the functions of this crate carry.
+-- The theorems on runs, bases and desks.
+--
+-- What a run has found comes first: a closed state is a basis, runs are sound and closed, an end
+-- has enough within its bound, and entries are canonical. `StaleLaw` says which older outcomes
+-- stand. A run is unique, a complete end decides membership, and each problem has one end.
+--
+-- From `AscentLaw` to `StepLimit` the laws tell how a run moves: new ambiguities lie above, what
+-- waits after a step, the degree limit, how a trace is made again, the order of items, counts,
+-- letters, and a limit on the number of steps.
+--
+-- From `SnapshotLaw` to `OwnWorkStands` they are on desks: a desk stays on the sequential run, does
+-- each list of events in one way, and keeps its window and counts.
+--
+-- The last ones are on representations, outcomes, trivial syzygies and reductions. Most laws ask
+-- for a prime. Each is the contract of a public function with an empty body.
 use Rattle.nc_algebra.specs.Elements.{degree, IsIn, IsLabelled, IsLeadingWord, IsLess, SamePolynomial, Setting, evaluation, WeighsAtMost, WordsAre, generator}
 use Rattle.nc_algebra.specs.Monomials.{Divides, Monomial, Sig}
 use Rattle.nc_algebra.specs.Polynomials.{IsNormal, Polynomial, leading}

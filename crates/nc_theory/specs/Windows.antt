@@ -1,4 +1,8 @@
 -- What holds of a desk's window after each list of events.
+--
+-- The window was opened with a capacity, the number of signatures that may be out at once. The
+-- clause `full` says that a full window does not hold up the run: the next signature is in it, so
+-- some worker has it or has brought its work. The law is `WindowsAreKept`.
 use Rattle.nc_algebra.specs.Elements.{IsLess}
 use Rattle.nc_algebra.specs.Monomials.{Monomial}
 use Rattle.nc_algebra.specs.Problems.{NamedProblem}

@@ -1,4 +1,8 @@
--- What the code returns, beside what is read: the same value or the same fault, unless memory ran out.
+-- What the code returns of a line or a text, beside what the definitions read in it.
+--
+-- Reading is a function on lists of bytes and tokens, and gives a value or the first fault. Code
+-- gives the same, except that it may run out of memory. A `view` takes a value of the code to one
+-- of the definitions.
 use Rattle.nc_tokens.specs.declared.fault.Kind.{Kind}
 use Rattle.nc_tokens.specs.declared.fault.LineError.{LineError}
 use Rattle.nc_tokens.specs.declared.fault.LineError.TheVariants as errors

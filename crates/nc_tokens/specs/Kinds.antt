@@ -1,4 +1,6 @@
--- The kinds of faults as numbers.
+-- The numbers under which a report names the kinds of faults.
+--
+-- What each kind means is said in `crates/nc_tokens/src/fault.rt`.
 use Rattle.nc_tokens.specs.declared.fault.Kind.TheVariants.{BadByte, BadName, BadPrime, DoubleName, LongLine, LongLiteral, LongWord, Missing, OutOfRange, Syntax, TooManyGenerators, TooManyNames, UnknownName, WrongLine, ZeroGenerator}
 use Rattle.nc_tokens.specs.declared.fault.Kind.{Kind}
 use Rattle.std.specs.Prelude.{ℕ}

@@ -1,4 +1,13 @@
--- The lines of a text: those that are not blank, with their numbers and tokens, and what is wanted of the next one.
+-- The lines of a text: those that are not blank, and the next one of them.
+--
+-- A line ends at a line feed. Blank lines, and lines with only a comment, are passed over, but
+-- counted: numbers of lines begin at 1 and are those that an editor shows. A line has no fault of
+-- its own before it is asked for, so the first fault of a text is the first one in the order of
+-- reading.
+--
+-- A line is asked for by its keyword, which is its first token. Some lines may be missing: `a_line`
+-- takes the next one only if it has the keyword. Where a line must come, `the_line` tells a fault:
+-- bytes that are not allowed, the wrong keyword, or the end of the text.
 use Rattle.nc_tokens.specs.declared.fault.Kind.{Kind}
 use Rattle.nc_tokens.specs.declared.fault.Kind.TheVariants.{BadByte, Missing, WrongLine}
 use Rattle.nc_tokens.specs.declared.fault.TextFault.{TextFault}
@@ -76,6 +85,7 @@ pub record Row : Type 0 where
   pub tokens : List Token
   pub after : Written
 
+-- the line with this number, these tokens behind its keyword, and this after it
 abbrev pub row : ℕ → List Token → Written → Row
 row n ts after = record { number = n; tokens = ts; after = after }
 

@@ -1,4 +1,7 @@
--- What the code finds next in a text.
+-- What the code finds next in a text: its next line that is not blank, or the end.
+--
+-- The definitions have all lines of a text at once; the code finds them one by one in the bytes
+-- that are left. That the bytes become fewer limits the number of lines.
 use Rattle.nc_tokens.specs.declared.line.Next.{Next}
 use Rattle.nc_tokens.specs.declared.line.Next.TheVariants as code
 use Rattle.nc_tokens.specs.Lines.{End, Line, Written, is_allowed, lines, written}

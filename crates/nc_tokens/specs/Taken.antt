@@ -1,4 +1,7 @@
--- How definitions see the lines that the code takes from a text.
+-- How the definitions see the lines that the code takes from a text.
+--
+-- A line of the code has its number and its tokens. The rest of the text is with the code's reader,
+-- so it is told beside the line.
 use Rattle.nc_tokens.specs.declared.text.Row.{Row}
 use Rattle.nc_tokens.specs.Lines as lines
 use Rattle.nc_tokens.specs.Lines.{Written}

@@ -1,4 +1,9 @@
 -- The tokens of a line: literals, names and signs.
+--
+-- A line is cut into pieces. A piece of digits, and a piece that begins with a letter, is as long
+-- as it can be. Any other byte that is not blank is a piece alone: a sign, or a byte that begins no
+-- token. Each line has tokens, so cutting never fails; the reading of the tokens tells what is
+-- wrong.
 use Rattle.nc_algebra.specs.Alphabets.{is_name_byte}
 use Rattle.std.specs.Char.{is_ascii_alphabetic, is_ascii_digit}
 use Rattle.std.specs.Prelude.{Bool, List, [], false, if◌then◌else◌, length, map, nat_lt, ℕ, ◌&&◌, ◌++◌, ◌==◌, ◌||◌, ◌∷◌}

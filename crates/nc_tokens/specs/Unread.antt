@@ -1,4 +1,7 @@
 -- What is left of a text while it is read.
+--
+-- The code's reader is seen as this record: lines that are not cut into tokens yet, blank ones
+-- included.
 use Rattle.nc_tokens.specs.Lines.{Written, written}
 use Rattle.std.specs.Prelude.{List, ℕ}
 

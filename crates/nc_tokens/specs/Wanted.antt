@@ -1,4 +1,8 @@
--- What is wanted next in a line: a value and the tokens after it, or the first fault.
+-- What is wanted next in a line: a value and the tokens behind it, or the first fault.
+--
+-- The grammar is read by steps. Each one looks at the tokens that are left, and gives a value with
+-- the tokens behind it, or a fault. `>>=` puts steps one after the other, and the first fault ends
+-- them. So a line has one value or one first fault.
 use Rattle.nc_tokens.specs.Tokens.{Close, CloseBrace, Literal, Long, Minus, Name, Open, Plus, Power, Token}
 use Rattle.nc_tokens.specs.declared.fault.Kind.TheVariants.{LongLiteral, Syntax}
 use Rattle.nc_tokens.specs.declared.fault.Kind.{Kind}

@@ -1,4 +1,14 @@
--- What `basis` answers: the headline, for one thread.
+-- What `basis` answers to the bytes of an input.
+--
+-- The report lists what the sequential run of the problem has found where it ends. Within the bound
+-- of a complete end, and else below the next signature, this is a basis and a syzygy basis; each
+-- entry is canonical, and each item has the label that its trace gives. These facts follow from the
+-- definition of a run. They stand in the record so that a reader of the contract need not know the
+-- theory.
+--
+-- Cofactors are shown as the options ask: none, traces, or labels. Only labels have a limit on
+-- terms. If some label has more, the answer names the first item whose label has, and lists
+-- nothing.
 use Rattle.nc_algebra.specs.Elements.{Element, IsLabelled, Setting}
 use Rattle.nc_algebra.specs.Monomials.{Monomial, Sig}
 use Rattle.nc_algebra.specs.Polynomials.{Polynomial}

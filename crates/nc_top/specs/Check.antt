@@ -1,4 +1,9 @@
--- What `check` answers.
+-- What `check` answers to the bytes of an input.
+--
+-- For each input exactly one of the cases holds: the text has a fault or is too long, the
+-- certificate asks for too much work, or it is valid or not. The limit on work comes before
+-- validity. A certificate over the limit is neither called valid nor invalid. The values are those
+-- of `Certificates.antt` of nc_algebra, so nothing here depends on how the check is carried out.
 use Rattle.nc_algebra.specs.Certificates.{Certificate, rest_of}
 use Rattle.nc_cert.specs.Charges.{IsTooMuch, IsWithinLimit}
 use Rattle.nc_cert.specs.Checking.{IsValidCertificate, certificate_charges}

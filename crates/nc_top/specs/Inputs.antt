@@ -1,4 +1,7 @@
--- Inputs that are not what a command reads.
+-- Inputs that are not what a command reads: texts with a fault, and texts that are too long.
+--
+-- A text has at most 16,777,216 bytes. The length comes first: a text that is too long is not read,
+-- whatever it has.
 use Rattle.nc_tokens.specs.Kinds.{number_of}
 use Rattle.nc_tokens.specs.declared.fault.TextFault.{TextFault}
 use Rattle.nc_top.specs.Reports.{bad_text_report}

@@ -1,4 +1,11 @@
--- The laws that the functions of this crate carry.
+-- The theorems on the program's answers.
+--
+-- Each input has one status and one report. If the source tells its bytes and nothing failed, the
+-- answer is that of all these bytes, unless memory ran out. If the problem also allows as many
+-- steps as its bound has monomials over its alphabet, `basis` and `member` decide: they give no
+-- answer that was cut short by the budget.
+--
+-- Each law is the contract of a public function with an empty body.
 use Rattle.nc_algebra.specs.Finite.{monomials_within}
 use Rattle.nc_algebra.specs.Polynomials.{Polynomial}
 use Rattle.nc_algebra.specs.Problems.{IsWithin, NamedProblem}

@@ -1,10 +1,13 @@
--- What `member` answers: whether the claim of a problem text has a representation within the bound.
---   IsClaimText        the text of a problem and its claim
---   Remainder          a claim at the end of a run, and what is left of it
---   IsRemainder        the remainder of the text's claim
---   AreProof           the lines that prove a claim of which nothing is left
---   IsRepresentation   the module element that does
---   IsMemberAnswer     status and report for the bytes of an input
+-- What `member` answers to the bytes of an input: whether its claim has a representation.
+--
+-- The run of the problem is made to its end, and the claim is reduced by what it has found, within
+-- the bound. If nothing is left, the report is a certificate, in form 2 with the lines that prove
+-- the claim, or in form 1 with a module element. If something is left and the run is complete,
+-- there is no representation within the bound; the claim may still lie in the ideal. If something
+-- is left and the steps were used up, the question stays open.
+--
+-- A certificate that is printed can be checked by `check`, which knows nothing of runs. Only form 1
+-- needs labels, and so has a limit on terms.
 use Rattle.nc_algebra.specs.Certificates.{Certificate, IsCertificate, IsValid, Line}
 use Rattle.nc_algebra.specs.Elements.{IsIn, SamePolynomial, evaluation}
 use Rattle.nc_algebra.specs.Monomials.{Monomial, Sig}

@@ -1,12 +1,8 @@
--- What a run writes.
---   invalid_report     what is written for a certificate that is not valid
---   bad_text_report    what is written for a text that is not what the command reads
---   too_much_report    what is written for a certificate that asks for too much work
---   too_many_report    what is written where a label has more terms than the limit
---   not_below_report   what is written where a claim has no representation within the bound
---   undecided_report   what is written where the steps were used up and something is left of a claim
---   basis_report       what is written of a run of a problem: its end, its counts, its entries and its syzygies, with what is
---                      shown of their cofactors
+-- What a run writes, for each of its answers.
+--
+-- A report is a function of what was found, so an answer that fixes what was found fixes the bytes.
+-- `Basis.antt`, `Member.antt` and `Check.antt` say when each report is written, and docs/FORMATS.md
+-- shows them to users. Each line ends with a line feed.
 use Rattle.nc_algebra.specs.Polynomials.{Polynomial}
 use Rattle.nc_algebra.specs.Elements.{Element}
 use Rattle.nc_algebra.specs.Monomials.{Monomial}

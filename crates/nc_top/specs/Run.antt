@@ -1,12 +1,14 @@
--- What a run of the program answers.
---   Runs         the commands that run
---   IsCommand    the words give this command, and it runs
---   IsRun        the words give some command that runs
---   IsAnswer     status and report of a command for the bytes that were read
---   IsReported   the report was written, or a fault of the sink stopped it
---   IsRefused    the words are no command that runs
---   IsAnswered   the source was read, and status and report are those of its bytes
---   Ran          what a run of a command may end with, each with its cause
+-- What a run of the program may end with, each with its cause.
+--
+-- The words give a command, or the run is refused. A command reads its source and writes one report
+-- to its sink. A read fault comes only where the count of the source's failures rose, and a write
+-- fault only where that of the sink rose. Memory may run out at any time, with nothing written. In
+-- all other cases the bytes that were read determine status and report.
+--
+-- The source is read to one byte beyond the greatest length of a text, so that too long a text is
+-- known as such. Where a source does not tell its bytes, the contract speaks of some bytes, without
+-- saying which ones the source gave. The command `demo` has options, but no run here carries it
+-- out.
 use Rattle.nc_io.specs.Adds.{Adds, AddsFront}
 use Rattle.nc_io.specs.Causes.{Rose}
 use Rattle.nc_io.specs.Pieces.{TakesWhole}

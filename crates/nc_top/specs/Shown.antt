@@ -1,4 +1,7 @@
--- What code keeps of what is shown behind the items of a run.
+-- What code keeps of what is shown behind the items of a run: nothing, traces, or labels.
+--
+-- Labels are kept in two lists, those of the entries and those of the syzygies, in the order of the
+-- items. Traces are not kept, but made again one by one while the report is written.
 use Rattle.nc_algebra.specs.Elements.{Element}
 use Rattle.nc_algebra.specs.Monomials.{Monomial, Sig}
 use Rattle.nc_algebra.specs.Sums.{Term}

@@ -1,4 +1,8 @@
--- The statuses of a run.
+-- The statuses of a run, and the exit codes that stand for them.
+--
+-- A code says what sort of answer it is: 0 for a yes or a complete answer, 1 for a no, 2 for words
+-- that are no command, 3 for a text that cannot be read, 4 where a limit was reached, 5 and 6 for
+-- failures of reading and writing, 7 where memory ran out.
 use Rattle.nc_top.specs.declared.status.Status.{Status}
 use Rattle.nc_top.specs.declared.status.Status.TheVariants.{BadText, Budget, Done, Invalid, NotBelow, OutOfMemory, ReadFault, TooLarge, TooMany, TooMuch, Usage, WriteFault}
 use Rattle.std.specs.Prelude.{ℕ}

@@ -1,4 +1,6 @@
--- Where a word occurs in a word.
+-- Where a word occurs in a word, as a search from a place on finds it.
+--
+-- Places count from 0. An empty word occurs at each place, the end included.
 use Rattle.nc_algebra.specs.Words.{OccursAt, Word}
 use Rattle.std.specs.Prelude.{None, Option, Some, ℕ, ◌≤◌}
 
