@@ -1,4 +1,6 @@
--- The computed leading word is the greatest one.
+-- The leading word that is computed is the greatest one.
+-- `lead_leads` says so of each polynomial that is not zero; for a normal form it is the first word
+-- (`leading-normal`).
 use Rattle.nc_algebra.proofs.NormalForms.{normal_leads}
 use Rattle.nc_algebra.proofs.Sums.{at_other, key_dec, lead_unique, top, zero_number}
 use Rattle.nc_algebra.proofs.Words.{not_below_empty, word_laws, word_less_complete, word_less_sound, word_total, word_trans}

@@ -1,4 +1,10 @@
--- What the lines of a certificate stand for: their values are what elements over the generators evaluate to.
+-- What the lines of a certificate stand for: elements over the generators, which evaluate to the
+-- values of the lines.
+-- Values and elements are made in the same way from those of the lines before, so evaluation takes
+-- one to the other for a factor, a part, a line and all lines (`lines_evaluate`). The equations are
+-- between lists: both sides list the same products in the same order. `generated_is_in` says that
+-- only generators of the setting occur. `element_as_line` goes the other way: the terms of an
+-- element are the parts of one line.
 use Rattle.nc_algebra.proofs.Elements.{generator_dec}
 use Rattle.nc_algebra.proofs.Monomials.{monomial_laws}
 use Rattle.nc_algebra.proofs.Sums.{at_other, zero_number}

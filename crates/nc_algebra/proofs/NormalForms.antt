@@ -1,4 +1,7 @@
--- Each polynomial has one normal form.
+-- Each polynomial has one normal form, and `normal_form` computes it.
+-- `with_term` adds one term and keeps words descending, coefficients residues, and the sum. Two
+-- normal forms of one polynomial begin with the same word and the same residue, and their tails are
+-- equal polynomials again (`unique_up`).
 use Rattle.nc_algebra.proofs.Lists.{same-refl, same-sym, same-trans}
 use Rattle.nc_algebra.proofs.Sums.{at_other, at_self, key_dec, lead_unique, zero_number}
 use Rattle.nc_algebra.proofs.Words.{word_irrefl, word_laws, word_trans, words_compare}

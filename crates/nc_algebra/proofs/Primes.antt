@@ -1,4 +1,7 @@
 -- Modulo a prime each number that is not zero has an inverse.
+-- Divide p by a. The quotient, and the inverse of the remainder, give the inverse of a (`step`).
+-- The remainder is less than a, and it is not 0 unless a is 1, since p is a prime. So induction
+-- applies (`inverse_below`); `field_from_prime` is for numbers of any size.
 use Rattle.nc_algebra.proofs.Orders.{nat_ind, nat_order}
 use Rattle.nc_algebra.specs.Primes.{IsField, IsPrime, IsZero}
 use Rattle.std.proofs.Common.{◌≡◌, ℕ, ◌+◌, ◌-◌, ◌*◌, ◌/◌, ◌%◌, ◌<◌, ◌⊎◌, zero, suc, refl, sym, ap, ◌∙◌, inl, inr, arith}

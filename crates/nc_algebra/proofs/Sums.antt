@@ -1,4 +1,9 @@
 -- Laws of finite sums.
+-- Every statement on a sum goes through `linear_sum`, of which a coefficient is a special case.
+-- `linear_sum-without` singles out one key; by induction on the number of terms it gives
+-- `linear_sum_zero`, then `linear_sum_same`, and `top`: a sum is zero, or has a greatest key with a
+-- coefficient other than zero. `leads_map_keys` and `leads_substitute` move a leading key along a
+-- map that preserves the order; the second one needs a prime (`domain`).
 use Rattle.nc_algebra.proofs.Orders.{KeyLaws}
 use Rattle.nc_algebra.specs.Primes.{IsField, IsZero}
 use Rattle.nc_algebra.specs.Sums.{Leads, SameSum, Term, coefficient_by, is_at, linear_sum, map_keys, minus, scale, substitute}

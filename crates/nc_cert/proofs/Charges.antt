@@ -1,4 +1,6 @@
 -- The charges of lines, from the values that are kept.
+-- What is spent so far is the total of the charges of the parts before (`spent_step`); the first
+-- part that passes the limit is the one of the definition (`too_much_at`).
 use Rattle.nc_algebra.proofs.NormalForms.{normal_form-normal}
 use Rattle.nc_algebra.specs.Alphabets.{Alphabet, IsTextGenerator}
 use Rattle.nc_algebra.specs.Certificates.{Factor, Line, Part, factor_value, line_value, values_after, values_of}

@@ -1,4 +1,8 @@
 -- What is left of a polynomial, part by part.
+-- `IsLeft` is the invariant of the loop over the parts of a line: after i parts what is left is, as
+-- a sum, the polynomial minus a number times the value of the first i parts (`left_begins`,
+-- `left_step`, `left_ends`). `part_taken` says what one part takes off. A line's own value is zero
+-- minus p - 1 times it (`negative_back`).
 use Rattle.nc_algebra.proofs.NormalForms.{normal_form_equal}
 use Rattle.nc_algebra.proofs.Sums.{coefficient-minus, linear_sum-append, linear_sum-scale}
 use Rattle.nc_algebra.proofs.Words.{word_laws}

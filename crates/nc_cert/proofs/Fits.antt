@@ -1,4 +1,6 @@
 -- The words of values: over the alphabet, and no longer than the reach.
+-- `lines_fit` is the induction on lines. The rule of certificates bounds the reach by 100,000, so
+-- no word is longer; a normal form lists only words of the value.
 use Rattle.nc_algebra.proofs.Elements.{generator_at}
 use Rattle.nc_algebra.specs.Alphabets.{Alphabet, IsLetterIn, IsTextGenerator, IsTextWord, IsWordIn}
 use Rattle.nc_algebra.specs.Certificates.{AreLines, Factor, IsFactor, IsPart, Line, Part, factor_reach, factor_value, item, line_reach, line_value, longest, part_reach, part_value, values_after}

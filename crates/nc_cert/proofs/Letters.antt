@@ -1,4 +1,6 @@
--- The letters of what is left of a claim have names.
+-- The letters of what is left of a claim have names, so that it can be printed.
+-- Its words are words of the claim or of the last value (`last_has`, `rest_has`), which are over
+-- the alphabet.
 use Rattle.nc_algebra.proofs.NormalForms.{normal_form_listed}
 use Rattle.nc_algebra.specs.Alphabets.{IsLetterIn, IsWordIn}
 use Rattle.nc_algebra.specs.Certificates.{Certificate, IsCertificate, item, lines_value, rest_of, values_of}

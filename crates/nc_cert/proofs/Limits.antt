@@ -1,4 +1,6 @@
 -- Charges are within a limit, or too much at one place.
+-- The law `limit_law`: either the total is within the limit, or exactly one part is the first to
+-- pass it.
 use Rattle.nc_cert.specs.Charges.{Charge, LimitLaw, total}
 use Rattle.std.proofs.Common.{List, [], ap, arith, inl, inr, refl, sym, ℕ, ◌+◌, ◌++◌, ◌<◌, ◌∙◌, ◌∷◌, ◌≡◌, ◌≤◌, ◌⊎◌}
 use Rattle.std.proofs.lemmas.Bool.{cases_lt}

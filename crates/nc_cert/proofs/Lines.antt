@@ -1,4 +1,6 @@
--- Values and reaches of lines, line by line.
+-- Values and reaches of lines, where one line more comes.
+-- `values_after-push` and `last_value` are for values; `line_behind` is what the rule of
+-- certificates says of a line behind others.
 use Rattle.nc_algebra.specs.Certificates.{AreLines, IsPart, Line, line_reach, line_value, lines_value, item, values_after, values_of}
 use Rattle.nc_algebra.specs.Elements.{Setting}
 use Rattle.nc_algebra.specs.Polynomials.{Polynomial}

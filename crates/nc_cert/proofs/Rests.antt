@@ -1,4 +1,7 @@
 -- The rest: the claim minus the value of the last line.
+-- It is computed over the values that are kept (`rest_of_lines`), and is the claim where there is
+-- no line (`rest_of_claim`). Nothing is left exactly of a valid certificate (`valid_from_nothing`,
+-- `nothing_from_valid`).
 use Rattle.nc_algebra.proofs.Certificates.{valid_by_rest}
 use Rattle.nc_algebra.proofs.NormalForms.{normal_form-normal, normal_form_equal}
 use Rattle.nc_algebra.specs.Certificates.{Certificate, IsCertificate, IsValid, Line, line_value, lines_value, rest_of, values_of}

@@ -1,4 +1,6 @@
 -- The charge of a part from the number of words that it multiplies and their letters.
+-- Both numbers are kept beside each value, so the charge is found without a look at the value
+-- (`products_is`).
 use Rattle.nc_algebra.specs.Certificates.{item}
 use Rattle.nc_algebra.specs.Elements.{Setting, generator}
 use Rattle.nc_algebra.specs.Polynomials.{Polynomial}

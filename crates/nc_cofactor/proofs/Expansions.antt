@@ -1,4 +1,6 @@
 -- The label of an item from those that it needs, and what the first one with too many terms says.
+-- The item comes last: first the labels that it needs are made (`fill_fails`), and then its own is
+-- summed up (`item_fails`).
 use Rattle.nc_algebra.specs.Elements.{Element}
 use Rattle.nc_algebra.specs.Monomials.{Monomial, Sig}
 use Rattle.nc_algebra.specs.Problems.{IsProblem, NamedProblem}

@@ -1,4 +1,7 @@
--- The labels of the entries that are reached are made from the first one up, and what the first one with too many terms says.
+-- The labels of the entries that are reached are made from the first one up.
+-- `AreFilledTo` is the invariant: the places of the first entries are filled where they are
+-- reached. The first label with too many terms is the least that is reached and has too many
+-- (`next_fails`).
 use Rattle.nc_algebra.specs.Monomials.{Monomial, Sig}
 use Rattle.nc_algebra.specs.Problems.{IsProblem, NamedProblem, Problem}
 use Rattle.nc_algebra.specs.Sums.{Term}

@@ -1,4 +1,5 @@
 -- The search for the first entry whose signature is not lesser.
+-- Entries ascend, so one comparison settles one half of them (`lower_half`, `upper_half`).
 use Rattle.nc_algebra.proofs.Monomials.{monomial_total}
 use Rattle.nc_algebra.proofs.Orders.{less_from_test}
 use Rattle.nc_algebra.specs.Elements.{HasDegree, IsLess, generator_weight}

@@ -1,4 +1,7 @@
 -- The items of a snapshot beside those of the run that it stands for.
+-- What is rebuilt is unique and does not depend on traces (`moved_rebuilds`), so it is what the run
+-- has (`entry_has_trace`, `syzygy_has_trace`). Over the first entries something is reduced at each
+-- listed signature (`listed_start`).
 use Rattle.nc_algebra.proofs.Degrees.{degree_within}
 use Rattle.nc_algebra.proofs.Primes.{field_from_prime}
 use Rattle.nc_algebra.specs.Elements.{IsGenerator, IsLess, Setting, degree}

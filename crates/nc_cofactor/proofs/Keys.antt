@@ -1,4 +1,7 @@
 -- Terms whose keys descend: what a coefficient is, and where the keys of an equal sum come from.
+-- What holds of the keys of a sum holds of those of an equal one that descends (`keys_kept`). Two
+-- such lists of residues other than zero with the same sum have the same leading term, hence are
+-- one list (`one_list`).
 use Rattle.nc_algebra.proofs.Orders.{KeyLaws}
 use Rattle.nc_algebra.proofs.Sums.{at_other, at_self, key_dec, lead_unique, zero_number}
 use Rattle.nc_algebra.specs.Lists.{Among}

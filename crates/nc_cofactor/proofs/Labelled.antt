@@ -1,4 +1,7 @@
--- What a trace sums up to over labels that stand in their places is the label of its item.
+-- What a trace sums up to, over labels that stand in their places, is the label of its item.
+-- A listed monomial of a label has a coefficient, so its degree is at most that of the signature,
+-- and multiples keep within the limits of words (`light`). `labelled` puts this together with the
+-- sums of `Sums.antt`.
 use Rattle.nc_algebra.proofs.Degrees.{degrees}
 use Rattle.nc_algebra.proofs.Finite.{among_contains}
 use Rattle.nc_algebra.proofs.Lists.{same-trans}

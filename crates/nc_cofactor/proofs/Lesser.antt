@@ -1,4 +1,6 @@
 -- The first entries, which have lesser signatures.
+-- What rebuilds an item has exactly these first (`first_of_rebuilt`). Entries ascend, so below an
+-- entry's own signature they are those before it (`lesser_than_entry`).
 use Rattle.nc_algebra.specs.Elements.{IsLess, Setting, generator_weight}
 use Rattle.nc_algebra.specs.Monomials.{Monomial}
 use Rattle.nc_algebra.proofs.Monomials.{monomial_laws}

@@ -1,4 +1,6 @@
 -- The list of labels: each label is given by its entry's trace over the list itself.
+-- `label_by_trace` says so. It does not matter what stands in the places that a trace does not name
+-- (`alike_label`), so code may put anything there.
 use Rattle.nc_algebra.proofs.Finite.{among_contains}
 use Rattle.nc_algebra.proofs.Lists.{same-append, same-refl}
 use Rattle.nc_algebra.specs.Elements.{Element, element_times}

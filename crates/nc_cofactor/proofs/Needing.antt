@@ -1,4 +1,7 @@
 -- The entries that are reached from marks are found from the last one down.
+-- What the trace of a marked entry names is marked. A trace names earlier entries
+-- (`needs_earlier`), so one pass marks just what is reached. `IsOnTheWay` is the invariant: above
+-- the entries that are left, all is done.
 use Rattle.nc_algebra.specs.Monomials.{Monomial}
 use Rattle.nc_algebra.specs.Problems.{IsProblem, NamedProblem, Problem}
 use Rattle.nc_cofactor.proofs.Labelled.{problem_field}

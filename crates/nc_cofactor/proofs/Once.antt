@@ -1,4 +1,5 @@
 -- An item of a run has one trace, one label, and one normal form of it.
+-- `trace_once`, `label_once`; the last one is the law `one_label`.
 use Rattle.nc_algebra.specs.Elements.{Element, Setting}
 use Rattle.nc_algebra.specs.Monomials.{Sig}
 use Rattle.nc_algebra.specs.Sums.{Term}

@@ -1,4 +1,6 @@
--- Each list of terms has a normal form: the greatest key with a coefficient comes first, and behind it the normal form of the rest.
+-- Each list of terms has a normal form.
+-- The greatest key with a coefficient comes first, and behind it the normal form of the other
+-- terms. Their coefficients have a lesser sum, so this is an induction (`has_normal`).
 use Rattle.nc_algebra.proofs.Orders.{KeyLaws}
 use Rattle.nc_algebra.proofs.Sums.{below_lead, coef_without_other, coef_without_self, key_dec, linear_sum-without, top, without, zero_number}
 use Rattle.nc_algebra.specs.Lists.{Among}

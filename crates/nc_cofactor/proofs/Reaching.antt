@@ -1,4 +1,6 @@
 -- What is reached from marks, where these are the entries that a trace or given numbers name.
+-- What an item needs is what is reached from the entries that its trace names; what numbers need is
+-- what is reached from them. So one sweep serves items, claims, and lists of needed entries.
 use Rattle.nc_cofactor.specs.Claims.{IsNeededFor}
 use Rattle.nc_cofactor.specs.Needed.{IsMarked, IsReached}
 use Rattle.nc_cofactor.specs.Terms.{Names, Needs}

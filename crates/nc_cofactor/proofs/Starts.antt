@@ -1,4 +1,7 @@
 -- What is reduced at a signature over the first entries.
+-- The generator (`generator_over`), or the best multiple among these entries, whose word has a
+-- regular divisor because the best multiple is unique (`multiple_over`). The law on fronts of lists
+-- passes from the reduction over all entries to that over the first ones (`rebuilds_over`).
 use Rattle.nc_algebra.proofs.Words.{word_irrefl, word_trans}
 use Rattle.nc_algebra.specs.Elements.{IsGenerator, Setting}
 use Rattle.nc_algebra.specs.Monomials.{Monomial, times, unit_monomial}

@@ -1,4 +1,6 @@
 -- Sums of module monomials with their degrees, and the module elements that they are.
+-- Code adds one multiple after the other (`sum_begins`, `sum_steps`, `sum_adds`, `sum_ends`). What
+-- a sum lists comes from what was added, so the degrees stay right.
 use Rattle.nc_algebra.proofs.Lists.{same-append, same-permutation, same-refl, same-trans}
 use Rattle.nc_algebra.proofs.Monomials.{monomial_laws}
 use Rattle.nc_algebra.proofs.Orders.{KeyLaws}

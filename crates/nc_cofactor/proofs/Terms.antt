@@ -1,4 +1,6 @@
 -- How many terms an element has: as many as its normal form lists.
+-- A normal form lists each monomial with a coefficient once (`has_terms`), and lists without
+-- repetition of the same monomials are equally long, so the number is unique (`terms_once`).
 use Rattle.nc_algebra.proofs.Finite.{among_contains, contains_among}
 use Rattle.nc_algebra.proofs.Lists.{same-sym, same-trans}
 use Rattle.nc_algebra.proofs.Monomials.{monomial_laws}

@@ -1,4 +1,6 @@
 -- A command that grows by one argument.
+-- `option_added` and `number_added`: for any list of names, adding an argument gives the command of
+-- the longer list.
 use Rattle.std.proofs.Common.{◌≡◌, true, false, refl, ap, List, [], ◌∷◌, ◌++◌}
 use Rattle.nc_command.specs.Pieces.{Text}
 use Rattle.nc_command.specs.Commands.{args_for, command_for, option_arg, number_arg}

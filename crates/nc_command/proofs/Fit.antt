@@ -1,4 +1,6 @@
 -- A word that is not fit leaves no uses, and neither does an option that stands in two words.
+-- These words never come to `clap`. `unfit` is for the first case; `repeated` for the second, by
+-- counting the uses of each name (`counted`).
 use Rattle.std.proofs.lemmas.Bool.{and_parts}
 use Rattle.std.proofs.Common.{◌≡◌, ◌∙◌, ◌≤◌, ◌+◌, ◌&&◌, ℕ, Bool, true, false, not, refl, sym, ap, arith, List, [], ◌∷◌, Option, Some, None, true≢false}
 use Rattle.std.proofs.lemmas.Bool.{le-leb}

@@ -1,4 +1,6 @@
 -- Uses in another order.
+-- Names stay distinct, by their counts (`distinct-permutation`). A value is found exactly where the
+-- use is there (`has_use`, `of_use`), so each name keeps its value (`value_of-permutation`).
 use Rattle.std.proofs.Common.{◌≡◌, ◌∙◌, ◌&&◌, ◌||◌, ◌≤◌, Bool, cond, true, false, not, refl, sym, ap, arith, List, [], ◌∷◌, Option, Some, None, true≢false}
 use Rattle.std.specs.Prelude.{find, option_map, IsPermutation}
 use Rattle.std.specs.List.{list_any}

@@ -1,4 +1,6 @@
 -- The whole parse: `clap` takes the words exactly where the uses are defined, and finds just these.
+-- The command has the form that the contracts ask for (`simple`, `simple_and_free`). `decided` adds
+-- what follows the walk: no defaults, nothing required, no conflicts.
 use Rattle.std.proofs.lemmas.Bool.{or_right}
 use Rattle.std.proofs.Common.{◌≡◌, ◌∙◌, ◌⊎◌, ◌&&◌, ℕ, Bool, true, false, not, refl, sym, ap, ap₂, List, [], ◌∷◌, Option, Some, None, inl, inr, is_some}
 use Rattle.std.specs.Prelude.{fold, option_and_then, if◌then◌else◌}

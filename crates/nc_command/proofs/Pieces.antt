@@ -1,4 +1,5 @@
 -- What `clap` reads of a word, by its piece.
+-- A word that is fit is read as the piece that it is (`reads`).
 use Rattle.std.proofs.lemmas.Bool.{and_right}
 use Rattle.std.proofs.Common.{◌≡◌, ◌∙◌, ◌&&◌, ◌==◌, ℕ, Bool, true, false, refl, sym, ap, subst, List, [], ◌∷◌, Some, None}
 use Rattle.std.specs.Prelude.{option_and_then, if◌then◌else◌}

@@ -1,4 +1,7 @@
 -- What is split is what was spelled.
+-- `spelled_splits` and `split_spelled` are the two directions; in the second one an option that
+-- still wants its value stands before the words. Both rest on what a piece says of its word
+-- (`joined_piece`, `says`).
 use Rattle.std.proofs.Common.{◌≡◌, ◌∙◌, ◌||◌, ◌==◌, ◌+◌, ℕ, Bool, cond, true, false, not, refl, subst, suc, sym, ap, ap₂, arith, List, [], ◌∷◌, ◌++◌, Option, Some, None, drop, inl, inr, true≢false}
 use Rattle.std.specs.Prelude.{if◌then◌else◌, option_and_then}
 use Rattle.std.specs.List.{position_or_len}

@@ -1,4 +1,5 @@
 -- The command as `clap` builds it: a table of arguments, and what is found in it.
+-- A name is found exactly where it is one of the names (`long_found`, `id_found`).
 use Rattle.std.proofs.Common.{◌≡◌, ◌∙◌, ◌||◌, ℕ, Bool, cond, true, false, refl, sym, ap, List, [], ◌∷◌, Option, Some, None, true≢false}
 use Rattle.std.specs.Str.{bytes_eq}
 use Rattle.std.proofs.lemmas.Slice.Eq.{bytes_eq-Decides}

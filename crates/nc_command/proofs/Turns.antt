@@ -1,4 +1,8 @@
--- `clap`'s walk over the words goes with `split`.
+-- One turn of `clap`'s walk over the words, beside one step of `split`.
+-- `clap` uses a value one step late, at the next option or number or at the end, and finds a repeat
+-- only then. `Hold` is what is held back: nothing, a value, or an option that wants one. It becomes
+-- one more row, or clashes with one that is there (`settles`). `joined_met`, `named_met` and
+-- `plain_met` are the three kinds of words; `Fits` and `Fails` are the two verdicts on the rest.
 use Rattle.std.proofs.Common.{◌≡◌, ◌∙◌, ◌⊎◌, ℕ, Bool, true, false, refl, sym, ap, ap₂, List, [], ◌∷◌, ◌++◌, Option, Some, None, inl, inr, append_assoc}
 use Rattle.std.specs.Prelude.{find, fold, option_map, option_and_then, if◌then◌else◌}
 use Rattle.std.specs.List.{list_all, list_any}

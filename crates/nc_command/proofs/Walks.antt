@@ -1,4 +1,7 @@
--- The induction over the words.
+-- The induction over the words: what `clap` does is what `split` says.
+-- `follow`: from each place on, either the rest of the words splits into uses, no name stands
+-- twice, and the walk ends without a fault in just their rows; or the walk fails, and there are no
+-- such uses. Its steps are `joined_case`, `named_case`, `plain_case` and `value_case`.
 use Rattle.std.proofs.lemmas.Bool.{not-true, and_parts, or_right, and_right}
 use Rattle.std.proofs.Common.{◌≡◌, ◌∙◌, ◌⊎◌, ◌||◌, ℕ, Bool, true, false, refl, sym, ap, ap₂, List, [], ◌∷◌, ◌++◌, Option, Some, None, inl, inr, true≢false, append-nil}
 use Rattle.std.specs.Prelude.{if◌then◌else◌, nat_lt}

@@ -1,4 +1,7 @@
 -- Pairs of entries with a trivial syzygy that divides a signature.
+-- One side of the syzygy divides τ. What stands behind or before the signature of that side in τ
+-- contains the other leading word, and what is between is the word between the two (`behind_is`,
+-- `before_is`).
 use Rattle.nc_algebra.proofs.Monomials.{degree-times, times-times}
 use Rattle.nc_algebra.proofs.Orders.{nat_order}
 use Rattle.nc_algebra.specs.Elements.{HasDegree, IsLess, Setting, generator_weight}

@@ -1,4 +1,7 @@
--- The two sides of a trivial syzygy compare by their heads and then by their words, and the places where one is the greater.
+-- The two sides of a trivial syzygy compare by their heads and then by their words.
+-- The heads are the degrees and the generators, and do not depend on the place. So most pairs are
+-- settled without a search (`behind_anywhere`, `behind_nowhere`, `before_anywhere`,
+-- `before_nowhere`); otherwise the words at each place decide.
 use Rattle.nc_algebra.proofs.Orders.{nat_order}
 use Rattle.nc_algebra.proofs.Words.{weight-append}
 use Rattle.nc_algebra.specs.Monomials.{compare_sigs, sig_times}

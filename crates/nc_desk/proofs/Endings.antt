@@ -1,4 +1,6 @@
 -- The ends that a desk comes to.
+-- A desk at which nothing may be handled is at an end of the run (`complete_end`, `budget_end`),
+-- and has the bases that belong to that end (`complete_bases`, `budget_bases`).
 use Rattle.nc_algebra.specs.Monomials.{Sig, monomial_of}
 use Rattle.nc_desk.proofs.Left.{first_next, none_left}
 use Rattle.nc_desk.proofs.Steps.{least_next, next_of_run}

@@ -1,4 +1,7 @@
--- The signatures that wait: at first, the least one, and after that was handled.
+-- The signatures that wait: at first, the least one, and after it was handled.
+-- What waits is what is left of the candidates, so the least of it is the next signature
+-- (`first_next`). What the outcome brings is greater, so that one is still the first after the
+-- insertion, and the rest is what waits then (`left_later`).
 use Rattle.nc_algebra.specs.Elements.{HasDegree, IsLess, generator_weight}
 use Rattle.nc_algebra.specs.Monomials.{Monomial, Sig, compare_sigs, monomial_of, sig_of, unit_monomial}
 use Rattle.nc_algebra.specs.Primes.{IsPrime}

@@ -1,4 +1,6 @@
 -- A step of a snapshot and of what is kept beside it.
+-- A step appends to shared copies, inserts what the outcome brings (`advances`), and takes out the
+-- least, which is the signature that was handled (`left_taken`).
 use Rattle.nc_algebra.specs.Elements.{HasDegree, Setting}
 use Rattle.nc_algebra.specs.Monomials.{Monomial, Sig, monomial_of}
 use Rattle.nc_desk.proofs.Left.{first_next, later_run, left_later, none_next}

@@ -1,4 +1,8 @@
--- The steps of the extended algorithm of Euclid.
+-- The loop of `Prime::inverse`, which is Euclid's extended algorithm.
+-- `IsStep` is its invariant: modulo p, s times a is the dividend m and t times a the divisor n; m
+-- and n have no common divisor, and 0 < n < m. It holds at first (`first_step`) and after each turn
+-- (`next_step`; `rest_factor` is the arithmetic). The remainder is not 0 while n is not 1
+-- (`rest_some`), so n falls to 1, where t is the inverse of a.
 use Rattle.nc_algebra.specs.Primes.{IsPrime}
 use Rattle.nc_field.proofs.Residues.{same_add_right, same_cancel, same_mul}
 use Rattle.std.proofs.Common.{◌≡◌, ℕ, ◌+◌, ◌-◌, ◌*◌, ◌/◌, ◌%◌, ◌<◌, ◌≤◌, ◌⊎◌, zero, suc, sym, ap, ◌∙◌, subst, inl, inr, arith, refl}

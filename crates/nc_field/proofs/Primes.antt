@@ -1,4 +1,7 @@
--- Each number of the list is a prime.
+-- Each number of the list of primes is a prime.
+-- `none_divides p d` tests by computation that no number from 2 to d + 1 divides p. With d + 2
+-- equal to p this makes p a prime (`prime_by_test`). The checker runs the test for each listed
+-- number (`listed_is_prime`).
 use Rattle.nc_algebra.specs.Primes.{IsPrime, is_listed_prime}
 use Rattle.std.proofs.Common.{◌≡◌, ℕ, ◌+◌, ◌%◌, ◌<◌, ◌≤◌, ◌⊎◌, ◌&&◌, ◌||◌, Bool, true, false, zero, suc, refl, sym, ap, ◌∙◌, subst, inl, inr, arith, not, nat_eq}
 use Rattle.std.proofs.Math.Nat.{eq-zero_of_zero-dvd}

@@ -1,4 +1,7 @@
 -- Places of one pair's word.
+-- All places give one degree (`degree_at`), and of two places the left one has the lesser signature
+-- (`leftmost`). So a pair is settled by its degree (`first_of_all`, `none_regular`), and only where
+-- the degrees are equal the leftmost place is tested (`first_decides`, `none_decides`).
 use Rattle.nc_algebra.proofs.Orders.{nat_order}
 use Rattle.nc_algebra.proofs.Words.{cut, length_at_most, weight-append}
 use Rattle.nc_algebra.specs.Monomials.{Sig, compare_sigs, sig_times}

@@ -1,4 +1,6 @@
--- Lemmas on what a sink holds.
+-- What a sink holds after several calls.
+-- `Adds-trans` puts two growths together; a loop that writes piece after piece uses it at each
+-- turn.
 use Rattle.std.proofs.Common.{ℕ, List, [], ◌++◌, sym, ap, ◌∙◌, Some, None}
 use Rattle.std.specs.declared.option.Option.{Option}
 use Rattle.std.proofs.lemmas.List.{append-nil, append_assoc}

@@ -1,4 +1,5 @@
--- Lemmas on bytes in memory.
+-- Bytes in memory, as a source.
+-- `left_after_piece`: the piece that is taken, and what is left then, are what was left before.
 use Rattle.std.proofs.Common.{◌≡◌, ℕ, ◌+◌, ◌-◌, ◌≤◌, List, ◌++◌, length, take, drop, sym, ap, ◌∙◌, arith}
 use Rattle.std.proofs.lemmas.List.{take_at, take-append-drop, drop-drop, length-take-le, length-drop}
 

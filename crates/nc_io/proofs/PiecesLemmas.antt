@@ -1,4 +1,5 @@
--- Lemmas on what was taken from a source.
+-- What was taken from a source by several calls.
+-- `front_after` puts a further piece behind the bytes that were taken before.
 use Rattle.std.proofs.Common.{ℕ, ◌-◌, ◌≤◌, List, ◌++◌, length, arith, length-append}
 use Rattle.std.specs.declared.option.Option.{Option}
 use Rattle.std.specs.Io.KnownBytes.{Consumes}

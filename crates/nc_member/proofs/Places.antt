@@ -1,4 +1,6 @@
 -- The line of an entry: its place among the needed ones, which ascend.
+-- The place is the number of those that are not greater (`line_at`). A number that is less than one
+-- of them stands before it (`stands_before`).
 use Rattle.nc_algebra.specs.Certificates.{item}
 use Rattle.nc_member.specs.Lines.{line_of}
 use Rattle.nc_theory.proofs.Stale.{front_or_later}

@@ -1,5 +1,7 @@
--- The lines of the needed entries, one after the other, and that of the claim behind them: they keep the rule of certificates, and the
--- claim is the value of the last one.
+-- The lines of the needed entries, one after the other, and that of the claim behind them.
+-- `IsBehind` is the invariant of going up: the lines so far have the right values and reaches. What
+-- a trace names is needed too, so its line is there and earlier. `lines_prove`: all lines keep the
+-- rule of certificates, and the claim is the value of the last one.
 use Rattle.nc_algebra.proofs.Degrees.{degree_within}
 use Rattle.nc_algebra.proofs.Primes.{field_from_prime}
 use Rattle.nc_algebra.specs.Certificates.{AreLines, IsPart, Line, item, line_reach, line_value, part_reach, values_after}

@@ -1,5 +1,7 @@
--- The parts of lines keep the rule of certificates: their reach is at most the degree of the signature, and 255 letters more, which is
--- what a generator may have.
+-- The parts of lines keep the rule of certificates.
+-- The reach of a line is at most the degree of its signature and 255 letters more, which is what a
+-- word of a generator may have: a multiple adds the letters of its sides, and these are not more
+-- than what they add to the degree (`line_part`, `line_short`).
 use Rattle.nc_algebra.proofs.Words.{length_at_most, weight-append}
 use Rattle.nc_algebra.specs.Alphabets.{Alphabet, IsTextWord, IsWordIn}
 use Rattle.nc_algebra.specs.Certificates.{Factor, IsPart, Line, Part, item, line_reach, longest, part_reach}

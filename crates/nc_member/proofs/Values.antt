@@ -1,4 +1,7 @@
--- The values of an entry's line and of the claim's line, where the lines that they name have the values of their entries.
+-- The values of an entry's line and of the claim's line.
+-- Where the lines that they name have the values of their entries, an entry's line has the
+-- polynomial of the entry as its value (`trace_value`), and the claim's line has what was
+-- subtracted (`claim_value`). The steps of a trace stand in its line with negated coefficients.
 use Rattle.nc_algebra.proofs.Elements.{same_times}
 use Rattle.nc_algebra.proofs.Sums.{linear_sum-append, linear_sum-ext, linear_sum-map_keys, linear_sum-scale, zero_add, zero_mul, zero_number}
 use Rattle.nc_algebra.specs.Certificates.{Line, Part, factor_value, item, line_value, part_value}

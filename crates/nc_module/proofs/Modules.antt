@@ -1,4 +1,9 @@
 -- Module elements, term by term.
+-- To evaluate, code subtracts each term's multiple of its generator with the negative coefficient,
+-- which adds it (`value_added`); `IsValue` says what the sum is after some terms. The degree of a
+-- term bounds the letters on both sides, and words of generators are short, so each product fits
+-- (`term_short`). To subtract a multiple, code lists copies and multiples as pairs (`copies_more`,
+-- `moved_more`), whose sum is the difference (`module_subtracted`).
 use Rattle.nc_algebra.proofs.Lists.{same-append, same-refl, same-trans}
 use Rattle.nc_algebra.proofs.NormalForms.{normal_form_equal}
 use Rattle.nc_algebra.proofs.Sums.{coefficient-minus, linear_sum-append, linear_sum-scale}

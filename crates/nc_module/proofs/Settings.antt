@@ -1,4 +1,6 @@
 -- What holds of the generators of a setting.
+-- A generator is in normal form, so its weight is that of its first word (`weight_first`), and at
+-- most 25,500 (`generator_weighs`).
 use Rattle.nc_algebra.proofs.Alphabets.{text_word_light}
 use Rattle.nc_algebra.proofs.Elements.{generator_at}
 use Rattle.nc_algebra.proofs.Leading.{leading-normal}

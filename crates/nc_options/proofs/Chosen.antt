@@ -1,4 +1,6 @@
 -- The options that are read from what `clap` found are those of the uses.
+-- Options are read by a function from names to texts, and what `clap` found gives the same function
+-- as the uses (`chosen`).
 use Rattle.std.proofs.Common.{◌≡◌, ◌∙◌, ap, sym, List, Bool, Option, Some}
 use Rattle.std.specs.Prelude.{option_map, option_and_then}
 use Rattle.nc_command.specs.Pieces.{Text}

@@ -1,4 +1,7 @@
--- Lists to which signatures are added.
+-- Lists to which signatures are added, one kind after another.
+-- What stands before a place adds to the degree of the second entry's multiple. So a place far
+-- behind leaves no room within the bound, and neither does any place after it (`room`); these are
+-- not looked at.
 use Rattle.nc_algebra.proofs.Degrees.{degree_within, degrees}
 use Rattle.nc_algebra.proofs.Monomials.{degree-times}
 use Rattle.nc_algebra.proofs.Words.{length_at_most}

@@ -1,4 +1,9 @@
 -- Collecting terms with one word gives the normal form.
+-- The proof uses uniqueness and does not follow the definition. Carrying keeps each coefficient
+-- modulo p (`carried_at`), dropping zeros keeps them too (`filter_at`), and a permutation is the
+-- same sum. Where two neighbours have different words, these descend strictly; where they have one
+-- word, the first of the two is dropped (`descends`). So the result is a normal form of the same
+-- polynomial, and there is only one (`collected_is`).
 use Rattle.nc_algebra.proofs.Lists.{same-permutation}
 use Rattle.nc_algebra.proofs.NormalForms.{normal_form_only, positive, scaled}
 use Rattle.nc_algebra.proofs.Words.{word_laws, word_trans}

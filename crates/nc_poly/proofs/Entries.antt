@@ -1,4 +1,8 @@
 -- Entries of a tree as lists of terms.
+-- An entry has two readings: its coefficient now, and the one before the pass. Both give a list of
+-- terms, without those that have coefficient 0. A term that is added changes the first list by that
+-- term, as a sum (`added_sum`), and leaves the second one as it is (`added_before`). Both follow
+-- from what a write at one key does to any reading (`inserted_weighs`, `inserted_same`).
 use Rattle.nc_algebra.proofs.Sums.{linear_sum-append}
 use Rattle.nc_algebra.specs.Sums as sums
 use Rattle.nc_algebra.specs.Sums.{SameSum, Term, coefficient_by, linear_sum}

@@ -1,4 +1,6 @@
--- A sum of words is a polynomial.
+-- A sum over words is a polynomial.
+-- Its terms descend, so they are a normal form; after a multiple was subtracted they are that of
+-- the difference (`heap_subtracted`).
 use Rattle.nc_algebra.proofs.Lists.{same-trans}
 use Rattle.nc_algebra.proofs.NormalForms.{normal_form_only}
 use Rattle.nc_algebra.proofs.Orders.{compare_less, less_from_compare}

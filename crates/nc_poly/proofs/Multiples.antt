@@ -1,4 +1,8 @@
 -- Multiples that code lists are those of the definitions.
+-- To subtract c u g v, code appends the terms of u g v times the negative residue of c, which
+-- counts as p - 1 times c (`negative_same`). For keys of any kind the longer list is the difference
+-- as a sum (`same_moved`); `same_subtracted` is the case of words. `same_subtracted_from` starts
+-- from any list with the same sum, so an accumulator may collect at any time.
 use Rattle.nc_algebra.proofs.Lists.{same-append, same-refl, same-trans}
 use Rattle.nc_algebra.proofs.NormalForms.{normal_form_equal, normal_form_normal}
 use Rattle.nc_algebra.proofs.Sums.{linear_sum-append, linear_sum-scale}

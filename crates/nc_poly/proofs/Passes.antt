@@ -1,4 +1,7 @@
 -- Passes over the entries of a tree.
+-- A pass adds one term after the other (`adds_step`). At its beginning both readings agree, since
+-- no entry has its number yet (`begun`). If it fails, a sweep makes the second reading the first
+-- (`rewritten`), so the sum is what it was.
 use Rattle.nc_algebra.proofs.NormalForms.{positive}
 use Rattle.nc_algebra.proofs.Sums.{linear_sum-append}
 use Rattle.nc_algebra.specs.Sums as sums

@@ -1,4 +1,8 @@
--- Lists of terms as code sorts and writes them.
+-- Lists of terms as code sorts them and writes into them.
+-- A list that was sorted descends (`falls_from_sorted`); `before_order` is what the sort asks of
+-- its order. `IsCarried` is the invariant of the loop that carries coefficients on: a front that is
+-- done, one last term, and the rest as it was. `pair_written` says what the two writes of one turn
+-- leave of the list.
 use Rattle.nc_algebra.proofs.Words.{word_less_complete, word_total, words_order}
 use Rattle.nc_algebra.specs.Polynomials.{Polynomial}
 use Rattle.nc_algebra.specs.Sums.{Term}

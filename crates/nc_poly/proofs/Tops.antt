@@ -1,4 +1,7 @@
 -- The greatest term of a sum, and the order of the others.
+-- The keys of the tree ascend, so the terms descend (`terms_descend`). The last entry always has a
+-- coefficient, so it is the first term, to be looked at (`top_shown`), taken out (`taken`), or
+-- preceded by a greater one (`pushed`).
 use Rattle.nc_algebra.proofs.NormalForms.{positive}
 use Rattle.nc_algebra.specs.Sums.{Term}
 use Rattle.nc_poly.proofs.Entries.{shown_some, terms_push}

@@ -1,4 +1,6 @@
 -- Ascending lists as sets, under an order in which only the same are equal.
+-- The tree of waiting signatures is read as the ascending list of their values. Two ascending lists
+-- with the same members are the same list (`same_members`).
 use Rattle.nc_algebra.proofs.Finite.{among_contains, contains_among}
 use Rattle.nc_algebra.specs.Lists.{Among}
 use Rattle.std.proofs.Common.{arith, subst, Bool, Contains, Equal, Greater, IsTrue, Less, List, Ordering, [], ap, cond, false, inl, inr, not, refl, sym, true, ◌∙◌, ◌∷◌, ◌↔◌, ◌≡◌, ◌⊎◌}

@@ -1,4 +1,6 @@
--- All or none: what is new is added, and taken out again.
+-- All or none: what is new is added, and taken out again after a failure.
+-- It is enough to add what is not there yet (`union_fresh`). Taking that out leaves the old
+-- members, hence the old list (`undone`).
 use Rattle.nc_algebra.specs.Monomials.{Sig}
 use Rattle.nc_queue.proofs.Ascending.{contains_or_not, same_members}
 use Rattle.nc_queue.specs.Queues.{IsAscending, IsDifference, IsUnion}

@@ -1,4 +1,8 @@
 -- Reduction below a Sig is reduction at its monomial, or within a bound.
+-- A turn takes multiples with signatures below a monomial that has a degree beside it. Sets that
+-- let in the same multiples of entries have the same reductions. So with a signature's own degree
+-- this is reduction at the signature (`reduced_at`), and with the limit of a bound reduction within
+-- it (`reduced_within`).
 use Rattle.nc_algebra.proofs.Monomials.{below_above_degree}
 use Rattle.nc_algebra.specs.Elements.{HasDegree, IsGenerator, IsLess, Setting, generator_weight}
 use Rattle.nc_algebra.specs.Monomials.{Monomial, Sig, above_degree, monomial_of, sig_of}

@@ -1,4 +1,6 @@
 -- What a turn of a reduction does and leaves.
+-- The lemmas of `nc_search` on turns, with the leading term taken out of the tree where it is kept
+-- (`rest_is`), and the chosen divisor by the law of `nc_index` (`none_turn`, `hit_within`).
 use Rattle.nc_algebra.proofs.NormalForms.{normal_form_only}
 use Rattle.nc_algebra.proofs.Sums.{coefficient-minus}
 use Rattle.nc_algebra.proofs.Words.{word_laws}

@@ -1,4 +1,7 @@
 -- An ambiguity is a place where the leading words of two entries meet.
+-- Its word begins with one of the two leading words, and the place is where the other one begins.
+-- So the places of all pairs give exactly the signatures of ambiguities (`from_meeting`,
+-- `to_meeting`).
 use Rattle.nc_algebra.specs.Elements.{IsLess, Setting}
 use Rattle.nc_algebra.specs.Monomials.{Monomial, times}
 use Rattle.nc_algebra.specs.Polynomials.{leading}

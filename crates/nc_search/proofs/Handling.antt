@@ -1,4 +1,5 @@
 -- What becomes of a signature, from what the steps of its handling found.
+-- `handled` and `generator_handled` put start, reduction and outcome together.
 use Rattle.nc_algebra.proofs.Alphabets.{letter_light, text_word_light}
 use Rattle.nc_algebra.proofs.NormalForms.{normal_form_same}
 use Rattle.nc_algebra.specs.Finite.{AreLetters}

@@ -1,4 +1,7 @@
 -- The words of a program's run are over its alphabet.
+-- Each generator is over the letters of the alphabet (`generator_over`), so the laws on letters
+-- apply to them. A term of a normal form has a coefficient other than zero, so its word is among
+-- those that these laws speak of (`polynomial_in`).
 use Rattle.nc_algebra.proofs.Alphabets.{letter_light}
 use Rattle.nc_algebra.proofs.NormalForms.{normal_leads, nothing_above, other_coefficient}
 use Rattle.nc_algebra.proofs.Orders.{nat_order}

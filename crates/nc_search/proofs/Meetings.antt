@@ -1,4 +1,6 @@
 -- Two words that meet, and the signature where two entries' leading words do.
+-- What stands around two words is known by the place where the second one begins (`around_made`,
+-- `around_parts`). So at each place at most one signature is found (`met`, `unmet`).
 use Rattle.nc_algebra.proofs.Monomials.{monomial_irrefl, monomial_trans, monomials_compare}
 use Rattle.nc_algebra.proofs.Orders.{equal_from_compare, greater_from_compare, less_from_compare, nat_order}
 use Rattle.nc_algebra.proofs.Words.{length_at_most}

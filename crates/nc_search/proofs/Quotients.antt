@@ -1,4 +1,7 @@
 -- Divisors of monomials, and the best multiple.
+-- A later multiple is better only where its word is less. So the best one of a set of multiples and
+-- that of the next entry are known by one comparison (`better_step`). `IsWithNext` says what the
+-- longer set is, for all entries and for a range of them.
 use Rattle.nc_algebra.proofs.Monomials.{degree-times}
 use Rattle.nc_algebra.proofs.Orders.{nat_order}
 use Rattle.nc_algebra.proofs.Words.{length_at_most, word_less_complete, word_less_sound, word_total, word_trans}

@@ -1,4 +1,7 @@
 -- Small words: of parts and of multiples, and the words of a polynomial in normal form.
+-- A word is small if it weighs at most 200,000 over letters that a program has. A multiple that
+-- stands in a small word has small words (`multiple_small`), and so has the difference
+-- (`difference_small`).
 use Rattle.nc_algebra.proofs.Leading.{lead_leads}
 use Rattle.nc_algebra.proofs.NormalForms.{normal_leads}
 use Rattle.nc_algebra.proofs.Orders.{Decided, nat_order}

@@ -1,4 +1,8 @@
 -- What a turn of a reduction leaves.
+-- A turn subtracts or keeps (`turn_subtracts`, `turn_keeps`), which are the steps of `ReducedTo`.
+-- It leaves a normal form with small words and a lesser leading word (`IsLeft`), so the rank of
+-- that word falls and the loop ends. Sets that let in the same multiples of entries have the same
+-- reductions (`reduction_by`).
 use Rattle.nc_algebra.proofs.NormalForms.{normal_form_normal, normal_form_same}
 use Rattle.nc_algebra.proofs.Ranks.{rank, word_rank}
 use Rattle.nc_algebra.proofs.Leading.{lead_leads}

@@ -1,4 +1,6 @@
--- States with the same items up to traces have enough of the same, and the same canonical entries.
+-- States with the same items up to traces have the same bases and the same canonical entries.
+-- Closed states, chains to zero and canonical polynomials are stated by divisors, so they carry
+-- over for every set of monomials (`moved_bases`, `moved_canonical`).
 use Rattle.nc_algebra.specs.Elements.{IsLess, SamePolynomial, Setting}
 use Rattle.nc_algebra.specs.Monomials.{Monomial, unit_monomial}
 use Rattle.nc_algebra.specs.Polynomials.{Polynomial, coefficient, leading}

@@ -1,4 +1,6 @@
 -- The sequential run without traces.
+-- A state stands for that of the run if it is the same without traces. Both have the same items
+-- (`same_run`), so the laws on runs carry over.
 use Rattle.nc_algebra.proofs.Primes.{field_from_prime}
 use Rattle.nc_algebra.specs.Monomials.{Monomial}
 use Rattle.nc_algebra.specs.Primes.{IsPrime}

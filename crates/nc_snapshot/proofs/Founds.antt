@@ -1,4 +1,5 @@
 -- What is found, as a state of the theory, and its degrees.
+-- What is found after an outcome is the state after it, without traces (`found_state`).
 use Rattle.nc_algebra.specs.Elements.{HasDegree, Setting}
 use Rattle.nc_algebra.specs.Monomials.{Sig, monomial_of}
 use Rattle.nc_search.specs.Untraced.{untraced, untraced_entry, untraced_syzygy}

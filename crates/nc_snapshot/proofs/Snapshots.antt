@@ -1,4 +1,7 @@
 -- What holds of a snapshot: its prime, its entries, and what an outcome brings.
+-- These are the laws of `nc_search` on runs without traces: entries can be used (`snapshot_usable`)
+-- and are canonical (`snapshot_canonical`), and what the next outcome brings is greater
+-- (`snapshot_ascends`).
 use Rattle.nc_algebra.proofs.Primes.{field_from_prime}
 use Rattle.nc_algebra.specs.Elements.{IsLess}
 use Rattle.nc_algebra.specs.Monomials.{Monomial}

@@ -1,4 +1,6 @@
--- Steps of a snapshot.
+-- A snapshot with what becomes of the next signature is a snapshot.
+-- It stands for one step more of the run (`snapshot_goes_on`). `added_stands`, `added_degrees` and
+-- `added_state` say so of what code keeps.
 use Rattle.nc_algebra.specs.Elements.{HasDegree}
 use Rattle.nc_algebra.specs.Monomials.{Sig, monomial_of}
 use Rattle.nc_algebra.specs.Problems.{IsProblem, NamedProblem}

@@ -1,4 +1,6 @@
 -- Lines `generator`, and the alphabet and the setting that are read.
+-- The lines are read by the lemmas of `Repeated.antt` in `nc_tokens` (`are_lines`). What is read
+-- keeps the rules of the types that code makes of it (`is_alphabet`, `is_setting`).
 use Rattle.nc_algebra.specs.Alphabets.{Alphabet, IsAlphabet}
 use Rattle.nc_algebra.specs.Settings.{IsSetting, NamedSetting}
 use Rattle.nc_algebra.specs.Polynomials.{Polynomial}

@@ -1,4 +1,5 @@
 -- Reading names one after the other, as a loop does.
+-- `IsOnTheWay` is the invariant: reading on behind the names so far gives the whole.
 use Rattle.std.proofs.Common.{◌≡◌, ℕ, cond, nat_eq, Bor, List, [], ◌∷◌, ◌++◌, length, Result, Ok, Err, refl, sym, ap, subst, ◌∙◌}
 use Rattle.nc_tokens.specs.declared.fault.Kind.{Kind}
 use Rattle.nc_tokens.specs.declared.fault.Kind.TheVariants.{Syntax, BadName}

@@ -1,4 +1,8 @@
 -- How many lines are left behind those that were read.
+-- A certificate of the program has at most 4,000,000,000 lines, and pushing one line more needs
+-- that. A text has no more lines than bytes (`text_left`), and reading never leaves more lines than
+-- there were; so behind the claim there are at most as many as the text has bytes (`claimed_left`),
+-- and these are at most 16,777,216.
 use Rattle.nc_algebra.specs.Alphabets.{Alphabet}
 use Rattle.nc_algebra.specs.Polynomials.{Polynomial}
 use Rattle.nc_algebra.specs.Settings.{NamedSetting}

@@ -1,4 +1,6 @@
 -- Reading the lines `part` and `line`, one after the other, as a loop does.
+-- `IsOnTheWay` is the invariant, with the lines that are done, their reaches, and the parts of the
+-- line that was begun. A turn is `part_goes_on`, `line_goes_on`, `part_fails` or `line_fails`.
 use Rattle.nc_algebra.specs.Certificates as certificates
 use Rattle.nc_algebra.specs.Certificates.{Part, line_reach}
 use Rattle.nc_algebra.specs.Settings.{NamedSetting}

@@ -1,4 +1,5 @@
--- The bytes of printed pieces are plain.
+-- The bytes of printed pieces are plain: 32 to 126 without `#`.
+-- `poly_plain` for polynomials, `sig_plain` for monomials, `part_plain` for parts.
 use Rattle.nc_algebra.specs.Alphabets.{Alphabet}
 use Rattle.nc_algebra.specs.Certificates.{Factor, Part}
 use Rattle.nc_algebra.specs.Monomials.{Monomial}

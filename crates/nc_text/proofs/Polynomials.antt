@@ -1,4 +1,5 @@
 -- Reading a polynomial term after term, as a loop does.
+-- `IsOnTheWay` is the invariant, with the terms so far in front and a budget as in `Words.antt`.
 use Rattle.nc_algebra.specs.Alphabets.{Alphabet}
 use Rattle.std.proofs.Common.{◌≡◌, ℕ, zero, suc, ◌≤◌, Bool, true, false, List, [], ◌∷◌, ◌++◌, length, Result, Ok, Err, refl, sym, ap, subst, ◌∙◌, append_assoc, arith}
 use Rattle.std.proofs.lemmas.List.{append-nil, nil_from_length}

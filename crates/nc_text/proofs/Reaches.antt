@@ -1,4 +1,6 @@
--- How far words reach: the longest word of each generator, and the reaches of parts and lines as code keeps them.
+-- How far words reach: the reaches of parts and lines as code keeps them.
+-- The longest word of each generator is found once (`longest_list_more`), and the reach of a line
+-- is updated with each part (`generator_reach`, `reach_more`).
 use Rattle.nc_algebra.proofs.Elements.{generator_at}
 use Rattle.nc_algebra.specs.Alphabets.{IsTextGenerator, IsTextWord}
 use Rattle.nc_algebra.specs.Certificates.{Part, line_reach, longest, part_reach}

@@ -1,4 +1,6 @@
 -- What is read of a text is a certificate.
+-- The lines are taken in their order, up to `certificate_reads`, which is the law
+-- `reads_certificates`.
 use Rattle.nc_algebra.specs.Alphabets.{Alphabet, IsAlphabet, IsTextGenerator, IsPolynomialIn, IsTextPolynomial, IsTextWord, IsWeight, IsWordIn}
 use Rattle.nc_algebra.specs.Certificates as certificates
 use Rattle.nc_algebra.specs.Certificates.{AreLines, Certificate, HasTextWords, IsPart, IsTextCertificate, Part, line_reach}

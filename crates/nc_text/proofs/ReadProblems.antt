@@ -1,4 +1,6 @@
 -- What is read of a problem text is a problem.
+-- A monomial of a text has two words of at most 255 letters, and so does the leading word of its
+-- generator; a letter weighs at most 100. So its degree is at most 80,000 (`monomial_light`).
 use Rattle.nc_algebra.proofs.Alphabets.{text_word_light}
 use Rattle.nc_algebra.specs.Elements.{degree}
 use Rattle.nc_algebra.specs.Monomials.{Monomial}

@@ -1,4 +1,7 @@
 -- What is read behind a keyword is part of a certificate.
+-- Names are different (`letters_read`), weights lie in their range (`weights_read`), parts name
+-- earlier lines and have a small reach (`part_reads`). A term of form 1 needs no test of its reach:
+-- its words and those of a generator have at most 255 letters each (`term_reads`).
 use Rattle.nc_algebra.specs.Alphabets.{Alphabet, IsTextGenerator, IsTextPolynomial, IsTextWord, IsWeight, is_name}
 use Rattle.nc_algebra.specs.Certificates.{HasTextWords, IsFactor, IsPart, Part, longest, part_reach}
 use Rattle.nc_algebra.specs.Elements.{IsGenerator, Setting, generator}

@@ -1,4 +1,5 @@
 -- What is read as a word or a polynomial may stand in a text.
+-- Words have at most 255 letters (`word_reads`), and polynomials are in normal form (`poly_reads`).
 use Rattle.nc_algebra.proofs.NormalForms.{normal_form_listed, normal_form_normal}
 use Rattle.nc_algebra.specs.Alphabets.{Alphabet, AreTextWords, IsLetterIn, IsTextPolynomial, IsTextWord, IsWordIn, letter_at}
 use Rattle.nc_algebra.specs.Certificates.{longest}

@@ -1,4 +1,7 @@
 -- What is printed of a certificate is read again.
+-- `certificate_again` and `terms_again` read the lines of the two forms, and `all_are_printed` says
+-- that they are printed lines. Reading is a function, so two certificates with the same text are
+-- equal (`one_certificate`).
 use Rattle.nc_algebra.specs.Certificates as certificates
 use Rattle.nc_algebra.specs.Certificates.{Certificate, HasTextWords, IsTextCertificate, element_lines}
 use Rattle.nc_algebra.specs.Elements.{Element}

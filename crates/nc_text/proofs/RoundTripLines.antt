@@ -1,4 +1,7 @@
--- The lines behind the claim that are printed are read again: `line` and `part`, and the lines `term` of form 1.
+-- The lines behind the claim that are printed are read again.
+-- The lines `line` and `part` one after the other (`line_lines_again`), and the lines `term` of
+-- form 1 as one line (`terms_line_again`). The number of a line is read where it has at most 18
+-- digits, so the law asks for at most 4,000,000,000 lines.
 use Rattle.nc_algebra.specs.Certificates as certificates
 use Rattle.nc_algebra.specs.Certificates.{AreLines, HasTextWords, IsPart, Part, element_lines, line_reach, term_part}
 use Rattle.nc_algebra.specs.Elements.{Element}

@@ -1,4 +1,7 @@
 -- What is printed of a word or a polynomial is read again.
+-- First which tokens a printed word or polynomial has (`word_tokens`, `terms_tokens`), then what
+-- these are read as (`word_again`, `terms_again`). `Ends` says what may follow a word or a term. A
+-- printed polynomial is in normal form, so the normal form of its terms is itself (`poly_again`).
 use Rattle.nc_algebra.proofs.NormalForms.{normal_form-normal}
 use Rattle.nc_algebra.specs.Alphabets.{Alphabet, AreTextWords, IsLetterIn, IsTextPolynomial, IsTextWord}
 use Rattle.nc_algebra.specs.Polynomials.{AreResidues, IsDescending, Polynomial, normal_form, with_term}

@@ -1,4 +1,6 @@
 -- What is printed behind a keyword is read again.
+-- One lemma for each: `field_again`, `letters_again`, `weights_again`, `generator_again`,
+-- `mono_again`, `term_row_again`, `part_again`.
 use Rattle.nc_algebra.specs.Alphabets.{Alphabet, IsTextWord, IsWeight, is_name}
 use Rattle.nc_algebra.specs.Certificates.{Factor, IsFactor, Part, part_reach, term_part}
 use Rattle.nc_algebra.specs.Elements.{Setting}

@@ -1,4 +1,6 @@
 -- The lines of a setting that are printed are read again.
+-- The lines are taken in their order (`setting_again`). Where all weights are 1 no line `weights`
+-- is printed and none comes next, so the reader takes them to be 1 (`ones`, `ones_again`).
 use Rattle.nc_algebra.specs.Alphabets.{Alphabet, IsTextGenerator, IsTextPolynomial, IsWeight, is_name}
 use Rattle.nc_algebra.specs.Polynomials.{Polynomial}
 use Rattle.nc_algebra.specs.Settings.{IsSetting, NamedSetting}

@@ -1,4 +1,6 @@
 -- How many tokens a word and a term leave, where they tell no fault.
+-- Each takes at least one (`factor_shorter`, `term_shorter`), so the budgets of the definitions do
+-- not run out.
 use Rattle.nc_algebra.specs.Alphabets.{Alphabet, letter_at}
 use Rattle.nc_algebra.specs.Sums.{Term}
 use Rattle.nc_algebra.specs.Words.{Word}

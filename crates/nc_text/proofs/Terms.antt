@@ -1,4 +1,6 @@
 -- Lines `term`, and the certificate that is read.
+-- The lines are read by the lemmas of `Repeated.antt` in `nc_tokens` (`are_lines`). What is read
+-- keeps the rule of certificates (`is_certificate`).
 use Rattle.nc_algebra.specs.Alphabets.{Alphabet}
 use Rattle.nc_algebra.specs.Certificates as certificates
 use Rattle.nc_algebra.specs.Certificates.{Certificate, IsCertificate, IsTextCertificate, Part}

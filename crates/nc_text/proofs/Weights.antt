@@ -1,4 +1,6 @@
 -- Reading weights one after the other, as a loop does.
+-- There is one for each letter. `IsOnTheWay` is the invariant, with the weights so far and how many
+-- are still to come.
 use Rattle.nc_text.specs.Rows.{weight_at, weights_at}
 use Rattle.nc_tokens.proofs.Takes.{bind_fails}
 use Rattle.nc_tokens.specs.Gives.{Fails}

@@ -1,4 +1,5 @@
 -- A word read by patterns is one read factor after factor.
+-- Case by case, by induction on the number of tokens; the law `same_words`.
 use Rattle.nc_algebra.specs.Alphabets.{Alphabet, letter_at}
 use Rattle.nc_algebra.specs.Words.{Word}
 use Rattle.nc_tokens.specs.declared.fault.Kind.{Kind}

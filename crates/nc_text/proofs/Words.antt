@@ -1,4 +1,7 @@
 -- Reading a word factor after factor, as a loop does.
+-- `IsOnTheWay` is the invariant: reading on from here, behind the word so far, gives the whole. The
+-- definition recurs on a budget of factors, which starts with the number of tokens; a factor takes
+-- a token, so it never runs out.
 use Rattle.nc_algebra.specs.Alphabets.{Alphabet}
 use Rattle.std.proofs.Common.{◌≡◌, ℕ, zero, suc, ◌≤◌, true, false, List, [], ◌∷◌, length, Result, Ok, refl, sym, ap, subst, ◌∙◌, arith}
 use Rattle.nc_tokens.specs.declared.fault.Kind.{Kind}

@@ -1,4 +1,7 @@
 -- A reduction hands the label on.
+-- `Carries`: an element has signature τ with coefficient 1, and evaluates to the polynomial that is
+-- left, plus what was kept. A step subtracts a multiple with a lesser signature from both
+-- (`subtracted`); keeping a term leaves the element as it is.
 use Rattle.nc_algebra.proofs.Elements.{HasGenerator, element_times_leads, evaluation-minus, evaluation_times, in_minus, in_times, leads_minus}
 use Rattle.nc_algebra.proofs.Monomials.{monomial_laws}
 use Rattle.nc_algebra.proofs.Sums.{coefficient-minus, zero_mul_left, zero_number}

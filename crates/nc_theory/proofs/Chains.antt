@@ -1,4 +1,8 @@
 -- Chains to zero: they pass to equal polynomials, and to a polynomial plus a multiple of an entry.
+-- Let f be h plus c times a multiple with leading word w. A chain for h gives one for f, or a
+-- regular divisor of w (`chain`): steps above w are shared, and where h has nothing from w on,
+-- subtracting the multiple from f leaves h (`strike`). If f is zero, then h begins at w
+-- (`vanishing`).
 use Rattle.nc_algebra.proofs.Elements.{polynomial_times_coefficient, polynomial_times_leads}
 use Rattle.nc_algebra.proofs.Monomials.{monomial_laws}
 use Rattle.nc_algebra.proofs.Sums.{coefficient-minus, domain, zero_add, zero_mul_left, zero_number, zero_rest}

@@ -1,4 +1,9 @@
--- The procedure keeps labels, and is closed below the least candidate left.
+-- A run keeps labels, and is closed below the least candidate that is left.
+-- `Invariant` is what holds of each state. What covers a signature, or gives a multiple, stays
+-- (`covered_after`, `multiple_after`), and all candidates before τ were handled, so each outcome
+-- cares for τ alone: `step_covered`, `step_settled`, `step_syzygy`, `step_entry`. `low_old` and
+-- `high_old` say that ambiguities with a new entry come later. At the end of the file stands what a
+-- run gives by the closure theorem.
 use Rattle.nc_algebra.proofs.Elements.{HasGenerator, element_times_coefficient, element_times_leads, evaluation_times, in_times}
 use Rattle.nc_algebra.proofs.Leading.{lead_leads}
 use Rattle.nc_algebra.proofs.Monomials.{degree-times, monomial_laws, sig_down}

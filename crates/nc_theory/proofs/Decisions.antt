@@ -1,4 +1,7 @@
--- What a signature's handling asks can be decided.
+-- What the handling of a signature asks can be decided.
+-- Whether a monomial divides another (`divides_dec`), a word has a regular divisor (`regular_dec`),
+-- a signature is covered (`covered_dec`). The best multiple is found entry after entry
+-- (`best_exists`).
 use Rattle.nc_algebra.proofs.Monomials.{monomial_laws, times-times}
 use Rattle.nc_algebra.proofs.Orders.{Decided, least, nat_order}
 use Rattle.nc_algebra.proofs.Sums.{key_dec}

@@ -1,4 +1,9 @@
--- Every play of events leaves the desk at a state of the run, and its counts add up.
+-- After each list of events the desk is at a state of the run, and its counts add up.
+-- Claims, works that come in and tickets that are given back leave the state as it is; a commit is
+-- a step of the run (`advance_runs`). Counts: a claim adds one node (`insert_counts`), a work none
+-- (`work_counts`). A commit takes out one, since the node was found in the window (`found`,
+-- `remove_counts`). So does a ticket that is given back: its generation is odd, hence not the 0 of
+-- a free index (`generation_counts`).
 use Rattle.nc_algebra.proofs.Orders.{nat_order}
 use Rattle.nc_algebra.specs.Lists.{Among}
 use Rattle.nc_algebra.specs.Elements.{generator_weight}

@@ -1,4 +1,7 @@
 -- A reduction has one value, a signature one outcome, and a run one state at each number.
+-- `reduction_unique` speaks of equal polynomials, whose lists may differ: the chosen divisor is
+-- unique (`chosen_same`), its coefficient is a residue that is determined by a product
+-- (`residue_same`), and what is left of both is equal again.
 use Rattle.nc_algebra.proofs.Leading.{lead_leads}
 use Rattle.nc_algebra.proofs.Monomials.{monomial_laws}
 use Rattle.nc_algebra.proofs.Sums.{lead_unique}

@@ -1,4 +1,10 @@
--- Each signature has an outcome, and each run an end.
+-- Each signature has an outcome, and each run one end.
+-- A candidate is some `1 [i] 1` or has a multiple (`source`), so it has an outcome
+-- (`handles_exists`). To find the least that waits, the ambiguities of two entries are listed by
+-- how far one leading word begins behind the other (`pair`): either side may be the one in front,
+-- and the other one ends within it or goes past it. None is missing (`in_pair`, `in_all`); `pick`
+-- takes the least. Of two ends with different numbers of steps the longer run passed through the
+-- state of the shorter one (`passes`), so that was no end.
 use Rattle.nc_algebra.proofs.Elements.{generator_dec}
 use Rattle.nc_algebra.proofs.Monomials.{monomial_laws}
 use Rattle.nc_algebra.proofs.Orders.{Decided, nat_order}

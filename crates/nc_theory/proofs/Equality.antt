@@ -1,4 +1,6 @@
 -- Equality of outcomes and of problems with names can be decided.
+-- A desk compares the problem of a work with its own, and the outcome with what handling gives.
+-- Records are equal if their parts are.
 use Rattle.nc_algebra.proofs.Monomials.{monomial_laws}
 use Rattle.nc_algebra.proofs.Orders.{Decided}
 use Rattle.nc_algebra.proofs.Sums.{key_dec}

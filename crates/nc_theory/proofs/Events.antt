@@ -1,4 +1,7 @@
 -- Each event has a result, so each list of events has a play.
+-- What an event asks can be decided. The least waiting signature that is not handed out is found in
+-- the list of candidates (`first_with`). An advance ends, since each commit takes a node out of the
+-- window (`advances_within`).
 use Rattle.nc_algebra.proofs.Orders.{Decided, nat_order}
 use Rattle.nc_algebra.specs.Elements.{IsLess, generator_weight}
 use Rattle.nc_algebra.specs.Monomials.{Monomial}

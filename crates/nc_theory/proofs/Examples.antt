@@ -1,4 +1,6 @@
 -- The definitions compute on small inputs, and hold of small examples.
+-- Among them: a leading word that overlaps itself, the leftmost of two places, a trivial syzygy,
+-- and a constant whose empty leading word stands within another word.
 use Rattle.nc_algebra.proofs.Words.{lighter_less}
 use Rattle.nc_algebra.specs.Elements.{Setting, evaluation, generator}
 use Rattle.nc_algebra.specs.Monomials.{unit_monomial}

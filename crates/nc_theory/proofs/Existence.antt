@@ -1,4 +1,7 @@
 -- Each polynomial has a reduction.
+-- The chosen divisor is found by search, through the numbers of entries (`number_dec`) and the
+-- places in the word (`place_dec`). Then `reduce_below` is an induction on a word w such that all
+-- words of the polynomial are less than w.
 use Rattle.nc_algebra.proofs.Leading.{lead_leads}
 use Rattle.nc_algebra.proofs.Orders.{Decided, least, nat_order}
 use Rattle.nc_algebra.proofs.Sums.{top}

@@ -1,4 +1,6 @@
 -- An earlier state of a run is the front of a later one, and the stale law over runs.
+-- A run passes through a state at each number (`earlier`), and by uniqueness this is the earlier
+-- one (`extends`).
 use Rattle.nc_algebra.proofs.Orders.{nat_order}
 use Rattle.nc_algebra.specs.Elements.{IsZeroPolynomial}
 use Rattle.nc_algebra.specs.Monomials.{Monomial}

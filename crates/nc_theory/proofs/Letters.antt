@@ -1,4 +1,8 @@
--- The traces and the labels of a run are over the letters of its generators: each of their words is a part of a word over them.
+-- The traces and labels of a run are over the letters of its generators.
+-- A trace names multiples that stand in words over the letters, so the words around the entries are
+-- over them (`rebuilt_over`, by `steps_over`). So are the labels that traces give, entry after
+-- entry (`keys_onto`), and what is subtracted from a polynomial over the letters
+-- (`subtracted_over`, `multiples_over`).
 use Rattle.nc_algebra.proofs.Finite.{over-append, over_back, over_front}
 use Rattle.nc_algebra.proofs.Monomials.{monomial_laws}
 use Rattle.nc_algebra.proofs.Sums.{at_other, key_dec, zero_number}

@@ -1,4 +1,8 @@
--- What is reached at a signature weighs at most its degree.
+-- What is reached at a signature weighs at most the signature's degree.
+-- A multiple of an entry is labelled by the multiple of its label, so its words are limited by its
+-- signature (`multiples_limited`). A generator's words weigh at most as much as its leading word
+-- (`generator_limited`). A difference has no words but those of its two parts, so steps and kept
+-- terms are limited too (`keeps_limited`).
 use Rattle.nc_algebra.proofs.Degrees.{degrees, labelled_limited}
 use Rattle.nc_algebra.proofs.Elements.{element_times_coefficient, element_times_leads, evaluation_times, in_times}
 use Rattle.nc_algebra.proofs.Leading.{lead_leads}

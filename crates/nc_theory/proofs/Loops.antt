@@ -1,4 +1,6 @@
--- The steps of a loop that reduces.
+-- One turn of a loop that reduces, as a step of `ReducedTo`.
+-- The loop subtracts (`reduced_subtract`) or keeps (`reduced_keep`), and each time the leading word
+-- falls (`lead_falls`).
 use Rattle.nc_algebra.proofs.Words.{word_total}
 use Rattle.nc_algebra.specs.Elements.{IsLeadingWord, IsZeroPolynomial, Setting}
 use Rattle.nc_algebra.specs.Monomials.{Monomial}

@@ -1,4 +1,5 @@
 -- A property of all words of a polynomial is kept by sums and multiples.
+-- For example: all words are over some letters, or weigh at most some number.
 use Rattle.nc_algebra.proofs.Orders.{Decided}
 use Rattle.nc_algebra.proofs.Sums.{at_other, key_dec, linear_sum-map_keys, linear_sum_zero, zero_add, zero_dec, zero_mul_left, zero_number}
 use Rattle.nc_algebra.proofs.Words.{word_laws}

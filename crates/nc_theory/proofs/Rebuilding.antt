@@ -1,4 +1,10 @@
--- Entries with a signature of at least τ do not matter at τ, and each listed item is rebuilt from those before it.
+-- Entries with a signature of at least τ do not matter at τ, and each item is rebuilt from the
+-- entries before it.
+-- A multiple has at least the signature of its entry (`from_not_below`). So the places that count
+-- at τ are the same in the list and in its front, under the same numbers (`in_all`, `in_first`),
+-- and so are reductions (`reduction_front`). `Rebuilt` is the invariant of the run; it says also
+-- that entries and syzygies ascend. A list is split into lesser entries and others in one way
+-- (`split_once`), so what is rebuilt is unique.
 use Rattle.nc_algebra.proofs.Monomials.{monomial_laws}
 use Rattle.nc_algebra.specs.Elements.{IsLess, IsZeroPolynomial, Setting, generator_weight}
 use Rattle.nc_algebra.specs.Monomials.{Monomial, times}

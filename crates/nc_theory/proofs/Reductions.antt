@@ -1,4 +1,8 @@
--- What a reduction keeps, and that it keeps the label.
+-- What a reduction keeps.
+-- Each step takes the greatest word off whole (`take_off`). On it rest `kept_up` (nothing is kept
+-- on a set of words that is closed upwards and on which the polynomial is zero), `kept_clear` (no
+-- kept word has a divisor in the set), `kept_leads` (the first kept term leads) and `kept_less`
+-- (all kept words are less than a leading word with a divisor in the set).
 use Rattle.nc_algebra.proofs.Elements.{polynomial_times_coefficient, polynomial_times_leads}
 use Rattle.nc_algebra.proofs.Leading.{lead_leads}
 use Rattle.nc_algebra.proofs.Sums.{at_other, at_self, key_dec, lead_unique, zero_add, zero_from_same, zero_mul_left, zero_number, zero_rest}

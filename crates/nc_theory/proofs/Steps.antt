@@ -1,4 +1,8 @@
 -- A run over finitely many letters has at most as many steps as its bound has monomials.
+-- The words around the sides of an ambiguity are empty or parts of leading words (`ambiguity_left`,
+-- `ambiguity_right`), so all of a run is over the letters of its generators (`run_over`), and each
+-- candidate is in the list (`candidate_listed`). With each step at least one more monomial of the
+-- list is at most the last signature (`one_more`).
 use Rattle.nc_algebra.proofs.Finite.{at_most_length, how_many, in_within, over-append, over_back, over_dec, over_front, strictly_fewer}
 use Rattle.nc_algebra.proofs.Leading.{lead_leads}
 use Rattle.nc_algebra.proofs.Monomials.{monomial_irrefl, monomial_laws, monomial_trans, monomials_compare}

@@ -1,4 +1,8 @@
 -- The label that a trace gives is a label.
+-- As in `Carrying.antt`, with the list of labels in hand (`carry_start`, `carry_steps`). The list
+-- grows at its end (`labels_push`), and a trace names only entries that were there (`start_names`,
+-- `reduction_names`), so what it reads does not change (`trace_kept`). `LabelInvariant` is the
+-- invariant of the run.
 use Rattle.nc_algebra.proofs.Elements.{HasGenerator, element_times_coefficient, element_times_leads, evaluation_times, in_times}
 use Rattle.nc_algebra.proofs.Sums.{zero_number}
 use Rattle.nc_algebra.specs.Elements.{Element, IsLabelled, IsSignatureOf, Setting, element_times, generator}

@@ -1,4 +1,9 @@
--- What holds of a desk's window is kept by each event.
+-- What holds of the window of a desk is kept by each event.
+-- A claim puts its node in its place by signature, under an index that was free and the number of a
+-- new claim. A signature that is committed was the next one, so all others in the window still
+-- wait. The claim that takes the last free index takes the least signature that is not handed out;
+-- so where there is room for one at least and no index is free, the next signature is in the window
+-- (`full`). All other events free an index or leave the signatures as they are.
 use Rattle.nc_algebra.proofs.Finite.{among_contains, contains_among}
 use Rattle.nc_algebra.proofs.Monomials.{monomial_laws, monomials_compare}
 use Rattle.nc_algebra.proofs.Orders.{Decided, less_from_compare, less_from_test, compare_less}

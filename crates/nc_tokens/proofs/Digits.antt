@@ -1,4 +1,5 @@
 -- The digits of printed numbers.
+-- A number up to 4,000,000,000 has at most 18 digits, and their value is the number (`decimal_is`).
 use Rattle.std.proofs.Common.{List, arith, decimal, length, refl, true, ℕ, ◌<◌, ◌∷◌, ◌≡◌, ◌≤◌, []}
 use Rattle.std.proofs.lemmas.Bool.{and_from, and_parts}
 use Rattle.std.proofs.lemmas.Fmt.{decimal_is_IsNumeral, decimal_nonempty, digits_decimal, length-decimal-le}

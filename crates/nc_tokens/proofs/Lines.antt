@@ -1,4 +1,7 @@
 -- How a text is cut into lines.
+-- The code looks for the next line feed. The text is then the bytes before it as one line, and the
+-- lines of what follows (`line_split`). `passed` is a blank line, `comes` another one, `over` the
+-- end.
 use Rattle.std.proofs.Common.{◌≡◌, ℕ, suc, ◌-◌, ◌+◌, ◌<◌, Bool, true, false, cond, not, eqb, List, [], ◌∷◌, length, take, drop, refl, sym, ap, ◌∙◌, arith}
 use Rattle.std.specs.List.{prefix_len, list_all}
 use Rattle.std.proofs.lemmas.Bool.{eqb-true}

@@ -1,4 +1,7 @@
 -- How a line is cut into pieces.
+-- The definition grows pieces byte by byte; the code counts how many bytes belong together.
+-- `skip_blanks` and `piece_goes` relate the two. The four cases of the next token are `token_none`,
+-- `token_digits`, `token_name` and `token_sign`.
 use Rattle.std.proofs.Common.{◌≡◌, ℕ, suc, get_or, ◌-◌, ◌+◌, ◌<◌, ◌≤◌, Bool, true, false, cond, List, [], ◌∷◌, ◌++◌, length, map, take, drop, refl, sym, ap, subst, ◌∙◌, append_assoc, arith}
 use Rattle.std.specs.List.{prefix_len}
 use Rattle.std.proofs.lemmas.List.{append-nil, take_all}

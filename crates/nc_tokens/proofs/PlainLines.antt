@@ -1,4 +1,6 @@
 -- Lines of printable bytes without a comment.
+-- Such a line says its own tokens (`written_line`): nothing of it is a line feed, a carriage return
+-- or a comment.
 use Rattle.nc_tokens.proofs.PlainBytes.{ArePlain, all_weaker, is_plain, plain_facts}
 use Rattle.nc_tokens.specs.Lines.{Line, content, is_allowed, with_byte, lines, without_return, written}
 use Rattle.nc_tokens.specs.Tokens.{is_blank, tokens}

@@ -1,4 +1,6 @@
 -- The tokens of printed pieces, before any bytes that end them.
+-- A printed name or number is one token before a byte that does not go on with it (`name_token`,
+-- `literal_token`).
 use Rattle.nc_algebra.specs.Alphabets.{is_name, is_name_byte}
 use Rattle.nc_tokens.proofs.Digits.{AreDigitsOf}
 use Rattle.nc_tokens.proofs.Pieces.{counted_piece, nothing_goes, one_piece}

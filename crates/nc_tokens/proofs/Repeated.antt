@@ -1,4 +1,7 @@
 -- Reading lines with one keyword, one after the other, as a loop does.
+-- `AreLines` says what such lines are, and `IsOnTheWay` is the invariant: the values so far, and
+-- what is read of the lines that follow, are the whole. `begin`, `goes_on`, `fails` and `ends` are
+-- the lemmas of the loop.
 use Rattle.nc_tokens.specs.Gives.{FailsText}
 use Rattle.nc_tokens.specs.Lines.{End, Line, Row, Written, a_line, at_line, begins, behind, row, lines_left}
 use Rattle.nc_tokens.specs.Wanted.{◌>>=◌}

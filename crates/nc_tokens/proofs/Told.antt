@@ -1,4 +1,6 @@
 -- What is returned of a line is told of the text.
+-- `at_gives` passes from what is read of a line to what is read of the text: the same value, or the
+-- same fault with the number of the line.
 use Rattle.nc_tokens.specs.Gives.{Gives, GivesText, IsAt}
 use Rattle.nc_tokens.specs.Lines.{at_line}
 use Rattle.nc_tokens.specs.declared.fault.Kind.{Kind}

@@ -1,4 +1,8 @@
 -- The answers of commands by the bytes of their inputs.
+-- A run takes at most one byte more than a text may have. Where there are more bytes, those that it
+-- took are too many as well, so their answer is that of all bytes (`same_answer`). Where no failure
+-- was counted, no fault can end the run (`not_risen`). With as many steps as the bound has
+-- monomials each end is complete (`complete_end`).
 use Rattle.nc_algebra.specs.Finite.{monomials_within}
 use Rattle.nc_algebra.specs.Polynomials.{Polynomial}
 use Rattle.nc_algebra.specs.Problems.{IsProblem, IsWithin, NamedProblem}

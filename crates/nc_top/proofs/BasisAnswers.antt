@@ -1,4 +1,8 @@
 -- The answer of `basis` by its bytes.
+-- It comes from too many bytes, from a fault, from the end of a run, or from a label with too many
+-- terms (`Known`), and two answers to the same bytes come from the same (`both_known`). That all
+-- labels are within the limit and that one is not exclude each other (`not_both`). `basis_from`
+-- states what the theorems on runs give at an end.
 use Rattle.nc_algebra.proofs.Orders.{Decided}
 use Rattle.nc_algebra.proofs.Primes.{field_from_prime}
 use Rattle.nc_algebra.specs.Elements.{Element, Setting}

@@ -1,4 +1,7 @@
 -- The answer of `check` by its bytes.
+-- Status and report are functions of the bytes (`told_by_functions`, with a lemma for each status:
+-- `done_told`, `invalid_told`, `bad_text_told`, `many_told`, `much_told`). The other way, what the
+-- functions tell is an answer (`by_rest`, `by_work`, `by_text`, `by_size`).
 use Rattle.nc_algebra.specs.Certificates.{Certificate, rest_of}
 use Rattle.nc_algebra.specs.Polynomials.{Polynomial}
 use Rattle.nc_text.proofs.ReadCertificates.{reads_certificates}

@@ -1,4 +1,6 @@
 -- The answer of a run that came to its end.
+-- The labels that were made are those of the items (`among`), so the report of the body is that of
+-- the run (`answer_at`, `many_at`).
 use Rattle.nc_algebra.specs.Elements.{Setting}
 use Rattle.nc_algebra.specs.Monomials.{Sig}
 use Rattle.nc_algebra.specs.Problems.{NamedProblem}

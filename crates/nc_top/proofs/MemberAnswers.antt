@@ -1,4 +1,8 @@
 -- The answer of `member` by its bytes.
+-- The bytes determine the run, what is left of the claim and what was subtracted
+-- (`same_remainders`), and each claim has such a remainder (`remainder_exists`). `Told` is what is
+-- told of it: a certificate in one of two forms, a label with too many terms, no representation, or
+-- steps that did not suffice.
 use Rattle.nc_algebra.proofs.Orders.{Decided}
 use Rattle.nc_algebra.specs.Certificates.{Line}
 use Rattle.nc_algebra.specs.Lists.{Among}

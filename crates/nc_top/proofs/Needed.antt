@@ -1,4 +1,6 @@
--- The entries that steps need: which ones they are can be decided, and as a list they are one.
+-- The entries that steps need: which ones they are can be decided, and there is one list of them.
+-- `needed_dec` decides, `needed_list` makes the list with the traces, and `needed_once` says that
+-- there is one: numbers that ascend are known by their members (`rises_once`).
 use Rattle.nc_algebra.proofs.Finite.{among_contains, contains_among}
 use Rattle.nc_algebra.proofs.Orders.{Decided, least, nat_order}
 use Rattle.nc_algebra.specs.Lists.{Among}

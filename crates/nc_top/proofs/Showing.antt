@@ -1,4 +1,7 @@
 -- What is written behind the items of a run.
+-- A snapshot stands for one run (`one_run`), whose items differ from its own in traces alone, which
+-- the line of an item does not show (`entry_alike`, `counts_same`). A trace that was made again is
+-- the run's (`trace_line`), and letters have names (`trace_named`, `label_left`).
 use Rattle.nc_algebra.specs.Alphabets.{IsWordIn}
 use Rattle.nc_algebra.specs.Elements.{Element}
 use Rattle.nc_algebra.specs.Monomials.{Sig}

@@ -1,4 +1,6 @@
--- Which label has too many terms for a representation: there is a first one, or none, and one alone.
+-- Which label has too many terms for a representation.
+-- There is a first one, or none (`first_or_within`), not both (`never_both`), and one alone
+-- (`too_many_once`).
 use Rattle.nc_algebra.proofs.Orders.{Decided, least, nat_order}
 use Rattle.nc_algebra.specs.Elements.{Element, Setting}
 use Rattle.nc_cofactor.proofs.Existence.{terms_exist}
