@@ -229,7 +229,3 @@ normal_form-normal p f some n = sym (normal_form_only p f f some n (same-refl sa
 -- equal polynomials have one normal form
 pub normal_form_equal : (p : ℕ) (f g : Polynomial) → 0 < p → SameSum same_word p f g → normal_form p f ≡ normal_form p g
 normal_form_equal p f g some e = normal_form_only p g (normal_form p f) some (normal_form_normal p f some) (same-trans same_word p (normal_form p f) f g (normal_form_same p f) e)
-
--- polynomials with one normal form are equal
-pub same_from_normal_form : (p : ℕ) (f g : Polynomial) → normal_form p f ≡ normal_form p g → SameSum same_word p f g
-same_from_normal_form p f g e = record { at = λ x. sym (normal_form_at p f x) ∙ (ap (λ h. coefficient h x % p) e ∙ normal_form_at p g x) }

@@ -26,11 +26,7 @@ module _ (s : Setting) where
   length-values_after values [] = omega arith
   length-values_after values (line ∷ lines) = omega (arith, length-values_after (values ++ line_value s values line ∷ []) lines, length_push values (line_value s values line))
 
-  pub length-reaches_after : (reaches : List ℕ) (lines : List Line) → length (reaches_after s reaches lines) ≡ length reaches + length lines
   unfolding reaches_after
-  length-reaches_after reaches [] = omega arith
-  length-reaches_after reaches (line ∷ lines) = omega (arith, length-reaches_after (reaches ++ line_reach s reaches line ∷ []) lines, length_push reaches (line_reach s reaches line))
-
   -- the value of the last line, over those before it
   pub last_value : (lines : List Line) (line : Line) → lines_value s (lines ++ line ∷ []) ≡ line_value s (values_of s lines) line
   last_value lines line =

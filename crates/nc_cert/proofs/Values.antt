@@ -10,8 +10,8 @@ use Rattle.nc_cert.proofs.Fits.{lines_fit}
 use Rattle.nc_cert.proofs.Lines.{line_behind, lines_before, reaches_after, values_after-push}
 use Rattle.nc_cert.proofs.Readiness.{above_one, line_ready, same_line}
 use Rattle.nc_cert.specs.Ready.{IsReady}
-use Rattle.std.proofs.Common.{List, [], ap, arith, drop, get_or, length, map, subst, suc, sym, take, ℕ, ◌%◌, ◌+◌, ◌++◌, ◌-◌, ◌<◌, ◌∙◌, ◌∷◌, ◌≡◌, ◌≤◌}
-use Rattle.std.proofs.lemmas.List.{map-append, take-append-drop, take_all, take_more}
+use Rattle.std.proofs.Common.{List, [], ap, arith, drop, get_or, length, map, subst, suc, sym, take, ℕ, ◌%◌, ◌+◌, ◌++◌, ◌-◌, ◌<◌, ◌∙◌, ◌∷◌, ◌≡◌}
+use Rattle.std.proofs.lemmas.List.{map-append, take-append-drop, take_more}
 use Rattle.std.proofs.Math.Seq.{drop-cons}
 use Rattle.std.specs.List.{All}
 use Rattle.nc_cert.proofs.Differences.{negative_back}
@@ -48,6 +48,3 @@ module _ (s : NamedSetting) (is : IsSetting s) where
       ap (λ (f : Polynomial). normals (take i lines) ++ f ∷ []) (e ∙ value_behind (take i lines) line)
       ∙ (sym (map-append (normal_form s.setting.prime) (values_of s.setting (take i lines)) (line_value s.setting (values_of s.setting (take i lines)) line ∷ []))
       ∙ ap (map (normal_form s.setting.prime)) (sym (values_after-push s.setting [] (take i lines) line) ∙ ap (values_of s.setting) (sym (take_more lines i line within ∙ ap (λ (l : Line). take i lines ++ l ∷ []) (sym at)))))
-
-  pub values_end : (lines : List Line) (i : ℕ) (values : List Polynomial) → length lines ≤ i → values ≡ normals (take i lines) → values ≡ normals lines
-  values_end lines i values long e = e ∙ ap normals (take_all i lines long)

@@ -4,7 +4,7 @@ use Rattle.std.specs.Result.{OnErr, OnOk}
 use Rattle.std.proofs.lemmas.Bool.{cases_lt}
 use Rattle.std.specs.List.{flat_map}
 use Rattle.std.proofs.lemmas.List.{append-nil, get_or_read}
-use Rattle.std.proofs.lemmas.List.Concat.{flat_map-append, get_or-flat_map}
+use Rattle.std.proofs.lemmas.List.Concat.{get_or-flat_map}
 use Rattle.nc_chunks.specs.Chunking.{HasRoom, IsChunked}
 
 -- the chunks before the one with this number are full
@@ -80,10 +80,6 @@ chunked-push f (x ∷ []) y s full none = go (cases_lt (length (f x)) 256)
     go (inr more) = (omega arith, omega (arith, ap length none))
 chunked-push f (x ∷ z ∷ zs) y s full none =
     chunked-cons f x ((z ∷ zs) ++ y ∷ []) s.0 (chunked-push f (z ∷ zs) y s.1 (λ r. full (record { some = omega arith; room = λ i e last. room-cons f x (z ∷ zs) r i e last })) none)
-
-pub flat_map-push_nil : {X T : Type 0} (f : X → List T) (xs : List X) (y : X) → f y ≡ [] → flat_map f (xs ++ y ∷ []) ≡ flat_map f xs
-flat_map-push_nil f xs y none =
-    flat_map-append f xs (y ∷ []) ∙ ap (λ l. flat_map f xs ++ l) (append-nil (f y) ∙ none) ∙ append-nil (flat_map f xs)
 
 -- an item behind the last one, or none
 pub record Pushed {X T A E : Type 0} (f : X → List T) (xs ys : List X) (item : T) (r : Result A E) : Type 0 where

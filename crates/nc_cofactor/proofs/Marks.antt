@@ -1,50 +1,13 @@
 -- Marks of the entries that numbers, steps and traces name.
-use Rattle.nc_cofactor.specs.Needed.{IsMarked, MarksMore, StepsName}
-use Rattle.nc_cofactor.specs.Terms.{Names, StartNames}
+use Rattle.nc_cofactor.specs.Needed.{IsMarked, MarksMore}
+use Rattle.nc_cofactor.specs.Terms.{Names}
 use Rattle.nc_theory.specs.States.{Step, Trace}
-use Rattle.std.proofs.Common.{Bool, Contains, List, Some, [], ap, arith, false, get_or, inl, inr, length, length-set, refl, set, subst, sym, take, true, ℕ, ◌+◌, ◌++◌, ◌-◌, ◌<◌, ◌∙◌, ◌∷◌, ◌≡◌, ◌≢◌, ◌≤◌, ◌↔◌, ◌⊎◌}
+use Rattle.std.proofs.Common.{Bool, Contains, List, [], ap, arith, false, get_or, inl, inr, length, refl, subst, sym, take, true, ℕ, ◌+◌, ◌++◌, ◌-◌, ◌<◌, ◌∙◌, ◌∷◌, ◌≡◌, ◌≢◌, ◌≤◌, ◌↔◌, ◌⊎◌}
 use Rattle.std.proofs.lemmas.Bool.{false≢true}
-use Rattle.std.proofs.lemmas.List.{get_or-set_other, get_or-set_same, take_all, take_more}
+use Rattle.std.proofs.lemmas.List.{take_all, take_more}
 use Rattle.std.proofs.lemmas.List.Elements.{Contains-append_left, Contains-get_or, Contains-push, Contains-push_cases}
-use Rattle.std.proofs.lemmas.Option.{get_or_from_slice_get, slice_get_read, slice_get_within}
-use Rattle.std.specs.List.{All, slice_get}
-
-module _ (old : List Bool) (i : ℕ) (within : i < length old) where
-  mark_there : slice_get (set old i true) i ≡ Some true
-  mark_there = slice_get_read (set old i true) (length old) i true (sym (length-set old i true)) within (sym (get_or-set_same old i true true within))
-
-  -- the other places
-  mark_kept : (k : ℕ) → k ≢ i → slice_get old k ≡ Some true → slice_get (set old i true) k ≡ Some true
-  mark_kept k n at = slice_get_read (set old i true) (length old) k true (sym (length-set old i true)) (slice_get_within old k true at) (sym (get_or-set_other old i k true true n ∙ get_or_from_slice_get old k true true at))
-
-  mark_old : (k : ℕ) → k ≢ i → slice_get (set old i true) k ≡ Some true → slice_get old k ≡ Some true
-  mark_old k n at =
-      let there : k < length old = omega (arith, slice_get_within (set old i true) k true at, length-set old i true) in
-      slice_get_read old (length old) k true refl there (sym (sym (get_or-set_other old i k true true n) ∙ get_or_from_slice_get (set old i true) k true true at))
-
-number_dec : (a b : ℕ) → (a ≡ b) ⊎ (a ≢ b)
-number_dec a b = grind arith
-
-pub set_marks : (old new : List Bool) (number : ℕ) → 1 ≤ number → number ≤ length old → new ≡ set old (number - 1) true → MarksMore old new (λ j. number ≡ j)
-set_marks old new number some within is j one = (forth (number_dec number j), back (number_dec number j))
-  where
-    low : number - 1 < length old
-    low = omega arith
-
-    apart : number ≢ j → j - 1 ≢ number - 1
-    apart n e = n (omega (arith, e))
-
-    forth : (number ≡ j) ⊎ (number ≢ j) → IsMarked new j → IsMarked old j ⊎ (number ≡ j)
-    forth (inl e) m = inr e
-    forth (inr n) m = inl (mark_old old (number - 1) low (j - 1) (apart n) (subst (λ (l : List Bool). slice_get l (j - 1) ≡ Some true) is m))
-
-    set_there : number ≡ j → IsMarked new j
-    set_there e = subst (λ (l : List Bool). slice_get l (j - 1) ≡ Some true) (sym is) (subst (λ k. slice_get (set old (number - 1) true) (k - 1) ≡ Some true) e (mark_there old (number - 1) low))
-
-    back : (number ≡ j) ⊎ (number ≢ j) → IsMarked old j ⊎ (number ≡ j) → IsMarked new j
-    back (inl e) k = set_there e
-    back (inr n) (inl m) = subst (λ (l : List Bool). slice_get l (j - 1) ≡ Some true) (sym is) (mark_kept old (number - 1) low (j - 1) (apart n) m)
-    back (inr n) (inr e) = set_there e
+use Rattle.std.proofs.lemmas.Option.{get_or_from_slice_get, slice_get_within}
+use Rattle.std.specs.List.{All}
 
 -- ---- the loop over numbers, and over steps
 
@@ -109,21 +72,6 @@ only_marked old new named none more j one = (λ m. elim ((more j one).0 m) [ inl
     unmarked m = false≢true (sym (none (j - 1) true (slice_get_within old (j - 1) true m)) ∙ get_or_from_slice_get old (j - 1) true true m)
 
 -- ---- a trace
-
-pub trace_marks : (old mid new : List Bool) (t : Trace) → MarksMore old mid (StartNames t.start) → MarksMore mid new (StepsName t.steps) → MarksMore old new (Names t)
-trace_marks old mid new t starts steps j one = (forth, back)
-  where
-    forth : IsMarked new j → IsMarked old j ⊎ Names t j
-    forth m = go ((steps j one).0 m)
-      where
-        go : IsMarked mid j ⊎ StepsName t.steps j → IsMarked old j ⊎ Names t j
-        go (inl k) = elim ((starts j one).0 k) [ inl f ↦ inl f | inr n ↦ inr (inl n) ]
-        go (inr n) = inr (inr n)
-
-    back : IsMarked old j ⊎ Names t j → IsMarked new j
-    back (inl m) = (steps j one).1 (inl ((starts j one).1 (inl m)))
-    back (inr (inl n)) = (steps j one).1 (inl ((starts j one).1 (inr n)))
-    back (inr (inr n)) = (steps j one).1 (inr n)
 
 -- what a trace names, step by step
 pub steps_low : (t : Trace) (steps : List Step) (count : ℕ) → steps ≡ t.steps → ((j : ℕ) → Names t j → (1 ≤ j) × (j ≤ count)) → All (λ step. 1 ≤ step.number) steps

@@ -26,13 +26,6 @@ pub record IsNumberedTo (all stack : List (Option Trace)) (number : ℕ) (number
   pub sound : (k : ℕ) (t : Trace) → Contains numbered (k, t) → (1 ≤ k) × (k ≤ number) × (slice_get all (length all - k) ≡ Some (Some t))
   pub complete : (k : ℕ) (t : Trace) → 1 ≤ k → k ≤ number → slice_get all (length all - k) ≡ Some (Some t) → Contains numbered (k, t)
 
-pub number_begins : (all : List (Option Trace)) (number : ℕ) (numbered : List (ℕ × Trace)) → number ≡ 0 → numbered ≡ [] → IsNumberedTo all all number numbered
-number_begins all number numbered zero none = subst (IsNumberedTo all all number) (sym none) (record {
-  height = omega (arith, zero);
-  rest = λ i o at. at;
-  ascending = λ k within. absurd (omega (arith, within));
-  sound = λ k t c. absurd (omega (arith, c.1));
-  complete = λ k t some within at. absurd (omega (arith, some, within, zero));
 })
 
 module _ (all stack rest : List (Option Trace)) (o : Option Trace) (number : ℕ) (numbered : List (ℕ × Trace)) (h : IsNumberedTo all stack number numbered) (popped : stack ≡ rest ++ o ∷ []) where

@@ -49,12 +49,6 @@ module _ (P : NamedProblem) (problem : IsProblem P) (n : ℕ) where
 
   -- ---- labels one after the other
 
-  nowhere : (k : ℕ) (m : List (Term Sig)) → slice_get [] (k - 1) ≡ Some m → ⊥
-  nowhere k m at = omega (arith, slice_get_within [] (k - 1) m at)
-
-  pub none_labelled : (state : State) → IsRunOf P.problem n state → AreLabels P.problem n []
-  none_labelled state r = record { run = r.run; last = r.last; runs = r.runs; few = omega arith; are = λ k m some at. absurd (nowhere k m at) }
-
   module _ (labels : List (List (Term Sig))) (a : AreLabels P.problem n labels) where
     place : (j : ℕ) → 1 ≤ j → j ≤ length labels → (m : List (Term Sig)) × (slice_get labels (j - 1) ≡ Some m) × IsLabelOf P.problem.setting a.run (EntryOf j) m
     place j some within =
@@ -124,9 +118,6 @@ module _ (P : NamedProblem) (problem : IsProblem P) (n : ℕ) where
             omega (arith, same, few (j - 1) [] within)
 
   -- ---- syzygies one after the other
-
-  pub no_syzygy_labelled : (state : State) → IsRunOf P.problem n state → AreSyzygyLabels P.problem n []
-  no_syzygy_labelled state r = record { run = r.run; last = r.last; runs = r.runs; few = omega arith; are = λ k m some at. absurd (nowhere k m at) }
 
   module _ (labels : List (List (Term Sig))) (a : AreSyzygyLabels P.problem n labels) where
     -- the next one's, in the same run

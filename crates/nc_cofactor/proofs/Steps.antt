@@ -1,35 +1,20 @@
 -- What the code's steps do to the sum of a trace, and to a sum of multiples.
 use Rattle.nc_algebra.proofs.Lists.{same-refl}
-use Rattle.nc_algebra.specs.Elements.{Element, HasDegree, Setting, element_times, generator_weight}
-use Rattle.nc_algebra.specs.Monomials.{Sig, compare_sigs, same_monomial, unit_monomial}
+use Rattle.nc_algebra.specs.Elements.{Element, Setting, element_times}
+use Rattle.nc_algebra.specs.Monomials.{Sig, compare_sigs, same_monomial}
 use Rattle.nc_algebra.specs.Sums.{SameSum, Term, minus, scale}
-use Rattle.nc_algebra.specs.Words.{Word, word_weight}
+use Rattle.nc_algebra.specs.Words.{Word}
 use Rattle.nc_cofactor.proofs.Sums.{sum_adds, sum_begins, sum_ends, sum_steps}
 use Rattle.nc_cofactor.specs.Sums.{IsAddable, IsPlaced, IsSum, elements_of}
 use Rattle.nc_module.specs.Modules.{element_of, module_multiples, same_sig}
 use Rattle.nc_poly.specs.Ordered.{AreResiduesBy, Descends}
 use Rattle.nc_theory.specs.Labels.{label_at}
 use Rattle.nc_theory.specs.States.{Step}
-use Rattle.std.proofs.Common.{List, [], ap, arith, get_or, length, refl, subst, sym, take, ℕ, ◌%◌, ◌+◌, ◌++◌, ◌-◌, ◌<◌, ◌∙◌, ◌∷◌, ◌≡◌, ◌≤◌}
+use Rattle.std.proofs.Common.{List, [], ap, arith, get_or, length, subst, sym, take, ℕ, ◌%◌, ◌+◌, ◌++◌, ◌-◌, ◌<◌, ◌∙◌, ◌∷◌, ◌≡◌, ◌≤◌}
 use Rattle.std.proofs.Math.ListN.{get_or-map}
 use Rattle.std.proofs.lemmas.List.{take_all, take_more}
-use Rattle.std.proofs.lemmas.List.Elements.{All-from_recursion}
 
 module _ (s : Setting) where
-  -- the generator by itself
-  pub unit_sum : (i w : ℕ) (left right : Word) (at : Sig) (new : List (Term Sig)) → 1 < s.prime → left ≡ [] → right ≡ [] → w ≡ generator_weight s i → at ≡ record { degree = word_weight left + w + word_weight right; generator = i; left = left; right = right } → new ≡ record { coefficient = 1; key = at } ∷ [] → IsSum s (record { coefficient = 1; key = unit_monomial i } ∷ []) new
-  unit_sum i w left right at new one l r weight is pushed =
-      let σ : Sig = record { degree = word_weight [] + generator_weight s i + word_weight []; generator = i; left = []; right = [] } in
-      let same : at ≡ σ = is ∙ (λ x. record { degree = word_weight (l x) + weight x + word_weight (r x); generator = i; left = l x; right = r x }) in
-      let terms : List (Term Sig) = record { coefficient = 1; key = σ } ∷ [] in
-      let whole : new ≡ terms = pushed ∙ ap (λ (k : Sig). record { coefficient = 1; key = k } ∷ []) same in
-      subst (IsSum s (record { coefficient = 1; key = unit_monomial i } ∷ [])) (sym whole) (record {
-        same = same-refl same_monomial s.prime (record { coefficient = 1; key = unit_monomial i } ∷ []);
-        descends = (omega arith, tt, tt);
-        residues = All-from_recursion (λ (t : Term Sig). t.coefficient < s.prime) terms (one, tt);
-        degrees = All-from_recursion (λ (t : Term Sig). HasDegree s t.key) terms (refl, tt);
-      })
-
   module _ (labels : List (List (Term Sig))) (u : Word) (j : ℕ) (v : Word) (placed : IsPlaced s labels u j v) (m : List (Term Sig)) (is : m ≡ get_or labels (j - 1) []) where
     pub addable : IsAddable s u m v
     addable = subst (λ (l : List (Term Sig)). IsAddable s u l v) (sym is) placed.addable

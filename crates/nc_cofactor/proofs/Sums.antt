@@ -132,10 +132,6 @@ module _ (s : Setting) where
   joined_degrees [] y a b = b
   joined_degrees (t ∷ x) y a b = (a.0, joined_degrees x y a.1 b)
 
-  -- the lengths that a multiple needs
-  pub addable_light : (u : Word) (m : List (Term Sig)) (v : Word) → IsAddable s u m v → All (λ t. word_weight u + t.key.degree + word_weight v ≤ 300000) m
-  addable_light u m v h k d within = omega (arith, h.light k d within)
-
   pub addable_left : (u : Word) (m : List (Term Sig)) (v : Word) → IsAddable s u m v → All (λ t. length u + length t.key.left ≤ 200000) m
   addable_left u m v h = short (recursion_from_All (λ (t : Term Sig). HasDegree s t.key) m h.degrees) (recursion_from_All (λ (t : Term Sig). word_weight u + t.key.degree + word_weight v ≤ 100000) m h.light)
     where

@@ -1,19 +1,19 @@
 -- The best multiple among some of the entries.
 use Rattle.nc_algebra.proofs.Orders.{nat_order}
 use Rattle.nc_algebra.specs.Elements.{Setting}
-use Rattle.nc_algebra.specs.Monomials.{Divides, Monomial, monomial_of, times}
+use Rattle.nc_algebra.specs.Monomials.{Monomial, monomial_of, times}
 use Rattle.nc_algebra.specs.Words.{Word}
 use Rattle.nc_criteria.specs.Leads.{IsLeadAt}
 use Rattle.nc_criteria.specs.Multiples.{BestMultipleLaw, IsBestWithin, IsMultipleWithin}
 use Rattle.nc_criteria.specs.Searches.{IsBestBetween}
 use Rattle.nc_criteria.specs.declared.lead.Lead.{Lead}
 use Rattle.nc_criteria.specs.declared.multiple.Multiple.{Multiple}
-use Rattle.nc_search.proofs.Quotients.{IsWithNext, at_found, at_none, better_step}
+use Rattle.nc_search.proofs.Quotients.{IsWithNext, at_found, better_step}
 use Rattle.nc_search.specs.Best.{IsAt, best_of}
 use Rattle.nc_search.specs.Found.{Best}
 use Rattle.nc_theory.specs.Divisors.{Divisor, signature_at}
 use Rattle.nc_theory.specs.States.{Entry}
-use Rattle.std.proofs.Common.{List, None, Option, Some, ap, arith, drop, inl, inr, length, length-append, min, subst, sym, take, ℕ, ◌+◌, ◌++◌, ◌-◌, ◌<◌, ◌∙◌, ◌≡◌, ◌≤◌, ◌⊎◌}
+use Rattle.std.proofs.Common.{List, None, Option, Some, ap, arith, drop, inl, inr, length, length-append, min, sym, take, ℕ, ◌+◌, ◌++◌, ◌-◌, ◌<◌, ◌∙◌, ◌≡◌, ◌≤◌, ◌⊎◌}
 use Rattle.std.proofs.lemmas.List.{drop_at, take_at}
 use Rattle.std.proofs.lemmas.Option.{get_or_from_slice_get, slice_get_within}
 
@@ -23,9 +23,6 @@ module _ (s : Setting) (entries : List Entry) (τ : Monomial) where
   pub lead_found : (n : ℕ) (l : Lead) (b : Best) → IsLeadAt s entries n l → times b.left (monomial_of l.sig.now) b.right ≡ τ → b.word ≡ b.left ++ (l.word.now ++ b.right) → b.number ≡ n + 1 → IsAt s entries τ n (Some b)
   lead_found n l b lead signed spells number =
       at_found s entries τ n lead.entry b (slice_get_within entries n lead.entry lead.stands) (sym (get_or_from_slice_get entries n lead.entry lead.entry lead.stands)) (ap (λ σ. times b.left σ b.right) lead.signed ∙ signed) (spells ∙ ap (λ x. b.left ++ (x ++ b.right)) (sym lead.leads)) number
-
-  pub lead_none : (n : ℕ) (l : Lead) → IsLeadAt s entries n l → ¬ Divides (monomial_of l.sig.now) τ → IsAt s entries τ n None
-  lead_none n l lead none = at_none s entries τ n lead.entry (slice_get_within entries n lead.entry lead.stands) (sym (get_or_from_slice_get entries n lead.entry lead.entry lead.stands)) (subst (λ σ. ¬ Divides σ τ) (sym lead.signed) none)
 
   -- ---- one after another
 

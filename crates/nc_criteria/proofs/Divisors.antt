@@ -8,8 +8,8 @@ use Rattle.nc_algebra.specs.Elements.{Setting}
 use Rattle.nc_sig.specs.Sigs.{IsQuotient}
 use Rattle.nc_snapshot.specs.Snapshots.{syzygy_of}
 use Rattle.nc_theory.specs.States.{State, Syzygy}
-use Rattle.nc_theory.specs.Syzygies.{Covered, TrivialSyzygy}
-use Rattle.std.proofs.Common.{Contains, IsTrue, List, None, Option, Some, arith, inl, inr, refl, subst, sym, ℕ, ◌+◌, ◌-◌, ◌≡◌, ◌↔◌, ◌⊎◌}
+use Rattle.nc_theory.specs.Syzygies.{Covered}
+use Rattle.std.proofs.Common.{IsTrue, List, None, Option, Some, arith, inl, inr, refl, subst, sym, ℕ, ◌+◌, ◌-◌, ◌≡◌, ◌↔◌, ◌⊎◌}
 use Rattle.std.proofs.lemmas.Option.{get_or_from_slice_get, slice_get_within}
 use Rattle.std.specs.Borrow.{Bor}
 use Rattle.std.specs.List.{slice_get}
@@ -35,10 +35,3 @@ module _ (s : Setting) (state : State) (τ : Monomial) where
   pub covered : IsListedBelow state.syzygies τ ⊎ IsTrivialBelow s state.entries τ → Covered s state τ
   covered (inl (h, k, d)) = record { by = h.signature; is_syzygy = inl (h, k, refl); divides = d }
   covered (inr (ρ, t, d)) = record { by = ρ; is_syzygy = inr t; divides = d }
-
-  pub covers : Covered s state τ → IsListedBelow state.syzygies τ ⊎ IsTrivialBelow s state.entries τ
-  covers c = go c.is_syzygy
-    where
-      go : ((h : Syzygy) × Contains state.syzygies h × (h.signature ≡ c.by)) ⊎ TrivialSyzygy s state.entries c.by → IsListedBelow state.syzygies τ ⊎ IsTrivialBelow s state.entries τ
-      go (inl (h, k, e)) = inl (h, k, subst (λ σ. Divides σ τ) (sym e) c.divides)
-      go (inr t) = inr (c.by, t, c.divides)

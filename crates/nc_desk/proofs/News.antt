@@ -20,7 +20,7 @@ use Rattle.nc_snapshot.proofs.Snapshots.{snapshot_prime}
 use Rattle.nc_snapshot.specs.Snapshots.{IsSnapshot, Snapshot}
 use Rattle.nc_theory.specs.Runs.{Handles, Outcome, state_after}
 use Rattle.nc_theory.specs.States.{Entry, Trace}
-use Rattle.std.proofs.Common.{Contains, List, Some, [], ap, arith, map, refl, subst, sym, ℕ, ◌+◌, ◌++◌, ◌∙◌, ◌∷◌, ◌≡◌, ◌≢◌, ◌↔◌}
+use Rattle.std.proofs.Common.{Contains, List, Some, [], ap, arith, map, refl, subst, sym, ◌+◌, ◌++◌, ◌∙◌, ◌∷◌, ◌≡◌, ◌↔◌}
 use Rattle.std.proofs.lemmas.List.Elements.{Contains-push}
 use Rattle.std.proofs.lemmas.List.{map_push}
 use Rattle.std.specs.List.{All}
@@ -44,9 +44,6 @@ module _ (s : Snapshot) (h : IsSnapshot s) (τ : Monomial) (x : IsNextAt s τ) w
         let all : All (IsUsable s.problem.problem.setting) (map untraced_entry (s.state.entries ++ new ∷ [])) = (facts s.problem h.problem (snapshot_prime s h) (s.handled + 1) (untraced (state_after s.state τ (Outcome.an_entry f trace))) run).usable in
         let c : Contains (map untraced_entry (s.state.entries ++ new ∷ [])) (untraced_entry new) = image untraced_entry (s.state.entries ++ new ∷ []) new (Contains-push s.state.entries new) in
         subst (IsUsable s.problem.problem.setting) c.2 (all c.0 (untraced_entry new) c.1)
-
-    pub new_some : f ≢ []
-    new_some = usable.some
 
     module _ (t : Term Word) (others : Polynomial) (parts : f ≡ t ∷ others) where
       pub new_lead : leading s.problem.problem.setting.prime f ≡ t.key
@@ -80,12 +77,3 @@ module _ (s : Snapshot) (h : IsSnapshot s) (τ : Monomial) (x : IsNextAt s τ) w
 module _ (s : Snapshot) (τ : Monomial) (leads : List Lead) (found : List Sig) (listed : LeadsOf s leads) (none : found ≡ []) where
   empty : (q : Sig) → ¬ Contains found q
   empty q c = omega (arith, (subst (λ l. Contains l q) none c).1)
-
-  pub covered_news : AreNews s.problem.problem s.state τ Outcome.covered leads found
-  covered_news = record { listed = listed; exact = λ q. (λ c. absurd (empty q c), λ b. absurd b.2) }
-
-  pub settled_news : (j : ℕ) → AreNews s.problem.problem s.state τ (Outcome.settled j) leads found
-  settled_news j = record { listed = listed; exact = λ q. (λ c. absurd (empty q c), λ b. absurd b.2) }
-
-  pub syzygy_news : (trace : Trace) → AreNews s.problem.problem s.state τ (Outcome.a_syzygy trace) leads found
-  syzygy_news trace = record { listed = listed; exact = λ q. (λ c. absurd (empty q c), λ b. absurd b.2) }

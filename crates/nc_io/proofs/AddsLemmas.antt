@@ -1,14 +1,10 @@
 -- What a sink holds after several calls.
 -- `Adds-trans` puts two growths together; a loop that writes piece after piece uses it at each
 -- turn.
-use Rattle.std.proofs.Common.{ℕ, List, [], ◌++◌, sym, ap, ◌∙◌, Some, None}
+use Rattle.std.proofs.Common.{ℕ, List, ◌++◌, ap, ◌∙◌, Some, None}
 use Rattle.std.specs.declared.option.Option.{Option}
-use Rattle.std.proofs.lemmas.List.{append-nil, append_assoc}
+use Rattle.std.proofs.lemmas.List.{append_assoc}
 use Rattle.nc_io.specs.Adds.{Adds}
-
-pub Adds-nil : (a : Option (List ℕ)) → Adds a a []
-Adds-nil None = tt
-Adds-nil (Some xs) = sym (append-nil xs)
 
 pub Adds-trans : (a b c : Option (List ℕ)) (bs cs : List ℕ) → Adds a b bs → Adds b c cs → Adds a c (bs ++ cs)
 Adds-trans a b None bs cs g h = tt

@@ -10,11 +10,8 @@ use Rattle.nc_algebra.specs.Problems.{IsProblem, IsWithin, NamedProblem, Problem
 use Rattle.nc_algebra.specs.Sums.{SameSum, Term}
 use Rattle.nc_algebra.specs.Words.{Word}
 use Rattle.nc_cofactor.proofs.Labelled.{problem_field}
-use Rattle.nc_cofactor.specs.Claims.{FailsToRepresent, IsRepresentation}
-use Rattle.nc_cofactor.specs.declared.fault.CofactorFault.{CofactorFault}
-use Rattle.nc_cofactor.specs.declared.fault.CofactorFault.TheVariants.{OutOfMemory, TooMany}
-use Rattle.nc_desk.specs.Ends.{Finished}
-use Rattle.nc_member.specs.Members.{FailsToAnswer, IsOpen, IsRepresented, IsRestOf, IsUnrepresented}
+use Rattle.nc_cofactor.specs.Claims.{IsRepresentation}
+use Rattle.nc_member.specs.Members.{IsOpen, IsRepresented, IsRestOf, IsUnrepresented}
 use Rattle.nc_module.specs.Modules.{element_of}
 use Rattle.nc_search.proofs.Untraced.{moved_reduction}
 use Rattle.nc_search.proofs.UntracedRuns.{same_run}
@@ -66,11 +63,6 @@ module _ (P : NamedProblem) (is : IsProblem P) (n : ℕ) (f : Polynomial) (steps
 
       no_more : (k : ℕ) → k + 0 ≡ k
       no_more k = omega arith
-
--- why there is none
-pub not_represented : (f : Finished) (claim : Polynomial) (limit : ℕ) (steps : List Step) → IsRestOf f.snapshot.problem.problem f.snapshot.handled claim [] steps → (e : CofactorFault) → FailsToRepresent f.snapshot.problem.problem f.snapshot.handled steps limit e → FailsToAnswer f claim limit e
-not_represented f claim limit steps rest OutOfMemory h = tt
-not_represented f claim limit steps rest (TooMany named terms) h = record { steps = steps; rest = rest; many = h }
 
 -- ---- the end
 

@@ -49,9 +49,6 @@ each_listed : {X : Type 0} (A : X → Type 0) (xs : List X) → ((x : X) → Con
 each_listed A [] h = tt
 each_listed A (x ∷ xs) h = (h x (0, omega arith, refl), each_listed A xs (λ y c. h y (suc c.0, omega (arith, c.1), c.2)))
 
-both_listed : {X : Type 0} (A B : X → Type 0) (xs : List X) → All A xs → All B xs → AllByRecursion (λ x. A x × B x) xs
-both_listed A B xs a b = each_listed (λ x. A x × B x) xs (λ x c. (subst A c.2 (a c.0 x c.1), subst B c.2 (b c.0 x c.1)))
-
 number_listed : (steps : List Step) (step : Step) → Contains steps step → Contains (numbers_of steps) step.number
 number_listed steps step c = (c.0, omega (arith, c.1, length-map steps (λ (t : Step). t.number)), get_or-map (λ (t : Step). t.number) steps c.0 step ∙ ap (λ (t : Step). t.number) c.2)
 

@@ -24,15 +24,6 @@ use Rattle.std.specs.List.Sorted.{IsPermutation}
 abbrev IsUpTo : Word → Word → Type 0
 IsUpTo w v = (w ≡ v) ⊎ IsWordLess w v
 
-up_to_trans : (x w v : Word) → IsUpTo x w → IsUpTo w v → IsUpTo x v
-up_to_trans x w v (inl e) h = subst (λ y. IsUpTo y v) (sym e) h
-up_to_trans x w v (inr l) (inl e) = inr (subst (IsWordLess x) e l)
-up_to_trans x w v (inr l) (inr m) = inr (word_trans x w v l m)
-
-all_up_to : (w v : Word) (f : Polynomial) → IsUpTo w v → AllUpTo w f → AllUpTo v f
-all_up_to w v [] h a = tt
-all_up_to w v (t ∷ f) h a = (up_to_trans t.key w v a.0 h, all_up_to w v f h a.1)
-
 gained_key : (p : ℕ) (t u : Term Word) → (gained p t u).key ≡ u.key
 gained_key p t u = go (same_word t.key u.key)
   where

@@ -4,7 +4,7 @@
 -- as a sum (`same_moved`); `same_subtracted` is the case of words. `same_subtracted_from` starts
 -- from any list with the same sum, so an accumulator may collect at any time.
 use Rattle.nc_algebra.proofs.Lists.{same-append, same-refl, same-trans}
-use Rattle.nc_algebra.proofs.NormalForms.{normal_form_equal, normal_form_normal}
+use Rattle.nc_algebra.proofs.NormalForms.{normal_form_equal}
 use Rattle.nc_algebra.proofs.Sums.{linear_sum-append, linear_sum-scale}
 use Rattle.nc_algebra.specs.Polynomials.{AreResidues, Polynomial, normal_form, polynomial_times}
 use Rattle.nc_algebra.specs.Sums.{SameSum, Term, coefficient_by, is_at, map_keys, minus, scale}
@@ -13,7 +13,7 @@ use Rattle.nc_poly.specs.Multiples.{moved_by, multiples_of}
 use Rattle.nc_poly.specs.Ordered.{AreResiduesBy}
 use Rattle.std.proofs.Common.{Bool, List, [], ap, ap₂, arith, subst, sym, ℕ, ◌%◌, ◌*◌, ◌+◌, ◌++◌, ◌-◌, ◌<◌, ◌∙◌, ◌∷◌, ◌≡◌}
 use Rattle.std.proofs.Math.Nat.{add-mod, add-mul-mod_self_left, mod-lt}
-use Rattle.std.proofs.lemmas.List.Elements.{All-from_recursion, recursion_from_All}
+use Rattle.std.proofs.lemmas.List.Elements.{All-from_recursion}
 use Rattle.std.proofs.lemmas.Nat.{mul-mod_first}
 use Rattle.std.specs.List.{AllByRecursion}
 
@@ -74,8 +74,4 @@ same_subtracted_from p c u v old kept items g small same is =
     (same-append same_word p kept old (multiples_of p ((p - c) % p) u g v) (multiples_of p ((p - c) % p) u g v) same (same-refl same_word p (multiples_of p ((p - c) % p) u g v)))
     (same_subtracted p c u v old g small))
 
--- the normal form of residues has residues
-pub residues_stay : (p : ℕ) (f : Polynomial) → AreResidues p f → AreResidues p (normal_form p f)
 unfolding normal_form
-residues_stay p [] a = All-from_recursion (λ t. t.coefficient < p) [] tt
-residues_stay p (t ∷ f) a = let small = (recursion_from_All (λ u. u.coefficient < p) (t ∷ f) a).0 in (normal_form_normal p (t ∷ f) (omega arith)).1

@@ -10,7 +10,7 @@ use Rattle.nc_poly.proofs.Entries.{added_before, added_residues, added_stamps, a
 use Rattle.nc_poly.specs.Keeping.{added, before_at, now_of, shown, terms_by}
 use Rattle.nc_poly.specs.Ordered.{AreResiduesBy, listed}
 use Rattle.nc_poly.specs.declared.sum.Slot.{Slot}
-use Rattle.std.proofs.Common.{All, Bool, IfSome, IsSome, List, None, Option, Ordering, Some, [], ap, ap₂, append-nil, arith, cond, false, length, nat_eq, not, refl, subst, suc, sym, true, ℕ, ◌%◌, ◌*◌, ◌+◌, ◌++◌, ◌-◌, ◌<◌, ◌∙◌, ◌∷◌, ◌≡◌, ◌≤◌}
+use Rattle.std.proofs.Common.{All, Bool, IfSome, IsSome, List, None, Option, Ordering, Some, [], ap, ap₂, append-nil, arith, cond, false, length, nat_eq, refl, subst, suc, sym, true, ℕ, ◌%◌, ◌*◌, ◌+◌, ◌++◌, ◌-◌, ◌<◌, ◌∙◌, ◌∷◌, ◌≡◌, ◌≤◌}
 use Rattle.std.proofs.lemmas.Bool.{eqb-true, false≢true}
 use Rattle.std.proofs.lemmas.List.Elements.{All-from_recursion, recursion_from_All}
 use Rattle.std.specs.BTreeMap.{insert_entry}
@@ -143,16 +143,6 @@ dropped_last {K} old new front x e is at z = dropped old new x is (ap (λ (y : K
 
 pub last_some : {K : Type 0} (es front : List (K × Slot)) (e : K × Slot) (k : K) (s : Slot) → slice_get es (length es - 1) ≡ Some (k, s) → es ≡ front ++ e ∷ [] → nat_eq s.now 0 ≡ false → 0 < e.1.now
 last_some {K} es front e k s h is n = subst (λ m. 0 < m) (sym (ap (λ (y : K × Slot). y.1.now) (last_is es front e (k, s) h is))) (positive s.now n)
-
-zero_test : (n : ℕ) → not (nat_eq n 0) ≡ false → n ≡ 0
-zero_test n e = go (nat_eq n 0) refl e
-  where
-    go : (b : Bool) → nat_eq n 0 ≡ b → not b ≡ false → n ≡ 0
-    go true d e = eqb-true n 0 d
-    go false d e = absurd (false≢true (sym e))
-
-pub zero_dropped : (b : Bool) (n : ℕ) → b ≡ not (nat_eq n 0) → b ≡ false → n ≡ 0
-zero_dropped b n is e = zero_test n (sym is ∙ e)
 
 -- ---- a pass that is undone
 

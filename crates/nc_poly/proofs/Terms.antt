@@ -110,16 +110,3 @@ carried_step p start now new at within pair h = go h.rest refl
           place = omega (arith, length-append h.front (left_of h.last u ∷ []), h.place);
           done = h.done ∙ (ap (λ (r : Polynomial). h.front ++ carried_behind p h.last r) e ∙ further h.front (left_of h.last u) (carried_behind p (gained p h.last u) f));
         }
-
-carried_ends : (p : ℕ) (start now : Polynomial) (at : ℕ) → length now ≤ at → IsCarried p start now at → now ≡ carried p start
-carried_ends p start now at long h = go h.rest refl
-  where
-    go : (rest : Polynomial) → h.rest ≡ rest → now ≡ carried p start
-    go [] e = h.parts ∙ (ap (λ (r : Polynomial). h.front ++ h.last ∷ r) e ∙ sym (h.done ∙ ap (λ (r : Polynomial). h.front ++ carried_behind p h.last r) e))
-    go (u ∷ f) e = absurd (omega (arith, long, h.place, ap length (h.parts ∙ ap (λ (r : Polynomial). h.front ++ h.last ∷ r) e), length-append h.front (h.last ∷ (u ∷ f))))
-
--- when all are: `at` is the length, or the list is empty
-pub carried_whole : (p : ℕ) (start now : Polynomial) (at : ℕ) → length now ≡ length start → length now ≤ at → (0 < length start → IsCarried p start now at) → now ≡ carried p start
-carried_whole p [] [] at e l h = refl
-carried_whole p [] (t ∷ f) at e l h = absurd (omega arith)
-carried_whole p (t ∷ f) now at e l h = carried_ends p (t ∷ f) now at l (h (omega arith))

@@ -14,9 +14,6 @@ use Rattle.std.proofs.lemmas.Option.{get_or_from_slice_get, slice_get_within}
 use Rattle.std.specs.List.{slice_get}
 
 module _ (s : Setting) (entries : List Entry) (β : Sig) (w : Word) (h : Hit) (found : IsChosen s entries w β (Some h)) where
-  pub number_some : 1 ≤ h.number
-  number_some = omega (arith, found.2)
-
   pub number_within : h.number ≤ length entries
   number_within = omega (arith, found.2, found.0.listed.1)
 

@@ -3,9 +3,8 @@
 -- let in the same multiples of entries have the same reductions. So with a signature's own degree
 -- this is reduction at the signature (`reduced_at`), and with the limit of a bound reduction within
 -- it (`reduced_within`).
-use Rattle.nc_algebra.proofs.Monomials.{below_above_degree}
-use Rattle.nc_algebra.specs.Elements.{HasDegree, IsGenerator, IsLess, Setting, generator_weight}
-use Rattle.nc_algebra.specs.Monomials.{Monomial, Sig, above_degree, monomial_of, sig_of}
+use Rattle.nc_algebra.specs.Elements.{HasDegree, IsLess, Setting, generator_weight}
+use Rattle.nc_algebra.specs.Monomials.{Monomial, Sig, monomial_of, sig_of}
 use Rattle.nc_algebra.specs.Polynomials.{Polynomial}
 use Rattle.nc_algebra.specs.Problems.{Bound, IsWithin, IsWithinBound, Problem}
 use Rattle.nc_index.specs.Chosen.{IsBelowSig}
@@ -15,7 +14,7 @@ use Rattle.nc_search.proofs.Turns.{reduction_by}
 use Rattle.nc_theory.specs.Reductions.{Reduction, ReductionAt}
 use Rattle.nc_theory.specs.States.{Entry, Step}
 use Rattle.std.specs.declared.alloc.AllocError.{AllocError}
-use Rattle.std.proofs.Common.{Contains, Err, IfOk, List, Ok, Result, refl, subst, sym, ℕ, ◌↔◌, ◌≡◌}
+use Rattle.std.proofs.Common.{Contains, Err, IfOk, List, Ok, Result, refl, subst, sym, ◌↔◌, ◌≡◌}
 
 -- where its degree stands beside it
 below_sig : (s : Setting) (β : Sig) → HasDegree s β → (σ : Monomial) → IsBelowSig s β σ ↔ IsLess s σ (monomial_of β)
@@ -23,15 +22,6 @@ below_sig s β h σ = (less_from_sigs s (sig_of (generator_weight s) σ) β refl
 
 pub reduced_at : (s : Setting) (entries : List Entry) (β : Sig) → HasDegree s β → {f kept : Polynomial} {steps : List Step} → Reduction s entries (IsBelowSig s β) f kept steps → ReductionAt s entries (monomial_of β) f kept steps
 reduced_at s entries β h r = reduction_by s entries (IsBelowSig s β) (λ σ. IsLess s σ (monomial_of β)) (λ w d. below_sig s β h _) r
-
--- the limit of a bound
-pub limit_degree : (P : Problem) (d : ℕ) → Bound.to_degree d ≡ P.bound → (β : Sig) → β ≡ above_degree d → IsLimitOf P β
-limit_degree P d is β e σ g =
-    subst (λ (b : Bound). IsBelowSig P.setting β σ ↔ IsWithinBound P.setting b σ) is
-    (subst (λ (x : Sig). IsBelowSig P.setting x σ ↔ IsWithinBound P.setting (Bound.to_degree d) σ) (sym e) at_degree)
-  where
-    at_degree : IsBelowSig P.setting (above_degree d) σ ↔ IsWithinBound P.setting (Bound.to_degree d) σ
-    at_degree = let b = below_above_degree d (sig_of (generator_weight P.setting) σ) in (λ h. (g, b.0 h), λ w. b.1 w.1)
 
 pub limit_under : (P : Problem) (β : Sig) → Bound.under (monomial_of β) ≡ P.bound → HasDegree P.setting β → (γ : Sig) → γ ≡ β → IsLimitOf P γ
 limit_under P β is h γ e σ g =

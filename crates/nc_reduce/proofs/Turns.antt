@@ -13,7 +13,7 @@ use Rattle.nc_algebra.specs.Words.{IsWordLess, OccursAt, Word, same_word}
 use Rattle.nc_index.specs.Chosen.{IsBelowSig, IsChosen, LeadsLaw, leads_of}
 use Rattle.nc_index.specs.Pairs.{IsFirstRegular, Lead}
 use Rattle.nc_index.specs.declared.hit.Hit.{Hit}
-use Rattle.nc_reduce.proofs.Choices.{hit_choice, hit_stands, number_some, number_within}
+use Rattle.nc_reduce.proofs.Choices.{hit_choice, hit_stands, number_within}
 use Rattle.nc_search.proofs.Small.{usable_at}
 use Rattle.nc_reduce.specs.Turns.{IsTurn}
 use Rattle.nc_reduce.specs.declared.turn.Turn.{Turn}
@@ -59,9 +59,6 @@ module _ (law : LeadsLaw) (s : Setting) (entries : List Entry) (usable : All (Is
   module _ (h : Hit) (first : IsFirstRegular leads x β (Some h)) where
     found : IsChosen s entries t.key β (Some h)
     found = chosen (Some h) first
-
-    pub hit_some : 1 ≤ h.number
-    hit_some = number_some s entries β t.key h found
 
     pub hit_within : h.number ≤ length entries
     hit_within = number_within s entries β t.key h found

@@ -7,8 +7,7 @@ use Rattle.nc_algebra.specs.Monomials.{Monomial, times}
 use Rattle.nc_algebra.specs.Polynomials.{leading}
 use Rattle.nc_algebra.specs.Words.{Word}
 use Rattle.nc_search.proofs.Meetings.{swap}
-use Rattle.nc_search.specs.Meetings.{IsGreaterOf}
-use Rattle.nc_search.specs.Nexts.{IsOfAmbiguity, MeetSomewhere, MeetsSome}
+use Rattle.nc_search.specs.Meetings.{IsGreaterOf, MeetSomewhere}
 use Rattle.nc_theory.specs.Ambiguities.{Ambiguity}
 use Rattle.nc_theory.specs.Divisors.{Divisor}
 use Rattle.nc_theory.specs.States.{Entry}
@@ -82,14 +81,3 @@ module _ (s : Setting) (entries : List Entry) (σ : Monomial) where
           greater = inl (subst (λ x. IsLess s (times x a.low.entry.signature a.low.right) (times a.high.left a.high.entry.signature a.high.right)) i a.below, sym a.signed);
         },
       )
-
-  -- over all pairs of entries
-  pub from_ambiguity : IsOfAmbiguity s entries σ → (e : Entry) × Contains entries e × MeetsSome s entries e σ
-  from_ambiguity (w, a) = go (to_meeting w a)
-    where
-      go : MeetSomewhere s a.high.entry a.low.entry σ ⊎ MeetSomewhere s a.low.entry a.high.entry σ → (e : Entry) × Contains entries e × MeetsSome s entries e σ
-      go (inl m) = (a.high.entry, a.high.listed, (a.low.entry, a.low.listed, m))
-      go (inr m) = (a.low.entry, a.low.listed, (a.high.entry, a.high.listed, m))
-
-  pub to_ambiguity : (e : Entry) × Contains entries e × MeetsSome s entries e σ → IsOfAmbiguity s entries σ
-  to_ambiguity (e, c, (f, d, m)) = let r = from_meeting e f c d m in (r.0, r.1)

@@ -2,14 +2,14 @@
 use Rattle.nc_algebra.proofs.Leading.{leading-normal}
 use Rattle.nc_algebra.proofs.NormalForms.{first_coefficient}
 use Rattle.nc_algebra.proofs.Words.{weight-append}
-use Rattle.nc_algebra.specs.Elements.{IsLeadingWord, IsLess, Setting}
+use Rattle.nc_algebra.specs.Elements.{IsLeadingWord, Setting}
 use Rattle.nc_algebra.specs.Monomials.{Monomial}
 use Rattle.nc_algebra.specs.Polynomials.{IsNormal, Polynomial, coefficient, leading, normal_form, polynomial_times}
 use Rattle.nc_algebra.specs.Sums.{Term, minus}
 use Rattle.nc_algebra.specs.Words.{Word, word_weight}
 use Rattle.nc_search.proofs.Small.{few_letters, first_leads, first_residue}
 use Rattle.nc_search.specs.Found.{Chosen}
-use Rattle.nc_search.specs.Places.{IsChoice, IsChoiceOf}
+use Rattle.nc_search.specs.Places.{IsChoiceOf}
 use Rattle.nc_search.specs.Turns.{IsKept, IsSubtracted}
 use Rattle.nc_search.specs.Usable.{HasSmallWords, IsUsable}
 use Rattle.nc_theory.proofs.Determinism.{listed_same}
@@ -17,10 +17,6 @@ use Rattle.nc_theory.specs.States.{Entry}
 use Rattle.std.proofs.Common.{List, None, Some, [], ap, ap₂, arith, get_or, length, refl, subst, sym, ℕ, ◌%◌, ◌*◌, ◌+◌, ◌++◌, ◌-◌, ◌<◌, ◌∙◌, ◌∷◌, ◌≡◌, ◌≤◌}
 use Rattle.std.proofs.Math.Nat.{mod-eq_of_lt}
 use Rattle.std.specs.List.{All}
-
--- no regular divisor at τ is none with a signature below τ
-pub choice_none : (s : Setting) (entries : List Entry) (τ : Monomial) (w : Word) → IsChoice s entries τ w None → IsChoiceOf s entries (λ σ. IsLess s σ τ) w None
-choice_none s entries τ w none d l = none (record { divisor = d; below = l })
 
 module _ (s : Setting) (entries : List Entry) (usable : All (IsUsable s) entries) (set : Monomial → Type 0) (old : Polynomial) (t : Term Word) (others : Polynomial) (parts : old ≡ t ∷ others) (normal : IsNormal s.prime old) where
   normal_parts : IsNormal s.prime (t ∷ others)
@@ -31,9 +27,6 @@ module _ (s : Setting) (entries : List Entry) (usable : All (IsUsable s) entries
 
   pub lead_residue : t.coefficient < s.prime
   lead_residue = first_residue s.prime t others normal_parts
-
-  pub lead_some : 0 < t.coefficient
-  lead_some = normal_parts.0.0
 
   whole : t.coefficient ≡ coefficient old t.key % s.prime
   whole = sym (ap (λ f. coefficient f t.key % s.prime) parts ∙ (ap (λ n. n % s.prime) (first_coefficient t others normal_parts.0.1) ∙ mod-eq_of_lt lead_residue))

@@ -1,18 +1,15 @@
 -- What becomes of a signature, from what the steps of its handling found.
 -- `handled` and `generator_handled` put start, reduction and outcome together.
 use Rattle.nc_algebra.proofs.Alphabets.{letter_light, text_word_light}
-use Rattle.nc_algebra.proofs.NormalForms.{normal_form_same}
 use Rattle.nc_algebra.specs.Finite.{AreLetters}
-use Rattle.nc_algebra.proofs.Sums.{coefficient-minus, same_from_zero, zero_mul_left, zero_number}
-use Rattle.nc_algebra.proofs.Words.{word_laws}
+use Rattle.nc_algebra.proofs.Sums.{zero_number}
 use Rattle.nc_algebra.specs.Alphabets.{Alphabet, AreWordsIn, IsAlphabet, IsLetterIn, IsTextGenerator, IsTextWord, IsWordIn}
 use Rattle.nc_algebra.specs.Settings.{IsSetting, NamedSetting}
 use Rattle.nc_algebra.specs.Elements.{IsGenerator, IsLess, Setting, generator}
 use Rattle.nc_algebra.specs.Monomials.{Monomial, times, unit_monomial}
-use Rattle.nc_algebra.specs.Polynomials.{IsNormal, Polynomial, coefficient, normal_form, polynomial_times}
-use Rattle.nc_algebra.specs.Primes.{IsZero}
-use Rattle.nc_algebra.specs.Sums.{SameSum, minus}
-use Rattle.nc_algebra.specs.Words.{IsWordLess, Word, same_word, word_weight}
+use Rattle.nc_algebra.specs.Polynomials.{IsNormal, Polynomial, coefficient, polynomial_times}
+use Rattle.nc_algebra.specs.Sums.{SameSum}
+use Rattle.nc_algebra.specs.Words.{Word, same_word, word_weight}
 use Rattle.nc_search.proofs.Multiples.{shifted_few, shifted_small}
 use Rattle.nc_search.proofs.Turns.{reduction_same}
 use Rattle.nc_search.specs.Best.{IsBest}
@@ -22,30 +19,14 @@ use Rattle.nc_search.specs.Places.{IsChoice}
 use Rattle.nc_search.specs.Usable.{HasSmallWords, IsSmall, IsUsable, IsUsableSignature}
 use Rattle.nc_theory.proofs.Determinism.{listed_same}
 use Rattle.nc_theory.proofs.Properties.{more_are}
-use Rattle.nc_theory.specs.Divisors.{Multiple, RegularDivisor, multiple_at, number_of}
+use Rattle.nc_theory.specs.Divisors.{RegularDivisor, multiple_at, number_of}
 use Rattle.nc_theory.specs.Reductions.{ReductionAt}
 use Rattle.nc_theory.specs.Runs.{Handles, Outcome, Starts}
 use Rattle.nc_theory.specs.States.{Entry, Start, State, Step}
 use Rattle.nc_theory.specs.Syzygies.{Covered}
-use Rattle.std.proofs.Common.{List, None, Some, [], ap, ap₂, arith, get_or, inl, inr, length, refl, subst, sym, ℕ, ◌%◌, ◌*◌, ◌+◌, ◌-◌, ◌<◌, ◌∙◌, ◌∷◌, ◌≡◌, ◌≢◌, ◌≤◌, ◌⊎◌, suc, zero}
-use Rattle.std.proofs.Math.Nat.{mod-eq_of_lt, mod_self}
-use Rattle.std.proofs.lemmas.List.{get_or_read}
+use Rattle.std.proofs.Common.{List, Some, [], ap, ap₂, arith, get_or, length, refl, subst, sym, ℕ, ◌+◌, ◌-◌, ◌∙◌, ◌∷◌, ◌≡◌, ◌≢◌, ◌≤◌, suc, zero}
 use Rattle.std.proofs.lemmas.List.Elements.{All-weaker, recursion_from_All}
 use Rattle.std.specs.List.{All, AllByRecursion}
-
--- ---- a multiple by itself
-
-pub shifted_same : (p c : ℕ) (g m : Polynomial) → 1 < p → c ≡ (p - 1) % p → g ≡ normal_form p (minus p [] c m) → SameSum same_word p g m
-shifted_same p c g m one is e = record { at = λ x. ap (λ h. coefficient h x % p) e ∙ ((normal_form_same p (minus p [] c m)).at x ∙ (ap (λ n. n % p) (coefficient-minus same_word IsWordLess word_laws p [] c m x) ∙ same_from_zero p (0 + (p - 1) * c * coefficient m x) (coefficient m x) (omega (arith, one)) (whole x))) }
-  where
-    full : c ≡ p - 1
-    full = is ∙ mod-eq_of_lt (omega (arith, one))
-
-    form : (q d y : ℕ) → p ≡ q + 1 → d ≡ q → 0 + q * d * y + q * y ≡ (q * y) * p
-    form q d y a b = omega (arith, ap (λ n. (q * y) * n) a, ap (λ n. q * n * y) b)
-
-    whole : (x : Word) → IsZero p (0 + (p - 1) * c * coefficient m x + (p - 1) * coefficient m x)
-    whole x = subst (IsZero p) (sym (form (p - 1) c (coefficient m x) (omega (arith, one)) full)) (zero_mul_left p ((p - 1) * coefficient m x) p (mod_self p))
 
 -- ---- small words
 
@@ -72,17 +53,8 @@ generator_at s zero h = absurd (omega (arith, h))
 generator_at s (suc i) h = let e : suc i - 1 ≡ i = omega arith in ap (λ k. get_or s.generators k []) e
 
 module _ (s : NamedSetting) (setting : IsSetting s) (i : ℕ) (valid : IsGenerator s.setting i) (f : Polynomial) (read : f ≡ get_or s.setting.generators (i - 1) f) where
-  pub generator_is : f ≡ generator s.setting i
-  generator_is = get_or_read s.setting.generators (i - 1) f (omega (arith, valid.0, valid.1)) read [] ∙ generator_at s.setting i valid.0
-
   text : IsTextGenerator s.alphabet s.setting.prime f
   text = subst (IsTextGenerator s.alphabet s.setting.prime) (sym read) (setting.each (i - 1) f (omega (arith, valid.0, valid.1)))
-
-  pub generator_normal : IsNormal s.setting.prime f
-  generator_normal = text.polynomial.normal
-
-  pub generator_small : HasSmallWords s.setting f
-  generator_small = text_words s.alphabet setting.alphabet s.setting f text.polynomial.words
 
 -- ---- outcomes
 
@@ -98,9 +70,6 @@ module _ (s : Setting) (state : State) (τ : Monomial) (uncovered : ¬ Covered s
   no_unit n i e = n (e ∙ ap unit_monomial (sym (ap (λ σ. σ.generator) e)))
 
   module _ (other : τ ≢ unit_monomial τ.generator) (b : Best) (best : IsBest s state.entries τ (Some b)) (w : Word) (is_word : w ≡ b.word) where
-    pub settled_handled : IsChoice s state.entries τ w None → Handles s state τ (Outcome.settled b.number)
-    settled_handled n = subst (λ j. Handles s state τ (Outcome.settled j)) best.3 (Handles.is_settled uncovered (no_unit other) b.word best.0 best.1 (subst (λ x. IsChoice s state.entries τ x None) is_word n))
-
     module _ (usable : All (IsUsable s) state.entries) (limit : IsUsableSignature s τ) (e : Entry) (read : e ≡ get_or state.entries (b.number - 1) e) (f : Polynomial) (of_entry : f ≡ e.polynomial) (u v : Word) (is_left : u ≡ b.left) (is_right : v ≡ b.right) where
       entry_is : e ≡ best.0.entry
       entry_is =
@@ -132,8 +101,3 @@ module _ (s : Setting) (state : State) (τ : Monomial) (uncovered : ¬ Covered s
             handled (multiple_at s state.entries b.word best.0) kept (Start.a_multiple best.0.left (number_of s state.entries b.word best.0) best.0.right) steps o (Starts.at_multiple (no_unit other) b.word best.0 best.1 regular)
             (reduction_same s state.entries (λ σ. IsLess s σ τ) r (multiple_at s state.entries b.word best.0) (subst (λ (h : Polynomial). SameSum same_word s.prime g h) (ap₂ (λ x y. polynomial_times x e.polynomial y) (is_left ∙ sym best.2) (is_right ∙ sym best.4) ∙ ap (λ (x : Entry). polynomial_times best.0.left x.polynomial best.0.right) entry_is) at_entry))
             (h ∙ (λ i. outcome_after (Start.a_multiple (sym best.2 i) (sym best.3 i) (sym best.4 i)) kept steps))
-
--- a signature that is no generator's has a multiple
-pub no_source : (s : Setting) (entries : List Entry) (τ : Monomial) → ((i : ℕ) × (τ ≡ unit_monomial i)) ⊎ ((w : Word) × Multiple s entries τ w) → τ ≢ unit_monomial τ.generator → IsBest s entries τ None → ⊥
-no_source s entries τ (inl (i, e)) n none = n (e ∙ ap unit_monomial (sym (ap (λ σ. σ.generator) e)))
-no_source s entries τ (inr (w, m)) n none = none w m

@@ -10,10 +10,9 @@ pub mod Turns
 pub mod Runs
 pub mod Handling
 pub mod Tested
-pub mod Problems
 pub mod Meetings
 pub mod Ambiguities
-pub mod Nexts
+pub mod Indexed
 pub mod Letters
 pub mod Reached
 pub mod Untraced

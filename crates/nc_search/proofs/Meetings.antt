@@ -171,15 +171,9 @@ module _ (s : Setting) where
         let second : length (leading s.prime f.polynomial) ≤ n = lead_short f n b h in
         (one.0, omega arith, omega arith, omega arith)
 
-    pub fit_at : (u v : Word) → u ≡ leading s.prime e.polynomial → v ≡ leading s.prime f.polynomial → (o : Option Meeting) (m : Meeting) → o ≡ Some m → IsMeeting u v k o → (n : ℕ) → IsUsable s e → IsUsable s f → degree s e.signature ≤ n → degree s f.signature ≤ n → k < length (leading s.prime e.polynomial) → (length e.signature.left ≤ n) × (length e.signature.right + length m.behind_first ≤ n + n) × (length m.before + length f.signature.left ≤ n + n) × (length f.signature.right + length m.behind_second ≤ n + n)
-    fit_at u v i j o m h a n b d g l w = sides_fit m.before m.behind_first m.behind_second n b d g l (around_leads u v i j o m h a) w
-
     -- they do not meet
     pub unmet : (u v : Word) → u ≡ leading s.prime e.polynomial → v ≡ leading s.prime f.polynomial → IsMeeting u v k None → IsOnly (MeetAt s e f k) None
     unmet u v i j none σ m = subst (λ a. IsMeeting a v k None) i none m.before m.behind_first m.behind_second (subst (λ b. AreAround (leading s.prime e.polynomial) b k m.before m.behind_first m.behind_second) (sym j) m.around)
-
-    pub unmet_empty : (v : Word) → v ≡ leading s.prime f.polynomial → k ≡ 0 → length v ≡ 0 → IsOnly (MeetAt s e f k) None
-    unmet_empty v j i l σ m = omega (arith, m.some, ap length j, i, l)
 
     pub met : (x y z : Word) (one two : Monomial) → AreAround (leading s.prime e.polynomial) (leading s.prime f.polynomial) k x y z → k < length (leading s.prime e.polynomial) → 0 < k + length (leading s.prime f.polynomial) → one ≡ times [] e.signature y → two ≡ times x f.signature z → (o : Option Monomial) → IsOnly (IsGreaterOf s one two) o → IsOnly (MeetAt s e f k) o
     met x y z one two a h g i j o p = go o (subst (λ σ. IsOnly (IsGreaterOf s (times [] e.signature y) σ) o) j (subst (λ σ. IsOnly (IsGreaterOf s σ two) o) i p))

@@ -3,46 +3,30 @@
 -- that of the next entry are known by one comparison (`better_step`). `IsWithNext` says what the
 -- longer set is, for all entries and for a range of them.
 use Rattle.nc_algebra.proofs.Monomials.{degree-times}
-use Rattle.nc_algebra.proofs.Orders.{nat_order}
-use Rattle.nc_algebra.proofs.Words.{length_at_most, word_less_complete, word_less_sound, word_total, word_trans}
+use Rattle.nc_algebra.proofs.Words.{word_less_complete, word_less_sound, word_total, word_trans}
 use Rattle.nc_algebra.specs.Elements.{Setting, degree, generator_weight}
-use Rattle.nc_algebra.specs.Monomials.{Divides, Monomial, times}
+use Rattle.nc_algebra.specs.Monomials.{Monomial, times}
 use Rattle.nc_algebra.specs.Polynomials.{leading}
 use Rattle.nc_algebra.specs.Words.{IsWordLess, Word, compare_words, word_weight}
 use Rattle.nc_search.proofs.Small.{usable_lead}
-use Rattle.nc_search.specs.Best.{IsAt, IsBest, IsBestIn, IsBestOf, best_of}
+use Rattle.nc_search.specs.Best.{IsAt, IsBestIn, best_of}
 use Rattle.nc_search.specs.Found.{Best}
-use Rattle.nc_search.specs.Places.{IsPlace}
 use Rattle.nc_search.specs.Usable.{IsUsable, IsUsableSignature}
-use Rattle.nc_theory.proofs.Determinism.{listed_same, one_multiple}
+use Rattle.nc_theory.proofs.Determinism.{one_multiple}
 use Rattle.nc_theory.specs.Divisors.{Divisor, number_of, signature_at}
 use Rattle.nc_theory.specs.States.{Entry}
-use Rattle.std.proofs.Common.{Bool, List, None, Option, Some, [], ap, append-nil, arith, cond, false, get_or, inl, inr, length, length-append, refl, subst, sym, true, ℕ, ◌+◌, ◌++◌, ◌-◌, ◌<◌, ◌∙◌, ◌≡◌, ◌≤◌, ◌⊎◌}
+use Rattle.std.proofs.Common.{Bool, List, None, Option, Some, ap, arith, cond, false, get_or, inl, inr, length, refl, subst, sym, true, ℕ, ◌+◌, ◌++◌, ◌-◌, ◌<◌, ◌∙◌, ◌≡◌, ◌≤◌, ◌⊎◌}
 use Rattle.std.proofs.lemmas.Bool.{false≢true}
 use Rattle.std.specs.Ordering.{is_lt}
-
-pub no_front : (σ τ : Monomial) (v w : Word) (at : ℕ) → v ≡ σ.left → w ≡ τ.left → at ≡ length w - length v → IsPlace v w at None → ¬ Divides σ τ
-no_front σ τ v w at a b n none (x, y, e) =
-    let whole : x ++ v ≡ w = ap (λ z. x ++ z) a ∙ (ap (λ ρ. ρ.left) e ∙ sym b) in
-    none x [] (ap (λ z. x ++ z) (append-nil v) ∙ whole) (omega (arith, n, ap length whole, length-append x v))
-
-pub no_back : (σ τ : Monomial) (v w : Word) → v ≡ σ.right → w ≡ τ.right → IsPlace v w 0 None → ¬ Divides σ τ
-no_back σ τ v w a b none (x, y, e) = none [] y (ap (λ z. z ++ y) a ∙ (ap (λ ρ. ρ.right) e ∙ sym b)) refl
 
 -- the words around an entry's leading word in a multiple at τ have few letters
 pub multiple_fits : (s : Setting) (e : Entry) (τ : Monomial) (u v l : Word) → IsUsable s e → IsUsableSignature s τ → times u e.signature v ≡ τ → leading s.prime e.polynomial ≡ l → word_weight u + word_weight l + word_weight v ≤ 200000
 multiple_fits s e τ u v l usable limit spells lead = omega (arith, limit.limited, ap (degree s) spells, degree-times (generator_weight s) u v e.signature, usable.light (leading s.prime e.polynomial) (usable_lead s e usable).nonzero, ap word_weight lead)
 
-pub few_fit : (u v l : Word) → word_weight u + word_weight l + word_weight v ≤ 200000 → length u + length l + length v ≤ 200000
-few_fit u v l h = omega (arith, h, length_at_most u, length_at_most l, length_at_most v)
-
 module _ (s : Setting) (entries : List Entry) (τ : Monomial) where
   -- the multiple of an entry that is read
   pub at_found : (n : ℕ) (e : Entry) (b : Best) → n < length entries → e ≡ get_or entries n e → times b.left e.signature b.right ≡ τ → b.word ≡ b.left ++ (leading s.prime e.polynomial ++ b.right) → b.number ≡ n + 1 → IsAt s entries τ n (Some b)
   at_found n e b h is signed spells m = (record { entry = e; listed = (n, h, sym is); left = b.left; right = b.right; spells = sym spells }, signed, refl, refl, sym m, refl)
-
-  pub at_none : (n : ℕ) (e : Entry) → n < length entries → e ≡ get_or entries n e → ¬ Divides e.signature τ → IsAt s entries τ n None
-  at_none n e h is none w d signed i = none (d.left, d.right, ap (λ (x : Entry). times d.left x.signature d.right) (listed_same entries e d.entry (n, h, sym is) d.listed (sym i)) ∙ signed)
 
   one_word : (w v : Word) (d : Divisor s entries w) (e : Divisor s entries v) → signature_at s entries w d ≡ τ → signature_at s entries v e ≡ τ → d.listed.0 ≡ e.listed.0 → w ≡ v
   one_word w v d e i j k = (one_multiple s entries τ w v d e i j k).0
@@ -101,24 +85,3 @@ module _ (s : Setting) (entries : List Entry) (τ : Monomial) where
         pick : (c : Bool) → is_lt (compare_words b.word a.word) ≡ c → IsBestIn s entries new (cond c (Some b) (Some a))
         pick true i = (q.0, x.here b.word q.0 q.1 q.2, λ v e m. newer (word_less_sound b.word a.word i) v e m (x.either v e m), q.3, q.4, q.5)
         pick false i = (p.0, x.more a.word p.0 p.1, λ v e m. older (λ l. false≢true (sym i ∙ word_less_complete b.word a.word l)) v e m (x.either v e m), p.3, p.4, p.5)
-
-  pub best_step : (n : ℕ) (best next : Option Best) → IsBestOf s entries τ n best → IsAt s entries τ n next → IsBestOf s entries τ (n + 1) (best_of best next)
-  best_step n = better_step n (λ w d. (signature_at s entries w d ≡ τ) × (d.listed.0 < n)) (λ w d. (signature_at s entries w d ≡ τ) × (d.listed.0 < n + 1)) (record {
-    signed = λ w d m. m.0;
-    earlier = λ w d m. m.1;
-    more = λ w d m. (m.0, omega (arith, m.1));
-    here = λ w d i k. (i, omega (arith, k));
-    either = λ w d m. go w d m (nat_order d.listed.0 n);
-  })
-    where
-      go : (w : Word) (d : Divisor s entries w) → (signature_at s entries w d ≡ τ) × (d.listed.0 < n + 1) → (d.listed.0 < n) ⊎ ((d.listed.0 ≡ n) ⊎ (n < d.listed.0)) → ((signature_at s entries w d ≡ τ) × (d.listed.0 < n)) ⊎ (d.listed.0 ≡ n)
-      go w d m (inl k) = inl (m.0, k)
-      go w d m (inr (inl k)) = inr k
-      go w d m (inr (inr k)) = absurd (omega (arith, m.1, k))
-
-  pub best_start : IsBestOf s entries τ 0 None
-  best_start w d m = omega (arith, m.1)
-
-  pub best_end : (n : ℕ) (best : Option Best) → length entries ≤ n → IsBestOf s entries τ n best → IsBest s entries τ best
-  best_end n None h p = λ w m. p w m.divisor (m.signed, omega (arith, h, m.divisor.listed.1))
-  best_end n (Some b) h p = (p.0, record { signed = p.1.0; least = λ v e j. p.2 v e (j, omega (arith, h, e.listed.1)) }, p.3, p.4, p.5)

@@ -7,31 +7,26 @@
 use Rattle.nc_algebra.proofs.Degrees.{degree_within, labelled_limited}
 use Rattle.nc_algebra.proofs.Ranks.{over_letters}
 use Rattle.nc_algebra.proofs.Sums.{zero_number}
-use Rattle.nc_algebra.specs.Elements.{Element, IsGenerator, IsLabelled, IsLess, IsZeroPolynomial, Setting, WordsAre, degree, generator}
+use Rattle.nc_algebra.specs.Elements.{Element, IsLabelled, IsLess, IsZeroPolynomial, Setting, WordsAre, generator}
 use Rattle.nc_algebra.specs.Finite.{AreLetters, IsOver}
-use Rattle.nc_algebra.specs.Monomials.{Monomial, unit_monomial}
+use Rattle.nc_algebra.specs.Monomials.{Monomial}
 use Rattle.nc_algebra.specs.Polynomials.{IsNormal}
 use Rattle.nc_algebra.specs.Primes.{IsField}
 use Rattle.nc_algebra.specs.Problems.{IsWithin, Problem, bound_degree}
 use Rattle.nc_algebra.specs.Settings.{IsSetting, NamedSetting}
 use Rattle.nc_algebra.specs.Words.{Word}
 use Rattle.nc_search.proofs.Letters.{generator_over, letter_of}
-use Rattle.nc_search.specs.Ends.{IsHandled}
 use Rattle.nc_search.specs.Named.{letters_of}
-use Rattle.nc_search.specs.Nexts.{IsNextOf}
 use Rattle.nc_search.specs.Usable.{IsUsable, IsUsableSignature}
 use Rattle.nc_theory.proofs.Completeness.{invariant}
-use Rattle.nc_theory.proofs.Counting.{counts}
 use Rattle.nc_theory.proofs.Normal.{kept_normal}
 use Rattle.nc_theory.proofs.Rebuilding.{rebuilt}
 use Rattle.nc_theory.proofs.Steps.{candidate_over, run_over, syzygies_are}
-use Rattle.nc_theory.specs.Ambiguities.{Ambiguity}
-use Rattle.nc_theory.specs.Divisors.{Multiple}
 use Rattle.nc_theory.specs.Letters.{AreOver}
 use Rattle.nc_theory.specs.Rebuilding.{Rebuilds}
-use Rattle.nc_theory.specs.Runs.{End, IsCandidate, IsEnd, IsNext, SequentialRun}
+use Rattle.nc_theory.specs.Runs.{IsCandidate, SequentialRun}
 use Rattle.nc_theory.specs.States.{Entry, State, Syzygy}
-use Rattle.std.proofs.Common.{Contains, List, None, Option, Some, add-one, arith, get_or, inl, inr, length, subst, suc, sym, ℕ, ◌+◌, ◌<◌, ◌≡◌, ◌≤◌, ◌⊎◌}
+use Rattle.std.proofs.Common.{Contains, List, Option, arith, get_or, length, subst, sym, ℕ, ◌<◌, ◌≡◌, ◌≤◌}
 use Rattle.std.proofs.lemmas.List.Elements.{Contains-append_left}
 use Rattle.std.proofs.lemmas.List.{get_or_default}
 use Rattle.std.specs.List.{All}
@@ -74,9 +69,6 @@ module _ (s : NamedSetting) (setting : IsSetting s) (prime_field : IsField s.set
   pub run_usable : All (IsUsable P.setting) state.entries
   run_usable k e l = entry_usable (get_or state.entries k e) (listed k e l)
 
-  pub run_short : All (λ e. degree P.setting e.signature ≤ 100000) state.entries
-  run_short k e l = omega (arith, limit, degree_within P.setting P.bound (get_or state.entries k e).signature ((invariant P field run).within (get_or state.entries k e) (listed k e l)).1)
-
   pub signature_usable : (σ : Monomial) → IsWithin P σ → IsOver (letters_of s.alphabet) σ.left × IsOver (letters_of s.alphabet) σ.right → IsUsableSignature P.setting σ
   signature_usable σ within o = record { limited = omega (arith, limit, degree_within P.setting P.bound σ within.1); left = letters σ.left o.0; right = letters σ.right o.1 }
 
@@ -92,45 +84,3 @@ module _ (s : NamedSetting) (setting : IsSetting s) (prime_field : IsField s.set
     signature_usable h.signature (syzygies_are P (IsWithin P) (λ k before since r σ d. d.0) run h k)
         (syzygies_are P (λ σ. IsOver (letters_of s.alphabet) σ.left × IsOver (letters_of s.alphabet) σ.right) (λ k before since r. candidate_over P field (letters_of s.alphabet) inputs before (invariant P field r).sound.nonzero (run_over P field (letters_of s.alphabet) inputs r)) run h k),
   )
-
-  pub run_counted : state.covered + state.settled ≤ n
-  run_counted = omega (arith, counts P run)
-
-  -- what the search for the next signature found
-  module _ (before : Option Monomial) (is_last : before ≡ last) (found : Option Monomial) (known : IsNextOf P state before found) where
-    answer : IsNextOf P state last found
-    answer = subst (λ l. IsNextOf P state l found) is_last known
-
-    pub none_ends : n ≤ P.steps → found ≡ None → IsEnd P n state End.complete
-    none_ends h is = IsEnd.is_complete h run (subst (IsNextOf P state last) is answer)
-
-    -- what handling it asks is said of the setting itself
-    module _ (τ : Monomial) (is : found ≡ Some τ) where
-      next : IsNext P state last τ
-      next = subst (IsNextOf P state last) is answer
-
-      pub next_ends : n ≡ P.steps → IsEnd P n state (End.budget τ)
-      next_ends e = IsEnd.is_budget e run τ next
-
-      pub next_entries : All (IsUsable s.setting) state.entries
-      next_entries = subst (λ (t : Setting). All (IsUsable t) state.entries) same run_usable
-
-      pub next_usable : IsUsableSignature s.setting τ
-      next_usable = subst (λ (t : Setting). IsUsableSignature t τ) same (candidate_usable τ next.candidate)
-
-      pub next_generator : IsGenerator s.setting τ.generator
-      next_generator = subst (λ (t : Setting). IsGenerator t τ.generator) same next.candidate.0.0
-
-      pub next_source : ((i : ℕ) × (τ ≡ unit_monomial i)) ⊎ ((w : Word) × Multiple s.setting state.entries τ w)
-      next_source = go next.candidate.1
-        where
-          go : ((i : ℕ) × (τ ≡ unit_monomial i)) ⊎ ((w : Word) × Ambiguity P.setting state.entries τ w) → ((i : ℕ) × (τ ≡ unit_monomial i)) ⊎ ((w : Word) × Multiple s.setting state.entries τ w)
-          go (inl u) = inl u
-          go (inr (w, a)) = inr (w, subst (λ (t : Setting). Multiple t state.entries τ w) same (record { divisor = a.high; signed = a.signed }))
-
-      -- its outcome makes one step more
-      pub next_handled : (later : State) → IsHandled s.setting state τ later → SequentialRun P (n + 1) later (Some τ)
-      next_handled later h = go (subst (λ (t : Setting). IsHandled t state τ later) (sym same) h)
-        where
-          go : IsHandled P.setting state τ later → SequentialRun P (n + 1) later (Some τ)
-          go (o, k, e) = subst (λ m. SequentialRun P m later (Some τ)) (sym (add-one n)) (subst (λ t. SequentialRun P (suc n) t (Some τ)) (sym e) (SequentialRun.handled run τ next o k))

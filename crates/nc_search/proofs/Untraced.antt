@@ -62,9 +62,6 @@ module _ (s : Setting) (es es' : List Entry) (w : Word) (d : Divisor s es w) (d'
   pub same_multiple : multiple_at s es w d ≡ multiple_at s es' w d'
   same_multiple = λ i. polynomial_times (same.left i) (same.polynomial i) (same.right i)
 
-  pub same_leading : leading_at s es w d ≡ leading_at s es' w d'
-  same_leading = ap (leading s.prime) same.polynomial
-
   pub other_side : IsSameDivisor s es' es w d' d
   other_side = record { number = sym same.number; left = sym same.left; right = sym same.right; signature = sym same.signature; polynomial = sym same.polynomial }
 

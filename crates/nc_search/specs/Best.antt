@@ -10,7 +10,7 @@ use Rattle.nc_search.specs.Found.{Best}
 use Rattle.nc_theory.specs.Divisors.{Divisor, IsBestMultiple, Multiple, number_of, signature_at}
 use Rattle.nc_theory.specs.States.{Entry}
 use Rattle.std.specs.Ordering.{is_lt}
-use Rattle.std.specs.Prelude.{List, None, Option, Some, cond, ℕ, ◌<◌, ◌≡◌, ◌≤◌, ◌⊎◌}
+use Rattle.std.specs.Prelude.{List, None, Option, Some, cond, ℕ, ◌≡◌, ◌≤◌, ◌⊎◌}
 
 -- the multiple of one entry with signature τ
 abbrev pub IsAt : (s : Setting) → List Entry → Monomial → ℕ → Option Best → Type 0
@@ -24,10 +24,6 @@ IsBestIn s entries set (Some b) =
     (d : Divisor s entries b.word) × set b.word d
     × ((v : Word) (e : Divisor s entries v) → set v e → IsWordLess b.word v ⊎ ((b.word ≡ v) × (number_of s entries b.word d ≤ number_of s entries v e)))
     × (d.left ≡ b.left) × (number_of s entries b.word d ≡ b.number) × (d.right ≡ b.right)
-
--- the best multiple of the first n entries
-abbrev pub IsBestOf : (s : Setting) → List Entry → Monomial → ℕ → Option Best → Type 0
-IsBestOf s entries τ n = IsBestIn s entries (λ w d. (signature_at s entries w d ≡ τ) × (d.listed.0 < n))
 
 -- the best multiple with signature τ, and None exactly where there is no multiple
 abbrev pub IsBest : (s : Setting) → List Entry → Monomial → Option Best → Type 0

@@ -7,11 +7,6 @@
 use Rattle.nc_algebra.specs.Words.{Word}
 use Rattle.std.specs.Prelude.{ℕ}
 
--- what stands before and behind a place
-pub record Around : Type 0 where
-  pub left : Word
-  pub right : Word
-
 -- a divisor of a word: the number of its entry, counted from 1, and what stands around it
 pub record Chosen : Type 0 where
   pub left : Word

@@ -6,8 +6,6 @@ pub mod Best
 pub mod Covers
 pub mod Outcomes
 pub mod Meetings
-pub mod Nexts
-pub mod Ends
 pub mod Untraced
 pub mod Bases
 pub mod Named

@@ -35,6 +35,10 @@ pub record MeetAt (s : Setting) (e f : Entry) (k : ℕ) (ρ : Monomial) : Type 0
   pub some : 0 < k + length (leading s.prime f.polynomial)
   pub greater : IsGreaterOf s (times [] e.signature behind_first) (times before f.signature behind_second) ρ
 
+-- a signature where the leading word of f begins within that of e
+abbrev pub MeetSomewhere : Setting → Entry → Entry → Monomial → Type 0
+MeetSomewhere s e f σ = (k : ℕ) × MeetAt s e f k σ
+
 -- the one monomial with the property, and None exactly where there is none
 abbrev pub IsOnly : (Monomial → Type 0) → Option Monomial → Type 0
 IsOnly set None = (σ : Monomial) → ¬ set σ

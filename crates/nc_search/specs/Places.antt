@@ -5,29 +5,12 @@
 -- multiple has a signature below τ; σ is the signature of the entry with leading word v. The places
 -- of a word count from 0, the numbers of entries from 1.
 use Rattle.nc_algebra.specs.Elements.{IsLess, Setting}
-use Rattle.nc_algebra.specs.Monomials.{Divides, Monomial, times}
+use Rattle.nc_algebra.specs.Monomials.{Monomial}
 use Rattle.nc_algebra.specs.Words.{Word}
-use Rattle.nc_search.specs.Found.{Around, Chosen}
+use Rattle.nc_search.specs.Found.{Chosen}
 use Rattle.nc_theory.specs.Divisors.{Divisor, IsChosenDivisor, RegularDivisor, number_of, signature_at}
 use Rattle.nc_theory.specs.States.{Entry}
-use Rattle.std.specs.Prelude.{List, None, Option, Some, length, ℕ, ◌++◌, ◌≡◌, ◌≤◌}
-
--- what stands around v in w, after so many letters
-abbrev pub IsPlace : Word → Word → ℕ → Option Around → Type 0
-IsPlace v w at None = (x y : Word) → x ++ (v ++ y) ≡ w → ¬ (length x ≡ at)
-IsPlace v w at (Some a) = (a.left ++ (v ++ a.right) ≡ w) × (length a.left ≡ at)
-
--- there, with a signature below τ
-abbrev pub IsRegularPlace : Setting → Monomial → Word → Monomial → Word → ℕ → Option Around → Type 0
-IsRegularPlace s σ v τ w at None = (x y : Word) → x ++ (v ++ y) ≡ w → length x ≡ at → ¬ IsLess s (times x σ y) τ
-IsRegularPlace s σ v τ w at (Some a) = (a.left ++ (v ++ a.right) ≡ w) × (length a.left ≡ at) × IsLess s (times a.left σ a.right) τ
-
--- the leftmost such place
-abbrev pub IsFirstPlace : Setting → Monomial → Word → Monomial → Word → Option Around → Type 0
-IsFirstPlace s σ v τ w None = (x y : Word) → x ++ (v ++ y) ≡ w → ¬ IsLess s (times x σ y) τ
-IsFirstPlace s σ v τ w (Some a) =
-    (a.left ++ (v ++ a.right) ≡ w) × IsLess s (times a.left σ a.right) τ
-    × ((x y : Word) → x ++ (v ++ y) ≡ w → IsLess s (times x σ y) τ → length a.left ≤ length x)
+use Rattle.std.specs.Prelude.{List, None, Option, Some, ◌≡◌}
 
 -- the chosen divisor among those with a signature in the set, and None exactly where there is none
 abbrev pub IsChoiceOf : Setting → List Entry → (Monomial → Type 0) → Word → Option Chosen → Type 0
@@ -38,8 +21,3 @@ IsChoiceOf s entries set w (Some c) = (d : Divisor s entries w) × IsChosenDivis
 abbrev pub IsChoice : Setting → List Entry → Monomial → Word → Option Chosen → Type 0
 IsChoice s entries τ w None = ¬ RegularDivisor s entries τ w
 IsChoice s entries τ w (Some c) = IsChoiceOf s entries (λ σ. IsLess s σ τ) w (Some c)
-
--- the words around a divisor of a monomial
-abbrev pub IsQuotient : Monomial → Monomial → Option Around → Type 0
-IsQuotient σ τ None = ¬ Divides σ τ
-IsQuotient σ τ (Some a) = times a.left σ a.right ≡ τ

@@ -3,7 +3,7 @@
 -- The set has the signatures that a multiple may have: those below τ in a run, those within the
 -- bound for a claim. Code keeps the polynomial in normal form from turn to turn, which `Reduction`
 -- does not ask. So the new polynomial of a turn is a normal form here.
-use Rattle.nc_algebra.specs.Elements.{IsLeadingWord, IsLess, Setting}
+use Rattle.nc_algebra.specs.Elements.{IsLeadingWord, Setting}
 use Rattle.nc_algebra.specs.Monomials.{Monomial}
 use Rattle.nc_algebra.specs.Polynomials.{Polynomial, coefficient, leading, normal_form}
 use Rattle.nc_algebra.specs.Sums.{Term, minus}
@@ -11,10 +11,6 @@ use Rattle.nc_algebra.specs.Words.{Word}
 use Rattle.nc_theory.specs.Divisors.{Divisor, IsChosenDivisor, multiple_at, number_of, signature_at}
 use Rattle.nc_theory.specs.States.{Entry, Step}
 use Rattle.std.specs.Prelude.{List, [], ◌%◌, ◌*◌, ◌<◌, ◌∷◌, ◌≡◌}
-
--- the monomials below τ: reduction at τ is by multiples with these
-abbrev pub IsBelow : Setting → Monomial → Monomial → Type 0
-IsBelow s τ = λ σ. IsLess s σ τ
 
 -- the greatest word was taken off by the step, whose divisor is the chosen one of the set
 pub record IsSubtracted (s : Setting) (entries : List Entry) (set : Monomial → Type 0) (old new : Polynomial) (step : Step) : Type 0 where

@@ -15,9 +15,6 @@ use Rattle.nc_theory.specs.States.{Entry, Step}
 use Rattle.std.proofs.Common.{List, [], append-nil, append_assoc, inl, inr, subst, subst₂, sym, ℕ, ◌%◌, ◌*◌, ◌++◌, ◌<◌, ◌∷◌, ◌≡◌, ◌⊎◌}
 
 module _ (s : Setting) (entries : List Entry) (set : Monomial → Type 0) (f kept : Polynomial) (steps : List Step) (h : Polynomial) where
-  pub reduced_start : ReducedTo s entries set f [] [] f
-  reduced_start more last r = r
-
   pub reduced_subtract : ReducedTo s entries set f kept steps h → (w : Word) → IsLeadingWord s h w → (d : Divisor s entries w) → IsChosenDivisor s entries set w d → (c : ℕ) → c < s.prime → c * coefficient d.entry.polynomial (leading s.prime d.entry.polynomial) % s.prime ≡ coefficient h w % s.prime → ReducedTo s entries set f kept (steps ++ (record { coefficient = c; left = d.left; number = number_of s entries w d; right = d.right } ∷ [])) (minus s.prime h c (multiple_at s entries w d))
   reduced_subtract to w l d chosen c small q more last r = subst (Reduction s entries set f (kept ++ more)) (sym (append_assoc steps (record { coefficient = c; left = d.left; number = number_of s entries w d; right = d.right } ∷ []) last)) (to more (record { coefficient = c; left = d.left; number = number_of s entries w d; right = d.right } ∷ last) (Reduction.subtract w l d chosen c small q r))
 

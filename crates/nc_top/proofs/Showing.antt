@@ -48,10 +48,6 @@ module _ (s : Snapshot) (h : IsSnapshot s) where
   pub trace_in : (listed : Listed) (t : Trace) → HasTrace s.problem.problem s.handled listed t → (run : State) → IsRunAt s run → IsTraceIn run listed t
   trace_in listed t has run a = subst (λ (r : State). IsTraceIn r listed t) (one_run has.run run (has.last, has.runs) a) has.is
 
-  -- so what is shown of the one is what is shown of the other
-  pub same_trace : (listed : Listed) (t : Trace) → HasTrace s.problem.problem s.handled listed t → (run : State) (t' : Trace) → IsRunAt s run → IsTraceIn run listed t' → t ≡ t'
-  same_trace listed t has run t' a is = trace_once run listed t t' (trace_in listed t has run a) is
-
   -- ---- letters
 
   cofactors_over : (run : State) → IsRunAt s run → (listed : Listed) →

@@ -1,5 +1,5 @@
 use Rattle.nc_overlap.specs.Overlaps.{Adds, IsLedBy}
-use Rattle.nc_search.proofs.Nexts.{Before}
+use Rattle.nc_search.proofs.Indexed.{Before}
 use Rattle.nc_search.specs.Meetings.{MeetAt}
 use Rattle.nc_theory.specs.States.{Entry}
 use Rattle.std.proofs.Common.{map}
