@@ -26,7 +26,6 @@ module _ (s : Setting) where
   length-values_after values [] = omega arith
   length-values_after values (line ∷ lines) = omega (arith, length-values_after (values ++ line_value s values line ∷ []) lines, length_push values (line_value s values line))
 
-  unfolding reaches_after
   -- the value of the last line, over those before it
   pub last_value : (lines : List Line) (line : Line) → lines_value s (lines ++ line ∷ []) ≡ line_value s (values_of s lines) line
   last_value lines line =

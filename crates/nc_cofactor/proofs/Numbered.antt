@@ -26,8 +26,6 @@ pub record IsNumberedTo (all stack : List (Option Trace)) (number : ℕ) (number
   pub sound : (k : ℕ) (t : Trace) → Contains numbered (k, t) → (1 ≤ k) × (k ≤ number) × (slice_get all (length all - k) ≡ Some (Some t))
   pub complete : (k : ℕ) (t : Trace) → 1 ≤ k → k ≤ number → slice_get all (length all - k) ≡ Some (Some t) → Contains numbered (k, t)
 
-})
-
 module _ (all stack rest : List (Option Trace)) (o : Option Trace) (number : ℕ) (numbered : List (ℕ × Trace)) (h : IsNumberedTo all stack number numbered) (popped : stack ≡ rest ++ o ∷ []) where
   height : length rest + (number + 1) ≡ length all
   height = omega (arith, h.height, ap length popped, length-append rest (o ∷ []))

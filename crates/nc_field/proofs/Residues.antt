@@ -1,7 +1,11 @@
 -- Sums and products of residues.
-use Rattle.std.proofs.Common.{◌≡◌, ℕ, ◌+◌, ◌-◌, ◌*◌, ◌%◌, ◌<◌, sym, ap, ◌∙◌, arith}
+use Rattle.std.proofs.Common.{◌≡◌, ℕ, ◌+◌, ◌-◌, ◌*◌, ◌%◌, ◌^◌, ◌<◌, sym, ap, ◌∙◌, arith}
 use Rattle.std.proofs.Math.Nat.{add-mul-mod_self_left, mod-add-mod}
-use Rattle.std.proofs.lemmas.Nat.{mul-mod_second}
+use Rattle.std.proofs.lemmas.Nat.{mul-lt, mul-mod_second}
+
+-- the product of two residues fits in 32 bits
+pub product_fits : (a b : ℕ) → a < 65536 → b < 65536 → a * b < 2 ^ 32
+product_fits a b h k = omega (arith, mul-lt a b 65536 65536 h k)
 
 pub same_add : (p x y z : ℕ) → x % p ≡ y % p → (x + z) % p ≡ (y + z) % p
 same_add p x y z e = sym (mod-add-mod x p z) ∙ ap (λ n. (n + z) % p) e ∙ mod-add-mod y p z

@@ -73,5 +73,3 @@ same_subtracted_from p c u v old kept items g small same is =
     (same-trans same_word p (kept ++ multiples_of p ((p - c) % p) u g v) (old ++ multiples_of p ((p - c) % p) u g v) (minus p old c (polynomial_times u g v))
     (same-append same_word p kept old (multiples_of p ((p - c) % p) u g v) (multiples_of p ((p - c) % p) u g v) same (same-refl same_word p (multiples_of p ((p - c) % p) u g v)))
     (same_subtracted p c u v old g small))
-
-unfolding normal_form

@@ -1,4 +1,3 @@
-pub mod Orders
 pub mod Places
 pub mod Products
 pub mod Small
@@ -9,7 +8,6 @@ pub mod Covers
 pub mod Turns
 pub mod Runs
 pub mod Handling
-pub mod Tested
 pub mod Meetings
 pub mod Ambiguities
 pub mod Indexed

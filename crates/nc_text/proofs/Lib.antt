@@ -2,6 +2,7 @@ pub mod Shorter
 pub mod Words
 pub mod Letters
 pub mod Polynomials
+pub mod Nonzero
 pub mod ReadWords
 pub mod ReadRows
 pub mod ReadCertificates

@@ -1,3 +1,0 @@
--- What tests of the terms of a polynomial say of its words.
-
-}
