@@ -2,8 +2,7 @@
 -- handled.
 -- Entries are in normal form and not zero, by the invariants of the run. Their words weigh at most
 -- the degree of their signatures, since they have labels, and are over the letters of the setting
--- (`run_usable`). What the search for the next signature found can be handled (`next_usable`), and
--- its outcome makes one step more (`next_handled`).
+-- (`run_usable`). Each candidate can be handled (`candidate_usable`).
 use Rattle.nc_algebra.proofs.Degrees.{degree_within, labelled_limited}
 use Rattle.nc_algebra.proofs.Ranks.{over_letters}
 use Rattle.nc_algebra.proofs.Sums.{zero_number}

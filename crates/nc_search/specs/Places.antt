@@ -1,9 +1,7 @@
 -- What a search for a divisor finds: a place of a word in a word.
 --
--- `IsPlace` and `IsRegularPlace` speak of one entry at one place, `IsFirstPlace` of one entry at
--- all places, and `IsChoiceOf` and `IsChoice` of all entries. A regular place is one where the
--- multiple has a signature below τ; σ is the signature of the entry with leading word v. The places
--- of a word count from 0, the numbers of entries from 1.
+-- A divisor is regular if its multiple has a signature below τ. Of several, the search chooses the
+-- one of the earliest entry, and of that entry's the leftmost. Entries count from 1.
 use Rattle.nc_algebra.specs.Elements.{IsLess, Setting}
 use Rattle.nc_algebra.specs.Monomials.{Monomial}
 use Rattle.nc_algebra.specs.Words.{Word}
