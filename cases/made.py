@@ -1,11 +1,11 @@
-"""The texts that are too long to stand in a file of cases. Each function makes one of the numbers that it is given:
+"""The texts that are too long to stand in a file of cases. Each function makes one out of the numbers that it is given:
 `input made NAME NUMBER ..` in a case stands for its bytes."""
 
 # The most bytes that a text may have, and the most charges that a certificate may ask for.
 MOST_BYTES = 16_777_216
 MOST_CHARGES = 100_000_000
 
-# What stands behind a text that has no fault before it: the rows of `after_the_generators` and of `after_a_long_line`.
+# What stands behind the text of `after_the_generators`, and behind that of `after_a_long_line`.
 ENDS_OF_MANY = ["claim 0\nend\n", "generator z\n", "generator 0\n", "generator 9999999999999999999\n", "generator x \x07\n", "generators\n"]
 ENDS_OF_LONG = [
     "line\npart 1 x^19 {197} x^19\n",
@@ -16,6 +16,7 @@ ENDS_OF_LONG = [
     "line\npart 1 x^39 {197} 1 \x07\n",
     "line\npart 1 x^38 {197} 1\npart 1 1 [1] 1\nline\npart 1 x {198} 1\n",
     "line\npart 1 1 [1] 1\npart 1 x^38 {197} 1\nline\npart 1 x {198} 1\n",
+    "line\npart 1 x^20 {197} x^19",
 ]
 
 
@@ -55,8 +56,15 @@ def counted_problem(letters, generators):
     return f"{head(letters, generators)}bound degree 0\nclaim x0\n".encode()
 
 
+def generators_alone(form, count, feeds):
+    """A text that ends in so many generators, with so many line feeds behind the last one: a certificate of this form, or a
+    problem where that is 0."""
+    first = f"certificate {form}\n" if form else ""
+    return (first + head(1, count)).encode()[:-1] + b"\n" * feeds
+
+
 def after_the_generators(row):
-    """A certificate that has 1,000 generators, and then this row of the first table above."""
+    """A certificate that has 1,000 generators, and then this row of ENDS_OF_MANY."""
     return ("certificate 2\nfield 101\nletters x\n" + "generator x\n" * 1000 + ENDS_OF_MANY[row]).encode()
 
 
@@ -84,8 +92,8 @@ def reach(more):
 
 
 def after_a_long_line(row):
-    """A certificate whose line 197 reaches 99,962 letters, and then this row of the second table above. Line 1 reaches 2, as
-    far as the longest word of the generator, and each further one 510 letters further."""
+    """A certificate whose line 197 reaches 99,962 letters, and then this row of ENDS_OF_LONG. Line 1 reaches 2, as far as
+    the longest word of the generator, and each further one 510 letters further."""
     text = "certificate 2\nfield 101\nletters x y\nweights 1 2\ngenerator y - x*x\nclaim 0\nline\npart 1 1 [1] 1\n"
     for line in range(1, 197):
         text += f"line\npart 1 x^255 {{{line}}} x^255\n"
