@@ -5,7 +5,6 @@ pub mod Differences
 pub mod Values
 pub mod Rests
 pub mod Letters
-pub mod Tested
 pub mod Sizes
 pub mod Spending
 pub mod Charges

@@ -4,8 +4,6 @@
 mod charge;
 mod checking;
 mod taking;
-#[cfg(test)]
-mod tests;
 mod value;
 
 pub use checking::{MAX_CHARGE, Verdict, check, limit_law};

@@ -6,6 +6,3 @@ mod chunks;
 mod owners;
 
 pub use chunks::Chunks;
-
-#[cfg(test)]
-mod tests;

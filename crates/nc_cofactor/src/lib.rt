@@ -14,8 +14,6 @@ mod labels;
 mod rebuilds;
 mod sum;
 mod sweep;
-#[cfg(test)]
-mod tests;
 mod trace;
 
 pub use alphabet::cofactors_are_over;

@@ -8,6 +8,3 @@ mod trivial;
 
 pub use multiple::{Multiple, best_multiple, best_multiple_law};
 pub use syzygy::syzygy_divides;
-
-#[cfg(test)]
-mod tests;

@@ -10,6 +10,3 @@ mod step;
 pub use desk::{Counts, Desk};
 pub use finished::{End, Finished};
 pub use handling::handle;
-
-#[cfg(test)]
-mod tests;

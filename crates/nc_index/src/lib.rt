@@ -16,6 +16,3 @@ pub fn leads_law()
 {
     nc_algebra::sig_law();
 }
-
-#[cfg(test)]
-mod tests;

@@ -6,8 +6,6 @@ mod memory_source;
 mod sinks;
 mod sources;
 mod standard;
-#[cfg(test)]
-mod tests;
 mod whole;
 
 pub use memory_sink::MemorySink;

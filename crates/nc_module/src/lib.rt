@@ -8,8 +8,6 @@ mod module;
 mod name;
 mod problem;
 mod setting;
-#[cfg(test)]
-mod tests;
 
 pub use alphabet::{Alphabet, has_name};
 pub use certificate::Certificate;

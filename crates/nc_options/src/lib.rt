@@ -9,8 +9,6 @@ mod fit;
 mod options;
 mod read;
 mod split;
-#[cfg(test)]
-mod tests;
 mod values;
 
 pub use error::OptionsError;

@@ -1,8 +1,5 @@
 //! The search for the ambiguities of a new entry.
 
-#[cfg(test)]
-mod tests;
-
 ghost use Rattle.nc_algebra.specs.Elements.{HasDegree};
 ghost use Rattle.nc_algebra.specs.Monomials.{compare_sigs, monomial_of};
 ghost use Rattle.nc_algebra.specs.Problems.{IsWithin};

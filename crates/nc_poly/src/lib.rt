@@ -8,8 +8,6 @@ mod multiple;
 mod poly;
 mod sum;
 mod term;
-#[cfg(test)]
-mod tests;
 
 pub use accumulator::Accumulator;
 pub use heap::Heap;

@@ -7,8 +7,6 @@ mod monomial;
 mod polynomial;
 mod setting;
 mod terms;
-#[cfg(test)]
-mod tests;
 
 pub use certificate::{write_certificate, write_proof};
 pub use module::write_module;

@@ -2,8 +2,6 @@
 #![tactic(auto)]
 
 mod sets;
-#[cfg(test)]
-mod tests;
 mod waiting;
 
 pub use waiting::Waiting;

@@ -8,6 +8,3 @@ mod step;
 mod turn;
 
 pub use reduction::{Reduced, Rest, reduce, reduce_within};
-
-#[cfg(test)]
-mod tests;

@@ -5,8 +5,6 @@ mod entry;
 mod found;
 mod outcome;
 mod snapshot;
-#[cfg(test)]
-mod tests;
 mod trace;
 
 pub use entry::{Entry, Syzygy};

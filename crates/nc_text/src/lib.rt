@@ -11,8 +11,6 @@ mod problem;
 mod rows;
 mod setting;
 mod sides;
-#[cfg(test)]
-mod tests;
 mod word;
 
 pub use certificate::{MAX_BYTES, read_certificate};

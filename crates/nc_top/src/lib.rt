@@ -38,6 +38,3 @@ pub fn complete_runs()
 pub fn complete_members()
     ensures { CompleteMembers }
 {}
-
-#[cfg(test)]
-mod tests;

@@ -22,35 +22,3 @@ impl Word {
         None
     }
 }
-
-#[cfg(test)]
-mod tests {
-    use super::*;
-    use std::test::Fail;
-
-    #[test]
-    fn factors_have_places(rt: HostRuntime) -> Result<(), Fail> {
-        let x = Letter::of(0, 1).ok_or("no such letter")?;
-        let y = Letter::of(1, 1).ok_or("no such letter")?;
-        let heavy = Letter::of(0, 2).ok_or("no such letter")?;
-        let word = [x, y, x, y, x];
-        let cases: [(&[Letter], usize, Option<usize>); 12] = [
-            (&[x, y, x], 0, Some(0)),
-            (&[x, y, x], 1, Some(2)),
-            (&[x, y, x], 3, None),
-            (&[x], 4, Some(4)),
-            (&[x], 5, None),
-            (&[y, y], 0, None),
-            (&[heavy], 0, None),
-            (&word, 0, Some(0)),
-            (&[x, y, x, y, x, y], 0, None),
-            (&[], 3, Some(3)),
-            (&[], 5, Some(5)),
-            (&[], 6, None),
-        ];
-        for (factor, from, want) in cases {
-            assert!(rt; Word::place_of(&word, factor, from) == want);
-        }
-        Ok(())
-    }
-}

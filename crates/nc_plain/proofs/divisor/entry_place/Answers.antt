@@ -1,5 +1,0 @@
-use Rattle.std.proofs.Common.{sym}
-use Rattle.nc_plain.proofs.divisor.entry_place.Goals as goal
-
-pub returns : goal.returns
-returns c = rw (sym (c.lead.ensures c.args.setting.now.setting.prime c.requires.usable.normal), ← c.signature.ensures) c.first_place.ensures
