@@ -1,16 +1,18 @@
 -- The rows that `clap` keeps of uses, and what one more use does to them.
-use Rattle.std.proofs.Common.{◌≡◌, ◌∙◌, ◌&&◌, Bool, cond, true, false, refl, ap, List, [], ◌∷◌, ◌++◌, Some, None, append-nil}
+use Rattle.std.proofs.Common.{◌≡◌, ◌∙◌, ◌&&◌, ◌||◌, ℕ, Bool, cond, true, false, refl, ap, List, [], ◌∷◌, ◌++◌, Option, Some, None, append-nil}
 use Rattle.std.specs.Prelude.{find, option_map, option_and_then, slice_get, if◌then◌else◌}
 use Rattle.std.specs.Str.{bytes_eq}
-use Rattle.clap.specs.Walk.{Row, used, at_row, more_values, first_of}
+use Rattle.clap.specs.Walk.{Row, used, at_row, more_values, has_row, first_of}
 use Rattle.clap.specs.Kinds.{or_else}
 use Rattle.clap.specs.Faults.{use_fault}
 use Rattle.clap.specs.declared.builder.value_parser.Reading.TheVariants.{AsWritten}
 use Rattle.clap.specs.declared.parser.matches.ValueSource.TheVariants.{CommandLine}
 use Rattle.clap.specs.declared.error.kind.ErrorKind.TheVariants as kind
+use Rattle.std.proofs.lemmas.Bool.{or_parts}
 use Rattle.nc_command.specs.Pieces.{Text}
 use Rattle.nc_command.specs.Uses.{Use, value_of}
 use Rattle.nc_command.proofs.Tables.{usual_rule}
+use Rattle.nc_command.proofs.Distinct.{has_name}
 
 abbrev pub row_for : Use → Row
 row_for u = record { id = u.0; values = u.1 ∷ []; count = None; source = Some CommandLine; reading = AsWritten }
@@ -18,6 +20,10 @@ row_for u = record { id = u.0; values = u.1 ∷ []; count = None; source = Some 
 abbrev pub rows_for : List Use → List Row
 rows_for [] = []
 rows_for (u ∷ us) = row_for u ∷ rows_for us
+
+pub has_row_for : (id : Text) (us : List Use) → has_row id (rows_for us) ≡ has_name id us
+has_row_for id [] = refl
+has_row_for id (u ∷ us) = ap (λ b. bytes_eq u.0 id || b) (has_row_for id us)
 
 pub first_of_for : (id : Text) (us : List Use) → first_of id (rows_for us) ≡ value_of id us
 first_of_for id [] = refl
@@ -28,6 +34,16 @@ first_of_for id (u ∷ us) = go (bytes_eq u.0 id) (first_of_for id us)
         ≡ option_map (λ (v : Use). v.1) (cond b (Some u) (find (λ v. bytes_eq v.0 id) us))
     go true e = refl
     go false e = e
+
+rows_push : (us : List Use) (u : Use) → rows_for us ++ (row_for u ∷ []) ≡ rows_for (us ++ u ∷ [])
+rows_push [] u = refl
+rows_push (v ∷ us) u = ap (λ rs. row_for v ∷ rs) (rows_push us u)
+
+at_none : (id : Text) (change : Row → List Row) (missing : List Row) (us : List Use) → has_name id us ≡ false → at_row id change missing (rows_for us) ≡ rows_for us ++ missing
+at_none id change missing [] none = refl
+at_none id change missing (u ∷ us) none =
+    ap (λ b. cond b (change (row_for u) ++ rows_for us) (row_for u ∷ at_row id change missing (rows_for us))) (or_parts (bytes_eq u.0 id) _ none).0
+    ∙ ap (λ rs. row_for u ∷ rs) (at_none id change missing us (or_parts (bytes_eq u.0 id) _ none).1)
 
 -- a use of an argument that was not used joins the rows
 pub used_new : (id v : Text) (l : Option Text) (i : Option ℕ) (us : List Use) → has_name id us ≡ false

@@ -2,16 +2,16 @@
 -- `spelled_splits` and `split_spelled` are the two directions; in the second one an option that
 -- still wants its value stands before the words. Both rest on what a piece says of its word
 -- (`joined_piece`, `says`).
-use Rattle.std.proofs.Common.{◌≡◌, ◌∙◌, ◌||◌, ◌==◌, ◌+◌, ℕ, Bool, cond, true, false, not, refl, suc, sym, ap, arith, List, [], ◌∷◌, ◌++◌, Option, Some, None, drop, inl, inr, true≢false}
+use Rattle.std.proofs.Common.{◌≡◌, ◌∙◌, ◌||◌, ◌==◌, ◌+◌, ℕ, Bool, cond, true, false, not, refl, subst, suc, sym, ap, ap₂, arith, List, [], ◌∷◌, ◌++◌, Option, Some, None, drop, inl, inr, true≢false}
 use Rattle.std.specs.Prelude.{if◌then◌else◌, option_and_then}
 use Rattle.std.specs.List.{position_or_len}
 use Rattle.std.specs.Str.{bytes_eq}
-use Rattle.std.proofs.lemmas.Bool.{and_parts, not-true, or_parts, or_right}
+use Rattle.std.proofs.lemmas.Bool.{and_parts, eqb-true, not-true, or_parts, or_right}
 use Rattle.std.proofs.lemmas.List.Sums.{take_while-cons}
 use Rattle.std.proofs.lemmas.Slice.Eq.{bytes_eq-Decides}
-use Rattle.nc_command.specs.Laws.{OrderIsFree, are_names}
-use Rattle.nc_command.specs.Pieces.{Text, has_equals, hyphen_piece, is_among, joined, name_in, named, piece_of, stray, value_in}
-use Rattle.nc_command.specs.Spellings.{AreSpelled, IsSpelled, joined_word, option_word}
+use Rattle.nc_command.specs.Laws.{OrderIsFree, UsesAreSpelled, are_names}
+use Rattle.nc_command.specs.Pieces.{Piece, Text, has_equals, hyphen_piece, is_among, joined, long_piece, name_in, named, piece_of, plain, stray, value_in}
+use Rattle.nc_command.specs.Spellings.{AreSpelled, IsPlain, IsSpelled, joined_word, option_word}
 use Rattle.nc_command.specs.Uses.{Use, if_distinct, is_distinct, number_id, split, split_piece, uses_of, with_use}
 use Rattle.nc_command.proofs.Orders.{distinct-permutation, value_of-permutation}
 use Rattle.nc_command.proofs.Turns.{none_of_some}
@@ -53,6 +53,16 @@ name_in-name (b ∷ name) none =
     name_in-cons b name
     ∙ ap (λ z. cond (not z) (b ∷ name_in name) []) (or_parts (b == 61) (has_equals name) none).0
     ∙ ap (λ text. b ∷ text) (name_in-name name (or_parts (b == 61) (has_equals name) none).1)
+
+-- name and value make up the text
+joined_again : (text : Text) → has_equals text ≡ true → name_in text ++ 61 ∷ value_in text ≡ text
+joined_again [] some = absurd (true≢false (sym some))
+joined_again (b ∷ text) some = ap₂ (λ name value. name ++ 61 ∷ value) (name_in-cons b text) (value_in-cons b text) ∙ go (b == 61) refl some (joined_again text)
+  where
+    go : (z : Bool) → (b == 61) ≡ z → (z || has_equals text) ≡ true → (has_equals text ≡ true → name_in text ++ 61 ∷ value_in text ≡ text)
+        → cond (not z) (b ∷ name_in text) [] ++ 61 ∷ cond z text (value_in text) ≡ b ∷ text
+    go true is some rec = ap (λ x. x ∷ text) (sym (eqb-true b 61 is))
+    go false is some rec = ap (λ t. b ∷ t) (rec some)
 
 no_equals : (names : List Text) (name : Text) → are_names names ≡ true → is_among names name ≡ true → has_equals name ≡ false
 no_equals [] name good among = absurd (true≢false (sym among))
@@ -106,10 +116,84 @@ spelled_splits names takes_number (u ∷ uses) words good s =
 
 -- ---- what is split was spelled
 
+-- what a piece says of its word
+abbrev Says : List Text → Text → Piece → Type 0
+Says names word (joined name value) = (word ≡ joined_word name value) × (is_among names name ≡ true)
+Says names word (named name) = (word ≡ option_word name) × (is_among names name ≡ true)
+Says names word (plain w) = (word ≡ w) × IsPlain w
+Says names word stray = Unit {0}
+
+says : (names : List Text) (word : Text) → Says names word (piece_of names word)
+says names [] = (refl, refl)
+says names (b ∷ []) = go (b == 45) refl
+  where
+    go : (x : Bool) → (b == 45) ≡ x → Says names (b ∷ []) (hyphen_piece names (b ∷ []) (if x then Some [] else None))
+    go true is = tt
+    go false is = (refl, ap (λ x. if x then Some [] else None) is)
+says names (b ∷ c ∷ text) = first (b == 45) refl
+  where
+    last : (x y : Bool) → is_among names (name_in text) ≡ x → has_equals text ≡ y → b ≡ 45 → c ≡ 45
+        → Says names (b ∷ c ∷ text) (if x then (if y then joined (name_in text) (value_in text) else named (name_in text)) else stray)
+    last true true among some is is2 = (ap₂ (λ x y. x ∷ y ∷ text) is is2 ∙ ap (λ t. 45 ∷ 45 ∷ t) (sym (joined_again text some)), among)
+    last true false among none is is2 = (ap₂ (λ x y. x ∷ y ∷ text) is is2 ∙ ap (λ t. 45 ∷ 45 ∷ t) (sym (name_in-name text none)), among)
+    last false y among some is is2 = tt
+
+    second : (x : Bool) → (c == 45) ≡ x → b ≡ 45 → Says names (b ∷ c ∷ text) (long_piece names (if x then Some text else None))
+    second true is2 is = last (is_among names (name_in text)) (has_equals text) refl refl is (eqb-true c 45 is2)
+    second false is2 is = tt
+
+    first : (x : Bool) → (b == 45) ≡ x → Says names (b ∷ c ∷ text) (hyphen_piece names (b ∷ c ∷ text) (if x then Some (c ∷ text) else None))
+    first true is = second (c == 45) refl (eqb-true b 45 is)
+    first false is = (refl, ap (λ x. if x then Some (c ∷ text) else None) is)
+
 -- the words with the option before them that still wants its value
 abbrev before : Option Text → List Text → List Text
 before None words = words
 before (Some name) words = option_word name ∷ words
+
+abbrev IsOption : List Text → Option Text → Type 0
+IsOption names None = Unit {0}
+IsOption names (Some name) = is_among names name ≡ true
+
+one_more : (names : List Text) (takes_number : Bool) (name value : Text) (first rest : List Text) (o : Option (List Use)) (uses : List Use)
+    → IsSpelled names takes_number (name, value) first → ((more : List Use) → o ≡ Some more → AreSpelled names takes_number more rest)
+    → with_use name value o ≡ Some uses → AreSpelled names takes_number uses (first ++ rest)
+one_more names takes_number name value first rest None uses one more e = absurd (none_of_some uses e)
+one_more names takes_number name value first rest (Some l) uses one more e =
+    let same : (name, value) ∷ l ≡ uses = cc in
+    subst (λ us. AreSpelled names takes_number us (first ++ rest)) same (first, rest, refl, one, more l refl)
+
+pub split_spelled : (names : List Text) (takes_number : Bool) (words : List Text) (wanted : Option Text) (uses : List Use) → IsOption names wanted
+    → split names takes_number words wanted ≡ Some uses → AreSpelled names takes_number uses (before wanted words)
+split_spelled names takes_number [] None uses known e =
+    let same : [] ≡ uses = cc in
+    subst (λ us. AreSpelled names takes_number us []) same refl
+split_spelled names takes_number [] (Some name) uses known e = absurd (none_of_some uses e)
+split_spelled names takes_number (word ∷ rest) wanted uses known e =
+    go wanted (piece_of names word) known (says names word) e (λ w us k f. split_spelled names takes_number rest w us k f)
+  where
+    alone : (w : Text) (z : Bool) → takes_number ≡ z → word ≡ w → IsPlain w → (if z then with_use number_id w (split names takes_number rest None) else None) ≡ Some uses
+        → ((us : List Use) → split names takes_number rest None ≡ Some us → AreSpelled names takes_number us rest) → AreSpelled names takes_number uses (word ∷ rest)
+    alone w true taken is no_hyphen f rec =
+        one_more names takes_number number_id w (word ∷ []) rest (split names takes_number rest None) uses
+        (inr (inr (record { taken = taken; name = refl; value = no_hyphen; words_are = ap (λ x. x ∷ []) is }))) rec f
+    alone w false taken is no_hyphen f rec = absurd (none_of_some uses f)
+
+    go : (w : Option Text) (p : Piece) → IsOption names w → Says names word p → split_piece takes_number w p (split names takes_number rest) ≡ Some uses
+        → ((v : Option Text) (us : List Use) → IsOption names v → split names takes_number rest v ≡ Some us → AreSpelled names takes_number us (before v rest))
+        → AreSpelled names takes_number uses (before w (word ∷ rest))
+    go None (joined name value) k s f rec =
+        one_more names takes_number name value (word ∷ []) rest (split names takes_number rest None) uses
+        (inl (record { option = s.1; words_are = ap (λ x. x ∷ []) s.0 })) (λ us g. rec None us tt g) f
+    go None (named name) k s f rec = subst (λ x. AreSpelled names takes_number uses (x ∷ rest)) (sym s.0) (rec (Some name) uses s.1 f)
+    go None (plain w) k s f rec = alone w takes_number refl s.0 s.1 f (λ us g. rec None us tt g)
+    go None stray k s f rec = absurd (none_of_some uses f)
+    go (Some name) (plain w) k s f rec =
+        one_more names takes_number name w (option_word name ∷ word ∷ []) rest (split names takes_number rest None) uses
+        (inr (inl (record { option = k; value = s.1; words_are = ap (λ x. option_word name ∷ x ∷ []) s.0 }))) (λ us g. rec None us tt g) f
+    go (Some name) (joined n v) k s f rec = absurd (none_of_some uses f)
+    go (Some name) (named n) k s f rec = absurd (none_of_some uses f)
+    go (Some name) stray k s f rec = absurd (none_of_some uses f)
 
 -- ---- the two laws
 
