@@ -16,7 +16,7 @@ use Rattle.nc_algebra.specs.Sums.{SameSum, Term, is_at, minus, scale}
 use Rattle.nc_algebra.specs.Words.{IsWordLess, Word, same_word, word_weight}
 use Rattle.nc_module.specs.Modules.{element_of, module_multiples, module_times, same_sig}
 use Rattle.nc_poly.proofs.Heaps.{listed_more}
-use Rattle.nc_poly.proofs.Multiples.{moved_are_residues}
+use Rattle.nc_poly.proofs.Multiples.{moved_are_residues, same_moved}
 use Rattle.nc_poly.specs.Multiples.{moved_by}
 use Rattle.nc_poly.specs.Ordered.{AreResiduesBy, listed}
 use Rattle.std.proofs.Common.{List, [], ap, ap₂, append_assoc, arith, get_or, length, subst, sym, take, ℕ, ◌%◌, ◌*◌, ◌+◌, ◌++◌, ◌-◌, ◌<◌, ◌∙◌, ◌∷◌, ◌≡◌, ◌≤◌}
@@ -126,3 +126,6 @@ pairs_small p u v old m k l some a is = subst (AreResiduesBy p) (sym is) (All-ap
 
 pub module_subtracted : (p c : ℕ) (u v : Word) (old m new : List (Term Sig)) (empty copies pairs : List (Sig × ℕ)) (k : ℕ) (from by : List (Term Sig)) → c < p → empty ≡ [] → from ≡ old → by ≡ m → k ≡ (p - c) % p
     → listed copies ≡ listed empty ++ from → listed pairs ≡ listed copies ++ module_multiples p k u by v → SameSum same_sig p new (listed pairs) → SameSum same_sig p new (minus p old c (module_times u m v))
+module_subtracted p c u v old m new empty copies pairs k from by small none is_old is_m negative copied listed_is e =
+    same-trans same_sig p new (listed pairs) (minus p old c (module_times u m v)) e
+    (subst (λ (l : List (Term Sig)). SameSum same_sig p l (minus p old c (module_times u m v))) (sym (pairs_are p u v old m empty copies pairs k ((p - c) % p) from by none is_old is_m negative copied listed_is)) (same_moved same_sig p c (λ σ. sig_times u σ v) old m small))
