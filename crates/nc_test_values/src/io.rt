@@ -1,0 +1,188 @@
+//! Tests of sources and sinks that fail in mid-stream.
+
+ghost use Rattle.std.specs.Prelude.{◌<◌};
+
+use nc_io::{
+    Failed, Fault, MemorySink, MemorySource, Sink, Source, StdSink, StdSource, put_whole,
+    take_whole,
+};
+use std::alloc::{AllocError, Global};
+use std::io;
+use std::io::{Read, Write};
+use std::test::Fail;
+
+/// A source of `bytes` that gives so many at a time, and fails at one call.
+fn source_of(
+    alloc: Global,
+    bytes: &[u8],
+    step: usize,
+    fails_at: u64,
+) -> Result<MemorySource, AllocError>
+    requires { 0 < step }
+{
+    Ok(MemorySource {
+        bytes: bytes.to_vec(alloc)?,
+        at: 0,
+        step,
+        calls: 0,
+        failing: [fails_at].to_vec(alloc)?,
+        faults: 0,
+    })
+}
+
+/// What a call answers, and how many bytes are taken then.
+fn take(source: &mut MemorySource) -> (Result<usize, Failed>, usize) {
+    let mut buf = [0; 16];
+    (source.take(&mut buf), source.at)
+}
+
+#[test]
+fn memory_source_fails_at_its_second_call(rt: HostRuntime) -> Result<(), Fail> {
+    let mut source = source_of(rt.alloc(), b"abcdefghij", 7, 2)?;
+    for want in [(Ok(7), 7), (Err(Failed), 7), (Ok(3), 10), (Ok(0), 10)] {
+        assert_eq!(rt; take(&mut source), want);
+    }
+    assert_eq!(rt; (source.calls, source.faults), (4, 1));
+    Ok(())
+}
+
+#[test]
+fn take_whole_goes_on_after_a_fault(rt: HostRuntime) -> Result<(), Fail> {
+    let mut source = source_of(rt.alloc(), b"abcdefghij", 3, 2)?;
+    assert_eq!(rt;
+        take_whole(rt.alloc(), &mut source, 100).err(),
+        Some(Fault::Read)
+    );
+    let rest = take_whole(rt.alloc(), &mut source, 6).ok().ok_or("read")?;
+    assert_eq!(rt; rest.as_slice(), b"defghi".as_slice());
+    Ok(())
+}
+
+/// The answer of `put_whole`, and how many bytes the sink keeps, of which there is room for so many.
+fn put_in_memory(
+    alloc: Global,
+    room: usize,
+    fails_at: u64,
+) -> Result<(Result<(), Failed>, usize), AllocError> {
+    let mut sink = MemorySink::of(alloc, room, 5, [fails_at].to_vec(alloc)?)?;
+    let answer = put_whole(&mut sink, b"abcdefghijklmnopqrst");
+    Ok((answer, sink.bytes.len()))
+}
+
+#[test]
+fn memory_sink_fails_at_a_call_and_without_room(rt: HostRuntime) -> Result<(), Fail> {
+    for (room, fails_at, want) in [
+        (30, 9, (Ok(()), 20)),
+        (30, 3, (Err(Failed), 10)),
+        (12, 9, (Err(Failed), 12)),
+        (0, 9, (Err(Failed), 0)),
+    ] {
+        assert_eq!(rt; put_in_memory(rt.alloc(), room, fails_at)?, want, "{room}");
+    }
+    Ok(())
+}
+
+/// Gives up to three bytes a call, and fails at one call.
+#[derive(Drop)]
+struct FlakyReader {
+    left: &'static [u8],
+    calls: u64,
+    fails_at: u64,
+}
+
+impl Read for FlakyReader {
+    fn read(&mut self, buf: &mut [u8]) -> io::Result<usize> {
+        self.calls = self.calls.saturating_add(1);
+        if self.calls == self.fails_at {
+            return Err(io::Error::other("the device is gone"));
+        }
+        let room = buf.len().min(3);
+        self.left.read(&mut buf[..room])
+    }
+}
+
+#[test]
+fn std_source_fails_in_mid_stream(rt: HostRuntime) -> Result<(), Fail> {
+    let mut source = StdSource::of(FlakyReader {
+        left: b"abcdefgh",
+        calls: 0,
+        fails_at: 2,
+    });
+    assert_eq!(rt;
+        take_whole(rt.alloc(), &mut source, 100).err(),
+        Some(Fault::Read)
+    );
+    assert_eq!(rt; source.faults, 1);
+    let rest = take_whole(rt.alloc(), &mut source, 100).ok().ok_or("read")?;
+    assert_eq!(rt; rest.as_slice(), b"defgh".as_slice());
+    Ok(())
+}
+
+/// Takes up to three bytes a call. One write fails, one takes nothing, and one flush fails.
+#[derive(Drop)]
+struct FlakyWriter {
+    bytes: Vec<u8>,
+    writes: u64,
+    flushes: u64,
+    write_fails_at: u64,
+    takes_none_at: u64,
+    flush_fails_at: u64,
+}
+
+impl Write for FlakyWriter {
+    fn write(&mut self, buf: &[u8]) -> io::Result<usize> {
+        self.writes = self.writes.saturating_add(1);
+        if self.writes == self.write_fails_at {
+            return Err(io::Error::other("the device is gone"));
+        }
+        if self.writes == self.takes_none_at {
+            return Ok(0);
+        }
+        let count = buf.len().min(3);
+        self.bytes.write(&buf[..count])
+    }
+
+    fn flush(&mut self) -> io::Result<()> {
+        self.flushes = self.flushes.saturating_add(1);
+        if self.flushes == self.flush_fails_at {
+            return Err(io::Error::other("the device is gone"));
+        }
+        Ok(())
+    }
+}
+
+/// The answer of `put_whole`, how many bytes the writer has then, and the answer of one more call.
+fn put_through(
+    alloc: Global,
+    write_fails_at: u64,
+    takes_none_at: u64,
+    flush_fails_at: u64,
+) -> (Result<(), Failed>, usize, Result<usize, Failed>) {
+    let mut sink = StdSink::of(FlakyWriter {
+        bytes: Vec::new(alloc),
+        writes: 0,
+        flushes: 0,
+        write_fails_at,
+        takes_none_at,
+        flush_fails_at,
+    });
+    let answer = put_whole(&mut sink, b"abcdefgh");
+    let count = sink.writer.bytes.len();
+    (answer, count, sink.put(b"xy"))
+}
+
+#[test]
+fn std_sink_fails_in_mid_stream(rt: HostRuntime) {
+    for (write, none, flush, want) in [
+        (0, 0, 0, (Ok(()), 8, Ok(2))),
+        (2, 0, 0, (Err(Failed), 3, Ok(2))),
+        (0, 2, 0, (Err(Failed), 3, Ok(2))),
+        (0, 0, 2, (Err(Failed), 6, Ok(2))),
+    ] {
+        assert_eq!(rt;
+            put_through(rt.alloc(), write, none, flush),
+            want,
+            "{write} {none} {flush}"
+        );
+    }
+}
