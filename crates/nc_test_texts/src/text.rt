@@ -53,12 +53,26 @@ fn what_is_printed_is_read(rt: HostRuntime) -> Result<(), Fail> {
 fn other_texts_are_printed_anew(rt: HostRuntime) -> Result<(), Fail> {
     for (text, wanted) in [
         (
-            "certificate 1\nfield 101\nletters x y\ngenerator x\nclaim y\nterm 201 1 [1] y\nend",
-            "certificate 2\nfield 101\nletters x y\ngenerator x\nclaim y\nline\npart 100 1 [1] y\nend\n",
+            "certificate 1
+field 101
+letters x
+generator x
+claim x
+term 201 1 [1] x
+end",
+            "certificate 2
+field 101
+letters x
+generator x
+claim x
+line
+part 100 1 [1] x
+end
+",
         ),
         (
-            "# a comment\n\n \t\ncertificate 02\r\nfield\t7\r\nletters x y\r\nclaim-x^3*y^0+9*y-x^3\r\nend#",
-            "certificate 2\nfield 7\nletters x y\nclaim 5*x*x*x + 2*y\nend\n",
+            "# any\n\n \t\ncertificate 02\r\nfield\t7\r\nletters x\r\nclaim-x^3+9\r\nend#",
+            "certificate 2\nfield 7\nletters x\nclaim 6*x*x*x + 2\nend\n",
         ),
     ] {
         let printed = printed(rt.alloc(), text)?;
@@ -87,20 +101,17 @@ fn texts_have_faults(rt: HostRuntime) {
 
 #[test]
 fn problems_are_read(rt: HostRuntime) -> Result<(), Fail> {
-    let text =
-        "field 101\nletters x y\nweights 1 2\ngenerator x*x - y\nbound degree 6\nclaim x - x\n";
+    let text = "field 101\nletters x y\nweights 1 2\ngenerator x*x - y\nbound degree 6\n";
     let read = problem_text(rt.alloc(), text)?;
-    let setting = read.problem.setting();
-    assert_eq!(rt; setting.prime().number(), 101);
-    assert_eq!(rt; setting.weights(), [1, 2].as_slice());
-    assert_eq!(rt; setting.generators().len(), 1);
     assert!(rt; matches!(read.problem.bound(), Bound::Degree(6)));
+    assert_eq!(rt; read.problem.steps(), 1_000_000);
+    assert!(rt; read.claim.is_none());
     Ok(())
 }
 
 #[test]
 fn bounds_may_be_monomials(rt: HostRuntime) -> Result<(), Fail> {
-    let text = "field 101\nletters x y\ngenerator x*x - y\nbound below x [1] x\nsteps 7\nclaim y\n";
+    let text = "field 101\nletters x\ngenerator x*x\nbound below x [1] x\nsteps 7\nclaim x\n";
     let read = problem_text(rt.alloc(), text)?;
     assert!(rt; matches!(read.problem.bound(), Bound::Below(_)));
     assert_eq!(rt; read.problem.steps(), 7);
