@@ -30,31 +30,43 @@ fn source_of(
     })
 }
 
-/// What a call answers, and how many bytes are taken then.
-fn take(source: &mut MemorySource) -> (Result<usize, Failed>, usize) {
+/// What a call answers, how many bytes are taken then, and how many calls failed.
+fn take(source: &mut MemorySource) -> (Result<usize, Failed>, usize, u64) {
     let mut buf = [0; 16];
-    (source.take(&mut buf), source.at)
+    (source.take(&mut buf), source.at, source.faults)
+}
+
+/// What the first three calls do, of which the second fails.
+fn three_calls(alloc: Global) -> Result<[(Result<usize, Failed>, usize, u64); 3], Fail> {
+    let mut source = source_of(alloc, b"abcdefghij", 7, 2)?;
+    Ok([take(&mut source), take(&mut source), take(&mut source)])
 }
 
 #[test]
 fn memory_source_fails_at_its_second_call(rt: HostRuntime) -> Result<(), Fail> {
-    let mut source = source_of(rt.alloc(), b"abcdefghij", 7, 2)?;
-    for want in [(Ok(7), 7), (Err(Failed), 7), (Ok(3), 10), (Ok(0), 10)] {
-        assert_eq!(rt; take(&mut source), want);
-    }
-    assert_eq!(rt; (source.calls, source.faults), (4, 1));
+    let want = [(Ok(7), 7, 0), (Err(Failed), 7, 1), (Ok(3), 10, 1)];
+    assert_eq!(rt; three_calls(rt.alloc())?, want);
     Ok(())
+}
+
+/// Whether the source fails at first, and gives these bytes then.
+fn goes_on<S: Source>(alloc: Global, source: &mut S, rest: &[u8]) -> bool {
+    let first = take_whole(alloc, source, 100).err();
+    match take_whole(alloc, source, rest.len()) {
+        Ok(bytes) => first == Some(Fault::Read) && bytes.as_slice() == rest,
+        Err(_) => false,
+    }
+}
+
+/// Whether a source in memory does.
+fn memory_goes_on(alloc: Global) -> Result<bool, Fail> {
+    let mut source = source_of(alloc, b"abcdefghij", 3, 2)?;
+    Ok(goes_on(alloc, &mut source, b"defghi"))
 }
 
 #[test]
 fn take_whole_goes_on_after_a_fault(rt: HostRuntime) -> Result<(), Fail> {
-    let mut source = source_of(rt.alloc(), b"abcdefghij", 3, 2)?;
-    assert_eq!(rt;
-        take_whole(rt.alloc(), &mut source, 100).err(),
-        Some(Fault::Read)
-    );
-    let rest = take_whole(rt.alloc(), &mut source, 6).ok().ok_or("read")?;
-    assert_eq!(rt; rest.as_slice(), b"defghi".as_slice());
+    assert!(rt; memory_goes_on(rt.alloc())?);
     Ok(())
 }
 
@@ -101,21 +113,19 @@ impl Read for FlakyReader {
     }
 }
 
-#[test]
-fn std_source_fails_in_mid_stream(rt: HostRuntime) -> Result<(), Fail> {
+/// Whether a reader that fails at its second call does not stay so.
+fn reader_goes_on(alloc: Global) -> bool {
     let mut source = StdSource::of(FlakyReader {
         left: b"abcdefgh",
         calls: 0,
         fails_at: 2,
     });
-    assert_eq!(rt;
-        take_whole(rt.alloc(), &mut source, 100).err(),
-        Some(Fault::Read)
-    );
-    assert_eq!(rt; source.faults, 1);
-    let rest = take_whole(rt.alloc(), &mut source, 100).ok().ok_or("read")?;
-    assert_eq!(rt; rest.as_slice(), b"defgh".as_slice());
-    Ok(())
+    goes_on(alloc, &mut source, b"defgh")
+}
+
+#[test]
+fn std_source_fails_in_mid_stream(rt: HostRuntime) {
+    assert!(rt; reader_goes_on(rt.alloc()));
 }
 
 /// Takes up to three bytes a call. One write fails, one takes nothing, and one flush fails.

@@ -1,4 +1,4 @@
-//! Tests of the public calls of the crates below the engine.
+//! Tests of the public calls of sources and sinks, of arithmetic and of chunks.
 #![tactic(auto)]
 
 #[cfg(test)]
@@ -8,12 +8,6 @@ mod field;
 #[cfg(test)]
 mod io;
 #[cfg(test)]
-mod module;
-#[cfg(test)]
 mod poly;
-#[cfg(test)]
-mod samples;
-#[cfg(test)]
-mod sig;
 #[cfg(test)]
 mod words;

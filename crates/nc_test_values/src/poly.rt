@@ -3,9 +3,9 @@
 ghost use Rattle.nc_algebra.specs.Polynomials.{AreResidues};
 ghost use Rattle.std.specs.Prelude.{All, IfOk, IsTrue, length, ◌+◌, ◌<◌, ◌≡◌, ◌≤◌};
 
-use crate::samples::{are_terms, letter, poly, prime, spells, word};
 use nc_field::{Prime, Residue};
 use nc_poly::{Accumulator, Heap, Poly, Sum, Term};
+use nc_samples::{are_terms, is_term, letter, poly, prime, word};
 use nc_words::Letter;
 use std::alloc::Global;
 use std::cmp::Ordering;
@@ -35,57 +35,61 @@ fn has_room(u: &[Letter], g: &Poly, v: &[Letter]) -> bool
         .all(|t| u.len() + t.letters().len() + v.len() <= 200_000)
 }
 
-/// Whether the word is that of the other term, how the words compare, and whether the coefficient is 0.
-fn compare_terms(alloc: Global, text: &str, other: &Term) -> Result<(bool, Ordering, bool), Fail> {
-    let term = Term::of(0, word(alloc, text)?);
-    Ok((term.has_word_of(other), term.order(other), term.is_zero()))
+/// Whether the words are the same, how they compare, and whether the coefficient 0 is found to be 0.
+fn compare_terms(alloc: Global, a: &str, b: &str) -> Result<(bool, Ordering, bool), Fail> {
+    let term = Term::of(0, word(alloc, a)?);
+    let other = Term::of(1, word(alloc, b)?);
+    Ok((term.has_word_of(&other), term.order(&other), term.is_zero()))
 }
 
-#[test]
-fn terms_compare(rt: HostRuntime) -> Result<(), Fail> {
-    let other = Term::of(1, word(rt.alloc(), "yx")?);
-    for (text, same, order) in [
-        ("yx", true, Ordering::Equal),
-        ("xy", false, Ordering::Less),
-        ("z", false, Ordering::Greater),
-    ] {
-        assert_eq!(rt;
-            compare_terms(rt.alloc(), text, &other)?,
-            (same, order, true),
-            "{text}"
-        );
-    }
-    Ok(())
+/// Whether the two terms have the same letters and coefficients.
+fn are_same(a: &Term, b: &Term) -> bool {
+    a.coefficient == b.coefficient && a.letters() == b.letters()
 }
 
-/// The multiple 3 u t v of the term t, and v t u.
-fn multiples(
-    alloc: Global,
-    term: &Term,
-    u: &[Letter; 1],
-    v: &[Letter; 1],
-) -> Result<Vec<Term>, Fail> {
+/// Whether the copy of a term is the same.
+fn is_copied(alloc: Global) -> Result<bool, Fail> {
+    let term = Term::of(50, word(alloc, "y")?);
+    let copy = term.copy()?;
+    Ok(are_same(&term, &copy))
+}
+
+/// Whether the multiple 3 u t v of the term t = 50 y is what is wanted.
+fn is_multiplied(alloc: Global, term: &Term, u: Letter, v: Letter) -> Result<bool, Fail> {
     let p = prime()?;
     if term.coefficient >= p.number() || term.letters().len() > 9 {
         return Err("too great".into());
     }
-    let mut terms = Vec::new(alloc);
-    terms.push(term.multiple(alloc, p, 3, u, v)?)?;
-    terms.push(term.shifted(alloc, v, u)?)?;
-    Ok(terms)
+    let multiple = term.multiple(alloc, p, 3, &[u], &[v])?;
+    Ok(is_term(&multiple, (49, "xyz")))
+}
+
+/// Whether u t v is.
+fn is_moved(alloc: Global, term: &Term, u: Letter, v: Letter) -> Result<bool, Fail> {
+    if term.letters().len() > 9 {
+        return Err("too long".into());
+    }
+    let shifted = term.shifted(alloc, &[u], &[v])?;
+    Ok(is_term(&shifted, (50, "xyz")))
+}
+
+/// Whether both are.
+fn multiply(alloc: Global, u: Letter, v: Letter) -> Result<bool, Fail> {
+    let term = Term::of(50, word(alloc, "y")?);
+    Ok(is_multiplied(alloc, &term, u, v)? && is_moved(alloc, &term, u, v)?)
 }
 
 #[test]
-fn terms_are_multiplied(rt: HostRuntime) -> Result<(), Fail> {
-    let (x, z) = (letter(b'x')?, letter(b'z')?);
-    let term = Term::of(50, word(rt.alloc(), "y")?).copy()?;
-    let terms = multiples(rt.alloc(), &term, &[x], &[z])?;
-    assert!(rt; are_terms(&terms, &[(49, "xyz"), (50, "zyx")]));
+fn terms_are_compared_and_multiplied(rt: HostRuntime) -> Result<(), Fail> {
+    let found = compare_terms(rt.alloc(), "xy", "yx")?;
+    assert_eq!(rt; found, (false, Ordering::Less, true));
+    assert!(rt; is_copied(rt.alloc())?);
+    assert!(rt; multiply(rt.alloc(), letter(b'x')?, letter(b'z')?)?);
     Ok(())
 }
 
-#[test]
-fn terms_are_collected(rt: HostRuntime) -> Result<(), Fail> {
+/// Whether terms in any order make 4 x y + 2 x x + 2, and what the coefficient of its greatest term is.
+fn collected(alloc: Global) -> Result<(bool, Option<Residue>), Fail> {
     let terms = [
         (3, "y"),
         (5, "xx"),
@@ -95,93 +99,92 @@ fn terms_are_collected(rt: HostRuntime) -> Result<(), Fail> {
         (0, "yx"),
         (98, "xx"),
     ];
-    let f = poly(rt.alloc(), prime()?, &terms)?;
-    assert!(rt; are_terms(f.terms(), &[(4, "xy"), (2, "xx"), (2, "")]));
-    assert!(rt; !f.is_zero());
-    assert_eq!(rt; f.lead().ok_or("not zero")?.coefficient, 4);
-    Ok(())
+    let f = poly(alloc, prime()?, &terms)?;
+    let found = are_terms(f.terms(), &[(4, "xy"), (2, "xx"), (2, "")]);
+    Ok((found, f.lead().map(|term| term.coefficient)))
 }
 
-#[test]
-fn zero_has_no_terms(rt: HostRuntime) {
-    let zero = Poly::zero(rt.alloc());
-    assert!(rt; zero.is_zero());
-    assert!(rt; zero.lead().is_none());
-    assert!(rt; zero.terms().is_empty());
+/// Whether the polynomial 0 is zero, and whether it has a greatest term.
+fn zero(alloc: Global) -> (bool, bool) {
+    let zero = Poly::zero(alloc);
+    (zero.is_zero(), zero.lead().is_some())
 }
 
-/// Whether the polynomial is its own copy.
-fn is_its_copy(f: &Poly) -> Result<bool, Fail> {
+/// Whether a polynomial is its own copy, and whether it is zero.
+fn compare_polynomials(alloc: Global) -> Result<(bool, bool), Fail> {
+    let f = three_terms(alloc, prime()?)?;
     let copy = f.copy()?;
-    Ok(copy.same(f))
+    Ok((copy.same(&f), f.same(&Poly::zero(alloc))))
 }
 
 #[test]
-fn polynomials_are_compared(rt: HostRuntime) -> Result<(), Fail> {
+fn polynomials_are_made_and_compared(rt: HostRuntime) -> Result<(), Fail> {
+    assert_eq!(rt; collected(rt.alloc())?, (true, Some(4)));
+    assert_eq!(rt; zero(rt.alloc()), (true, false));
+    assert_eq!(rt; compare_polynomials(rt.alloc())?, (true, false));
+    Ok(())
+}
+
+/// The coefficient of the word in 4 x y + 2 x x + 2.
+fn coefficient(alloc: Global, text: &str) -> Result<Residue, Fail> {
+    let f = three_terms(alloc, prime()?)?;
+    let word = word(alloc, text)?;
+    Ok(f.coefficient(word.letters()))
+}
+
+/// Whether u f v is what is wanted for f = 4 x y + 2 x x + 2.
+fn is_shifted(alloc: Global, u: Letter, v: Letter) -> Result<bool, Fail> {
+    let f = three_terms(alloc, prime()?)?;
+    if !has_room(&[u], &f, &[v]) {
+        return Err("too long".into());
+    }
+    let shifted = f.shifted(alloc, &[u], &[v])?;
+    Ok(are_terms(shifted.terms(), &[(4, "xxyy"), (2, "xxxy"), (2, "xy")]))
+}
+
+/// Whether the sum of two polynomials is what is wanted.
+fn is_added(alloc: Global) -> Result<bool, Fail> {
     let p = prime()?;
-    let f = three_terms(rt.alloc(), p)?;
-    assert!(rt; is_its_copy(&f)?);
-    assert!(rt; !f.same(&Poly::zero(rt.alloc())));
-    Ok(())
-}
-
-#[test]
-fn polynomials_have_coefficients(rt: HostRuntime) -> Result<(), Fail> {
-    let (x, y) = (letter(b'x')?, letter(b'y')?);
-    let f = three_terms(rt.alloc(), prime()?)?;
-    let listed = (
-        f.coefficient(&[x, y]),
-        f.coefficient(&[x, x]),
-        f.coefficient(&[]),
-    );
-    assert_eq!(rt; listed, (4, 2, 2));
-    assert_eq!(rt; f.coefficient(&[y, y]), 0);
-    Ok(())
-}
-
-#[test]
-fn polynomials_are_shifted(rt: HostRuntime) -> Result<(), Fail> {
-    let (u, v) = ([letter(b'x')?], [letter(b'y')?]);
-    let f = three_terms(rt.alloc(), prime()?)?;
-    assert!(rt; has_room(&u, &f, &v));
-    let shifted = f.shifted(rt.alloc(), &u, &v)?;
-    assert!(rt; are_terms(shifted.terms(), &[(4, "xxyy"), (2, "xxxy"), (2, "xy")]));
-    Ok(())
-}
-
-#[test]
-fn polynomials_are_added(rt: HostRuntime) -> Result<(), Fail> {
-    let p = prime()?;
-    let mut f = three_terms(rt.alloc(), p)?;
-    let g = square_minus_y(rt.alloc(), p)?;
+    let mut f = three_terms(alloc, p)?;
+    let g = square_minus_y(alloc, p)?;
     f.add(p, &g)?;
-    assert!(rt; are_terms(f.terms(), &[(4, "xy"), (3, "xx"), (100, "y"), (2, "")]));
+    Ok(are_terms(f.terms(), &[(4, "xy"), (3, "xx"), (100, "y"), (2, "")]))
+}
+
+#[test]
+fn polynomials_are_moved_and_added(rt: HostRuntime) -> Result<(), Fail> {
+    assert_eq!(rt; coefficient(rt.alloc(), "xy")?, 4);
+    assert_eq!(rt; coefficient(rt.alloc(), "yy")?, 0);
+    assert!(rt; is_shifted(rt.alloc(), letter(b'x')?, letter(b'y')?)?);
+    assert!(rt; is_added(rt.alloc())?);
     Ok(())
 }
 
 /// x x - y without 3 x (x x - y) y.
 const DIFFERENCE: [(Residue, &str); 4] = [(98, "xxxy"), (3, "xyy"), (1, "xx"), (100, "y")];
 
-#[test]
-fn polynomials_lose_multiples(rt: HostRuntime) -> Result<(), Fail> {
-    let (p, u, v) = (prime()?, [letter(b'x')?], [letter(b'y')?]);
-    let mut f = square_minus_y(rt.alloc(), p)?;
-    let g = square_minus_y(rt.alloc(), p)?;
-    assert!(rt; has_room(&u, &g, &v));
-    f.sub_multiple(rt.alloc(), p, 3, &u, &g, &v)?;
-    assert!(rt; are_terms(f.terms(), &DIFFERENCE));
-    Ok(())
+/// Whether a polynomial is this difference then.
+fn poly_loses(alloc: Global, x: Letter, y: Letter) -> Result<bool, Fail> {
+    let p = prime()?;
+    let mut f = square_minus_y(alloc, p)?;
+    let g = square_minus_y(alloc, p)?;
+    if !has_room(&[x], &g, &[y]) {
+        return Err("too long".into());
+    }
+    f.sub_multiple(alloc, p, 3, &[x], &g, &[y])?;
+    Ok(are_terms(f.terms(), &DIFFERENCE))
 }
 
-#[test]
-fn accumulators_lose_multiples(rt: HostRuntime) -> Result<(), Fail> {
-    let (p, u, v) = (prime()?, [letter(b'x')?], [letter(b'y')?]);
-    let mut sum = Accumulator::of(square_minus_y(rt.alloc(), p)?);
-    let g = square_minus_y(rt.alloc(), p)?;
-    assert!(rt; has_room(&u, &g, &v));
-    sum.sub_multiple(rt.alloc(), p, 3, &u, &g, &v)?;
-    assert!(rt; are_terms(sum.finish(p).terms(), &DIFFERENCE));
-    Ok(())
+/// Whether an accumulator is this difference then.
+fn accumulator_loses(alloc: Global, x: Letter, y: Letter) -> Result<bool, Fail> {
+    let p = prime()?;
+    let mut sum = Accumulator::of(square_minus_y(alloc, p)?);
+    let g = square_minus_y(alloc, p)?;
+    if !has_room(&[x], &g, &[y]) {
+        return Err("too long".into());
+    }
+    sum.sub_multiple(alloc, p, 3, &[x], &g, &[y])?;
+    Ok(are_terms(sum.finish(p).terms(), &DIFFERENCE))
 }
 
 /// Whether the heap gives these terms, the greatest first, and no other.
@@ -191,36 +194,41 @@ fn gives(heap: Heap, want: &[(Residue, &str)]) -> bool {
         let Some(term) = left.take_greatest() else {
             return false;
         };
-        if term.coefficient != *c || !spells(term.letters(), text) {
+        if !is_term(&term, (*c, text)) {
             return false;
         }
     }
     left.is_zero()
 }
 
-#[test]
-fn heaps_lose_multiples(rt: HostRuntime) -> Result<(), Fail> {
-    let (p, u, v) = (prime()?, [letter(b'x')?], [letter(b'y')?]);
-    let mut heap = Heap::of(rt.alloc(), square_minus_y(rt.alloc(), p)?)?;
-    let g = square_minus_y(rt.alloc(), p)?;
-    assert!(rt; has_room(&u, &g, &v));
-    heap.sub_multiple(rt.alloc(), p, 3, &u, &g, &v)?;
-    assert!(rt; gives(heap, &DIFFERENCE));
-    Ok(())
-}
-
-/// How many letters the greatest word has, and its coefficient.
-fn greatest(heap: &Heap) -> Option<(usize, Residue)> {
-    let (word, c) = heap.greatest()?;
-    Some((word.letters().len(), *c))
+/// Whether a heap is this difference then.
+fn heap_loses(alloc: Global, x: Letter, y: Letter) -> Result<bool, Fail> {
+    let p = prime()?;
+    let mut heap = Heap::of(alloc, square_minus_y(alloc, p)?)?;
+    let g = square_minus_y(alloc, p)?;
+    if !has_room(&[x], &g, &[y]) {
+        return Err("too long".into());
+    }
+    heap.sub_multiple(alloc, p, 3, &[x], &g, &[y])?;
+    Ok(gives(heap, &DIFFERENCE))
 }
 
 #[test]
-fn heaps_have_a_greatest_term(rt: HostRuntime) -> Result<(), Fail> {
-    let heap = Heap::of(rt.alloc(), three_terms(rt.alloc(), prime()?)?)?;
-    assert_eq!(rt; greatest(&heap), Some((2, 4)));
-    assert!(rt; !heap.is_zero());
+fn multiples_are_subtracted(rt: HostRuntime) -> Result<(), Fail> {
+    let (x, y) = (letter(b'x')?, letter(b'y')?);
+    assert!(rt; poly_loses(rt.alloc(), x, y)?);
+    assert!(rt; accumulator_loses(rt.alloc(), x, y)?);
+    assert!(rt; heap_loses(rt.alloc(), x, y)?);
     Ok(())
+}
+
+/// How many letters the greatest word of 4 x y + 2 x x + 2 has, and its coefficient.
+fn greatest(alloc: Global) -> Result<Option<(usize, Residue)>, Fail> {
+    let heap = Heap::of(alloc, three_terms(alloc, prime()?)?)?;
+    match heap.greatest() {
+        Some((word, c)) => Ok(Some((word.letters().len(), *c))),
+        None => Ok(None),
+    }
 }
 
 /// Whether the coefficients lie below the prime.
@@ -243,11 +251,16 @@ fn sum_of_numbers(alloc: Global) -> Result<Sum<u32>, Fail> {
     Ok(sum)
 }
 
+/// The greatest term, which is taken out, and the one behind it.
+fn two_greatest(alloc: Global) -> Result<(Option<(u32, Residue)>, Option<u32>), Fail> {
+    let mut sum = sum_of_numbers(alloc)?;
+    let first = sum.take_greatest();
+    Ok((first, sum.greatest().map(|(key, _)| *key)))
+}
+
 #[test]
-fn sums_of_numbers(rt: HostRuntime) -> Result<(), Fail> {
-    let mut sum = sum_of_numbers(rt.alloc())?;
-    assert_eq!(rt; sum.take_greatest(), Some((7, 100)));
-    let (key, c) = sum.greatest().ok_or("not zero")?;
-    assert_eq!(rt; (*key, *c), (2, 51));
+fn sums_have_a_greatest_term(rt: HostRuntime) -> Result<(), Fail> {
+    assert_eq!(rt; greatest(rt.alloc())?, Some((2, 4)));
+    assert_eq!(rt; two_greatest(rt.alloc())?, (Some((7, 100)), Some(2)));
     Ok(())
 }

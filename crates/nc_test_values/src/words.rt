@@ -1,77 +1,61 @@
 //! Tests of letters and words.
 
-use crate::samples::{letter, word};
+use nc_samples::{letter, word};
 use nc_words::{Joined, Letter, Word, weight_of};
 use std::alloc::Global;
 use std::cmp::Ordering;
-use std::collections::BTreeMap;
 use std::test::Fail;
 
-#[test]
-fn letters_have_limits(rt: HostRuntime) -> Result<(), Fail> {
-    for (index, weight, want) in [
-        (63, 100, true),
-        (64, 1, false),
-        (0, 0, false),
-        (0, 101, false),
-    ] {
-        assert_eq!(rt;
-            Letter::of(index, weight).is_some(),
-            want,
-            "{index} {weight}"
-        );
+/// Whether the letter has this number and this weight.
+fn is_letter(index: u8, weight: u8) -> bool {
+    match Letter::of(index, weight) {
+        Some(letter) => letter.index() == index && letter.weight() == weight,
+        None => false,
     }
-    let heavy = letter(b'z')?;
-    assert_eq!(rt; (heavy.index(), heavy.weight()), (2, 3));
-    assert!(rt; Letter::default() == letter(b'x')?);
-    Ok(())
 }
 
-/// Three times as many letters as there are.
-fn triple(alloc: Global, letters: &[Letter; 10]) -> Result<Word, Fail> {
-    Ok(Word::join(alloc, letters, letters, letters)?)
+#[test]
+fn letters_have_limits(rt: HostRuntime) {
+    assert!(rt; is_letter(63, 100));
+    assert!(rt; !is_letter(64, 1) && !is_letter(0, 0) && !is_letter(0, 101));
+}
+
+/// How many letters the letter makes three times ten times, and what they weigh.
+fn thirty(alloc: Global, letter: Letter) -> Result<(usize, u32, u128), Fail> {
+    let ten = [letter; 10];
+    let word = Word::join(alloc, &ten, &ten, &ten)?;
+    Ok((word.letters().len(), word.weight(), weight_of(&ten)))
+}
+
+/// Whether a word of thirty letters equals its copy and is greater than the empty word.
+fn compare_copy(alloc: Global, letter: Letter) -> Result<(bool, bool), Fail> {
+    let ten = [letter; 10];
+    let word = Word::join(alloc, &ten, &ten, &ten)?;
+    let copy = word.copy()?;
+    Ok((copy == word, copy > Word::empty(alloc)))
 }
 
 #[test]
 fn long_words_join(rt: HostRuntime) -> Result<(), Fail> {
-    let ten = [letter(b'z')?; 10];
-    let word = triple(rt.alloc(), &ten)?;
-    let found = (word.letters().len(), word.weight(), weight_of(&ten));
-    assert_eq!(rt; found, (30, 90, 30));
+    let z = letter(b'z')?;
+    assert_eq!(rt; thirty(rt.alloc(), z)?, (30, 90, 30));
+    assert_eq!(rt; compare_copy(rt.alloc(), z)?, (true, true));
     Ok(())
 }
 
-/// Whether the word equals its copy and is greater than the empty word.
-fn is_equal_and_greater(alloc: Global, word: &Word) -> Result<(bool, bool), Fail> {
-    let copy = word.copy()?;
-    Ok((copy == *word, copy > Word::empty(alloc)))
-}
-
-#[test]
-fn words_are_copied(rt: HostRuntime) -> Result<(), Fail> {
-    let word = triple(rt.alloc(), &[letter(b'y')?; 10])?;
-    assert_eq!(rt; is_equal_and_greater(rt.alloc(), &word)?, (true, true));
-    Ok(())
-}
-
-/// Compares two words in each way.
-fn compare_each(alloc: Global, a: &str, b: &str) -> Result<[Ordering; 3], Fail> {
+/// Whether two words compare so, in each way.
+fn compare(alloc: Global, a: &str, b: &str, want: Ordering) -> Result<bool, Fail> {
     let (a, b) = (word(alloc, a)?, word(alloc, b)?);
     let joined = Joined::of_word(a.letters()).compare(&Joined::of_word(b.letters()));
-    Ok([a.cmp(&b), Word::compare(a.letters(), b.letters()), joined])
+    let letters = Word::compare(a.letters(), b.letters());
+    Ok(a.cmp(&b) == want && letters == want && joined == want)
 }
 
 #[test]
 fn words_compare(rt: HostRuntime) -> Result<(), Fail> {
-    for (a, b, want) in [
-        ("", "x", Ordering::Less),
-        ("xx", "y", Ordering::Greater),
-        ("xy", "yx", Ordering::Less),
-        ("yx", "yx", Ordering::Equal),
-        ("xxx", "z", Ordering::Less),
-    ] {
-        assert_eq!(rt; compare_each(rt.alloc(), a, b)?, [want; 3], "{a} {b}");
-    }
+    assert!(rt; compare(rt.alloc(), "y", "xx", Ordering::Less)?);
+    assert!(rt; compare(rt.alloc(), "yx", "xy", Ordering::Greater)?);
+    assert!(rt; compare(rt.alloc(), "xxx", "z", Ordering::Less)?);
     Ok(())
 }
 
@@ -84,16 +68,8 @@ fn products_compare(rt: HostRuntime) -> Result<(), Fail> {
         second: &front,
         third: &back,
     };
-    let same = Joined::of_two(&back, &[]);
-    assert_eq!(rt; product.compare(&same), Ordering::Greater);
-    assert_eq!(rt;
-        product.compare(&Joined::of_two(&front, &back)),
-        Ordering::Equal
-    );
-    assert_eq!(rt;
-        product.compare(&Joined::of_two(&back, &front)),
-        Ordering::Less
-    );
+    let (same, other) = (Joined::of_two(&front, &back), Joined::of_two(&back, &front));
+    assert!(rt; product.compare(&same).is_eq() && product.compare(&other).is_lt());
     Ok(())
 }
 
@@ -105,26 +81,7 @@ fn place(alloc: Global, text: &str, factor: &str, from: usize) -> Result<Option<
 
 #[test]
 fn factors_have_places(rt: HostRuntime) -> Result<(), Fail> {
-    for (factor, from, want) in [
-        ("xyx", 0, Some(0)),
-        ("xyx", 1, Some(2)),
-        ("xyx", 3, None),
-        ("yy", 0, None),
-        ("", 5, Some(5)),
-        ("", 6, None),
-    ] {
-        assert_eq!(rt; place(rt.alloc(), "xyxyx", factor, from)?, want, "{factor}");
-    }
-    Ok(())
-}
-
-#[test]
-fn words_are_keys(rt: HostRuntime) -> Result<(), Fail> {
-    let alloc = rt.alloc();
-    let mut lengths = BTreeMap::new(alloc);
-    for (text, length) in [("z", 1), ("xx", 2), ("y", 1), ("xx", 2)] {
-        lengths.insert(word(alloc, text)?, length)?;
-    }
-    assert!(rt; lengths.values().eq(&[1, 2, 1]));
+    assert_eq!(rt; place(rt.alloc(), "xyxyx", "xyx", 1)?, Some(2));
+    assert_eq!(rt; place(rt.alloc(), "xyxyx", "xyx", 3)?, None);
     Ok(())
 }

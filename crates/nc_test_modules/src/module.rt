@@ -5,13 +5,12 @@ ghost use Rattle.nc_algebra.specs.Words.{word_weight};
 ghost use Rattle.nc_poly.specs.Ordered.{AreResiduesBy};
 ghost use Rattle.std.specs.Prelude.{All, IfOk, IsTrue, length, ◌+◌, ◌↔◌, ◌≡◌, ◌≤◌};
 
-use crate::samples::{are_terms, letter, poly, prime, spells, word};
 use nc_field::{Prime, Residue};
 use nc_module::{
-    Alphabet, Bound, Certificate, Line, Lines, Module, ModuleTerm, Name, Of, Part, Problem,
-    Setting, has_name,
+    Alphabet, Bound, Line, Lines, Module, ModuleTerm, Name, Of, Part, Problem, Setting, has_name,
 };
 use nc_poly::Poly;
+use nc_samples::{are_terms, letter, poly, prime, spells, word};
 use nc_sig::Sig;
 use nc_words::{Letter, Word, weight_of};
 use std::alloc::Global;
@@ -27,17 +26,8 @@ fn is_name(text: &str) -> bool {
 
 #[test]
 fn names_begin_with_a_letter(rt: HostRuntime) {
-    for (text, want) in [
-        ("x_1", true),
-        ("1x", false),
-        ("_x", false),
-        ("", false),
-        ("x-1", false),
-        ("abcdefghijklmnop", true),
-        ("abcdefghijklmnopq", false),
-    ] {
-        assert_eq!(rt; is_name(text), want, "{text}");
-    }
+    assert!(rt; is_name("x_1") && is_name("abcdefghijklmnop"));
+    assert!(rt; !is_name("_x") && !is_name("abcdefghijklmnopq"));
 }
 
 /// The names x, y_1 and z.
@@ -59,41 +49,48 @@ fn alphabet(alloc: Global) -> Result<Alphabet, Fail> {
     Ok(Alphabet::of(names, weights))
 }
 
+/// Whether the three names are taken with these weights.
+fn takes(alloc: Global, weights: &[u8]) -> Result<bool, Fail> {
+    let names = names(alloc)?;
+    Ok(Alphabet::takes(&names, weights))
+}
+
+/// Whether a name is one of the three.
+fn is_listed(alloc: Global, name: &[u8]) -> Result<bool, Fail> {
+    let names = names(alloc)?;
+    Ok(has_name(&names, name))
+}
+
 #[test]
 fn alphabets_take_names_and_weights(rt: HostRuntime) -> Result<(), Fail> {
-    let names = names(rt.alloc())?;
-    for (weights, want) in [
-        ([1, 100, 3], true),
-        ([0, 1, 3], false),
-        ([1, 101, 3], false),
-    ] {
-        assert_eq!(rt; Alphabet::takes(&names, &weights), want);
-    }
-    assert!(rt; !Alphabet::takes(&names, &[1, 1]));
-    assert!(rt; !Alphabet::takes(&[], &[]));
-    assert!(rt; has_name(&names, b"y_1"));
-    assert!(rt; !has_name(&names, b"y"));
+    assert!(rt; takes(rt.alloc(), &[1, 100, 3])?);
+    assert!(rt; !takes(rt.alloc(), &[1, 101, 3])?);
+    assert!(rt; is_listed(rt.alloc(), b"y_1")?);
     Ok(())
 }
 
-/// Whether it has the letter, and whether words of the letter may stand in a text.
-fn has_letter(alphabet: &Alphabet, letter: Letter) -> (bool, bool) {
-    (
-        alphabet.has(letter),
-        alphabet.is_text_word(&[letter, letter]),
-    )
+/// Whether it has the letter, and whether a word of the letter may stand in a text.
+fn has_letter(alloc: Global, letter: Letter) -> Result<bool, Fail> {
+    let alphabet = alphabet(alloc)?;
+    Ok(alphabet.has(letter) && alphabet.is_text_word(&[letter, letter]))
+}
+
+/// The last letter's weight, where the alphabet is itself.
+fn last_weight(alloc: Global) -> Result<Option<u8>, Fail> {
+    let alphabet = alphabet(alloc)?;
+    if alphabet.names().len() == 3 && alphabet.same(&alphabet) {
+        Ok(Some(alphabet.letter(2).weight()))
+    } else {
+        Ok(None)
+    }
 }
 
 #[test]
 fn alphabets_have_letters(rt: HostRuntime) -> Result<(), Fail> {
     let light = Letter::of(2, 1).ok_or("a letter")?;
-    let z = letter(b'z')?;
-    let alphabet = alphabet(rt.alloc())?;
-    assert_eq!(rt; has_letter(&alphabet, z), (true, true));
-    assert_eq!(rt; has_letter(&alphabet, light), (false, false));
-    assert_eq!(rt; alphabet.names().len(), 3);
-    assert!(rt; alphabet.letter(2) == z);
-    assert!(rt; alphabet.same(&alphabet));
+    assert!(rt; has_letter(rt.alloc(), letter(b'z')?)?);
+    assert!(rt; !has_letter(rt.alloc(), light)?);
+    assert_eq!(rt; last_weight(rt.alloc())?, Some(3));
     Ok(())
 }
 
@@ -134,22 +131,30 @@ fn has_letters(setting: &Setting) -> bool {
         && weights == setting.alphabet().weights()
 }
 
-#[test]
-fn settings_have_letters(rt: HostRuntime) -> Result<(), Fail> {
-    let setting = setting(rt.alloc())?;
-    assert!(rt; has_letters(&setting));
-    assert!(rt; setting.same(&setting));
-    assert_eq!(rt; setting.prime().number(), 101);
-    Ok(())
+/// Whether the setting has its letters and is itself, and its prime.
+fn look_at_letters(alloc: Global) -> Result<(bool, bool, u32), Fail> {
+    let setting = setting(alloc)?;
+    Ok((
+        has_letters(&setting),
+        setting.same(&setting),
+        setting.prime().number(),
+    ))
+}
+
+/// Whether the setting has two generators and the first is x x z, and what their leading words weigh.
+fn look_at_generators(alloc: Global) -> Result<Option<(bool, u32, u32)>, Fail> {
+    let setting = setting(alloc)?;
+    if setting.generators().len() != 2 {
+        return Ok(None);
+    }
+    let first = are_terms(setting.generator(1).terms(), &[(1, "xxz")]);
+    Ok(Some((first, setting.weight(1), setting.weight(2))))
 }
 
 #[test]
-fn settings_have_generators(rt: HostRuntime) -> Result<(), Fail> {
-    let setting = setting(rt.alloc())?;
-    assert_eq!(rt; setting.generators().len(), 2);
-    assert_eq!(rt; (setting.weight(1), setting.weight(2)), (5, 1));
-    assert!(rt; are_terms(setting.generator(1).terms(), &[(1, "xxz")]));
-    assert!(rt; are_terms(setting.generator(2).terms(), &[(5, "y")]));
+fn settings_have_letters_and_generators(rt: HostRuntime) -> Result<(), Fail> {
+    assert_eq!(rt; look_at_letters(rt.alloc())?, (true, true, 101));
+    assert_eq!(rt; look_at_generators(rt.alloc())?, Some((true, 5, 1)));
     Ok(())
 }
 
@@ -171,14 +176,14 @@ fn line(alloc: Global) -> Result<Line, Fail> {
     Ok(line)
 }
 
-#[test]
-fn lines_have_parts(rt: HostRuntime) -> Result<(), Fail> {
-    let line = line(rt.alloc())?;
-    assert_eq!(rt; line.len(), 2);
-    assert_eq!(rt; line.get(1).of, Of::Generator(1));
-    assert_eq!(rt; line.get(2).of, Of::Line(1));
-    assert_eq!(rt; line.parts().len(), 2);
-    Ok(())
+/// What the parts of the line multiply.
+fn factors(alloc: Global) -> Result<Option<(Of, Of)>, Fail> {
+    let line = line(alloc)?;
+    if line.len() == 2 && line.parts().len() == 2 {
+        Ok(Some((line.get(1).of, line.get(2).of)))
+    } else {
+        Ok(None)
+    }
 }
 
 /// A line without parts, and then that of `line`.
@@ -189,25 +194,21 @@ fn lines(alloc: Global) -> Result<Lines, Fail> {
     Ok(lines)
 }
 
-#[test]
-fn lines_stand_in_a_row(rt: HostRuntime) -> Result<(), Fail> {
-    let lines = lines(rt.alloc())?;
-    assert_eq!(rt; lines.len(), 2);
-    assert_eq!(rt; lines.get(1).len(), 0);
-    assert_eq!(rt; lines.lines()[1].len(), 2);
-    Ok(())
+/// How many parts the lines have.
+fn lengths(alloc: Global) -> Result<Option<(u64, u64)>, Fail> {
+    let lines = lines(alloc)?;
+    if lines.len() == 2 && lines.lines().len() == 2 {
+        Ok(Some((lines.get(1).len(), lines.get(2).len())))
+    } else {
+        Ok(None)
+    }
 }
 
-/// Without a line the value is zero, which is the claim.
 #[test]
-fn certificates_claim(rt: HostRuntime) -> Result<(), Fail> {
-    let certificate = Certificate {
-        setting: setting(rt.alloc())?,
-        claim: Poly::zero(rt.alloc()),
-        lines: Lines::empty(rt.alloc()),
-    };
-    assert!(rt; certificate.claim.is_zero());
-    assert_eq!(rt; certificate.lines.len(), 0);
+fn lines_have_parts(rt: HostRuntime) -> Result<(), Fail> {
+    let want = Some((Of::Generator(1), Of::Line(1)));
+    assert_eq!(rt; factors(rt.alloc())?, want);
+    assert_eq!(rt; lengths(rt.alloc())?, Some((0, 2)));
     Ok(())
 }
 
@@ -234,6 +235,12 @@ fn is_within(alloc: Global, problem: &Problem, left: &str) -> Result<bool, Fail>
     Ok(problem.within(&sig))
 }
 
+/// The same of the problem to degree 6.
+fn is_within_6(alloc: Global, left: &str) -> Result<bool, Fail> {
+    let problem = problem(alloc, 6)?;
+    is_within(alloc, &problem, left)
+}
+
 /// The degree that the problem goes to, and its steps.
 fn limits(problem: &Problem) -> (Option<u32>, u64) {
     let degree = match problem.bound() {
@@ -243,13 +250,10 @@ fn limits(problem: &Problem) -> (Option<u32>, u64) {
     (degree, problem.steps())
 }
 
-#[test]
-fn problems_have_bounds(rt: HostRuntime) -> Result<(), Fail> {
-    let problem = problem(rt.alloc(), 6)?;
-    assert_eq!(rt; limits(&problem), (Some(6), 10));
-    assert!(rt; is_within(rt.alloc(), &problem, "x")?);
-    assert!(rt; !is_within(rt.alloc(), &problem, "xx")?);
-    Ok(())
+/// The limits of the problem to degree 6.
+fn look_at_limits(alloc: Global) -> Result<(Option<u32>, u64), Fail> {
+    let problem = problem(alloc, 6)?;
+    Ok(limits(&problem))
 }
 
 /// Whether the problem is the one to this degree.
@@ -258,11 +262,18 @@ fn has_degree_bound(alloc: Global, first: &Problem, degree: u32) -> Result<bool,
     Ok(first.same(&other))
 }
 
+/// Whether the problems to these degrees are the same.
+fn are_same_problems(alloc: Global, a: u32, b: u32) -> Result<bool, Fail> {
+    let first = problem(alloc, a)?;
+    has_degree_bound(alloc, &first, b)
+}
+
 #[test]
-fn problems_are_compared(rt: HostRuntime) -> Result<(), Fail> {
-    let first = problem(rt.alloc(), 5)?;
-    assert!(rt; has_degree_bound(rt.alloc(), &first, 5)?);
-    assert!(rt; !has_degree_bound(rt.alloc(), &first, 6)?);
+fn problems_have_bounds(rt: HostRuntime) -> Result<(), Fail> {
+    assert_eq!(rt; look_at_limits(rt.alloc())?, (Some(6), 10));
+    assert!(rt; is_within_6(rt.alloc(), "x")?);
+    assert!(rt; !is_within_6(rt.alloc(), "xx")?);
+    assert!(rt; !are_same_problems(rt.alloc(), 5, 6)?);
     Ok(())
 }
 
@@ -306,14 +317,13 @@ fn has_terms(m: &Module, want: &[(Residue, &str, u32)]) -> bool {
         })
 }
 
-#[test]
-fn module_terms_are_collected(rt: HostRuntime) -> Result<(), Fail> {
-    let setting = setting(rt.alloc())?;
+/// Whether 2 x [2] + 3 [1] + 99 x [2] + 5 [2] is 3 [1] + 5 [2], and how many terms 0 has.
+fn collected(alloc: Global) -> Result<(bool, usize), Fail> {
+    let setting = setting(alloc)?;
     let terms = [(2, "x", 2), (3, "", 1), (99, "x", 2), (5, "", 2)];
-    let m = module(rt.alloc(), &setting, &terms)?;
-    assert!(rt; has_terms(&m, &[(3, "", 1), (5, "", 2)]));
-    assert!(rt; Module::zero(rt.alloc()).terms().is_empty());
-    Ok(())
+    let m = module(alloc, &setting, &terms)?;
+    let zero = Module::zero(alloc);
+    Ok((has_terms(&m, &[(3, "", 1), (5, "", 2)]), zero.terms().len()))
 }
 
 /// Whether the multiples are small.
@@ -339,13 +349,12 @@ fn subtract(alloc: Global, setting: &Setting, m: &mut Module) -> Result<(), Fail
     Ok(())
 }
 
-#[test]
-fn module_elements_lose_multiples(rt: HostRuntime) -> Result<(), Fail> {
-    let setting = setting(rt.alloc())?;
-    let mut m = module(rt.alloc(), &setting, &[(3, "", 1), (5, "x", 2)])?;
-    subtract(rt.alloc(), &setting, &mut m)?;
-    assert!(rt; has_terms(&m, &[(3, "", 1)]));
-    Ok(())
+/// Whether 3 [1] is left of 3 [1] + 5 x [2].
+fn loses_multiple(alloc: Global) -> Result<bool, Fail> {
+    let setting = setting(alloc)?;
+    let mut m = module(alloc, &setting, &[(3, "", 1), (5, "x", 2)])?;
+    subtract(alloc, &setting, &mut m)?;
+    Ok(has_terms(&m, &[(3, "", 1)]))
 }
 
 /// Whether the setting has the monomial's generator, and the degree is that of the setting.
@@ -370,11 +379,18 @@ fn eval(setting: &Setting, m: &Module) -> Result<Poly, Fail> {
     Ok(m.eval(setting)?)
 }
 
-#[test]
-fn module_elements_are_evaluated(rt: HostRuntime) -> Result<(), Fail> {
-    let setting = setting(rt.alloc())?;
-    let m = module(rt.alloc(), &setting, &[(3, "z", 1), (7, "x", 2)])?;
+/// Whether 3 z [1] + 7 x [2] evaluates to 3 z x x z + 35 x y.
+fn is_evaluated(alloc: Global) -> Result<bool, Fail> {
+    let setting = setting(alloc)?;
+    let m = module(alloc, &setting, &[(3, "z", 1), (7, "x", 2)])?;
     let f = eval(&setting, &m)?;
-    assert!(rt; are_terms(f.terms(), &[(3, "zxxz"), (35, "xy")]));
+    Ok(are_terms(f.terms(), &[(3, "zxxz"), (35, "xy")]))
+}
+
+#[test]
+fn module_elements_are_made_and_evaluated(rt: HostRuntime) -> Result<(), Fail> {
+    assert_eq!(rt; collected(rt.alloc())?, (true, 0));
+    assert!(rt; loses_multiple(rt.alloc())?);
+    assert!(rt; is_evaluated(rt.alloc())?);
     Ok(())
 }

@@ -1,4 +1,5 @@
-//! Values that several tests use.
+//! Letters, words and polynomials that tests use.
+#![tactic(auto)]
 
 ghost use Rattle.nc_algebra.specs.Polynomials.{AreResidues};
 ghost use Rattle.nc_algebra.specs.Words.{word_weight};
@@ -11,14 +12,14 @@ use std::alloc::Global;
 use std::test::Fail;
 
 /// The prime 101.
-pub(crate) fn prime() -> Result<Prime, Fail>
+pub fn prime() -> Result<Prime, Fail>
     ensures { IfOk result (λ p. p ≡ 101) }
 {
     Ok(Prime::of(101).ok_or("listed")?)
 }
 
 /// The letters x and y, which weigh 1, and z, which weighs 3.
-pub(crate) fn letter(name: u8) -> Result<Letter, Fail> {
+pub fn letter(name: u8) -> Result<Letter, Fail> {
     let letter = match name {
         b'x' => Letter::of(0, 1),
         b'y' => Letter::of(1, 1),
@@ -29,7 +30,7 @@ pub(crate) fn letter(name: u8) -> Result<Letter, Fail> {
 }
 
 /// The word of these letters, of which there are at most nine.
-pub(crate) fn word(alloc: Global, text: &str) -> Result<Word, Fail>
+pub fn word(alloc: Global, text: &str) -> Result<Word, Fail>
     ensures { IfOk result (λ w. word_weight w ≤ 900) }
 {
     let mut letters = Vec::new(alloc);
@@ -56,32 +57,27 @@ fn name(letter: Letter) -> u8 {
 }
 
 /// Whether these are the letters that the text names.
-pub(crate) fn spells(letters: &[Letter], text: &str) -> bool {
+pub fn spells(letters: &[Letter], text: &str) -> bool {
     let names = text.as_bytes();
     letters.len() == names.len() && letters.iter().zip(names).all(|(l, n)| name(*l) == *n)
 }
 
 /// Whether the coefficients lie below the prime.
-pub(crate) fn are_residues(p: Prime, terms: &[Term]) -> bool
+pub fn are_residues(p: Prime, terms: &[Term]) -> bool
     ensures { IsTrue result → AreResidues p terms.now }
 {
     terms.iter().all(|t| t.coefficient < p.number())
 }
 
 /// Appends a term with this coefficient and this word.
-pub(crate) fn push_term(
-    alloc: Global,
-    terms: &mut Vec<Term>,
-    c: Residue,
-    text: &str,
-) -> Result<(), Fail> {
+pub fn push_term(alloc: Global, terms: &mut Vec<Term>, c: Residue, text: &str) -> Result<(), Fail> {
     let word = word(alloc, text)?;
     terms.push(Term::of(c, word))?;
     Ok(())
 }
 
 /// The polynomial with these terms.
-pub(crate) fn poly(alloc: Global, p: Prime, terms: &[(Residue, &str)]) -> Result<Poly, Fail>
+pub fn poly(alloc: Global, p: Prime, terms: &[(Residue, &str)]) -> Result<Poly, Fail>
     ensures { IfOk result (AreResidues p) }
 {
     let mut list = Vec::new(alloc);
@@ -98,9 +94,16 @@ pub(crate) fn poly(alloc: Global, p: Prime, terms: &[(Residue, &str)]) -> Result
     Ok(f)
 }
 
+/// Whether the term has this coefficient and this word.
+pub fn is_term(term: &Term, want: (Residue, &str)) -> bool {
+    term.coefficient == want.0 && spells(term.letters(), want.1)
+}
+
 /// Whether the terms have these coefficients and words, in this order.
-pub(crate) fn are_terms(terms: &[Term], want: &[(Residue, &str)]) -> bool {
+pub fn are_terms(terms: &[Term], want: &[(Residue, &str)]) -> bool {
     terms.len() == want.len()
-        && terms.iter().zip(want).all(|(term, (c, text))| term.coefficient == *c
-            && spells(term.letters(), text))
+        && terms
+            .iter()
+            .zip(want)
+            .all(|(term, want)| is_term(term, *want))
 }
