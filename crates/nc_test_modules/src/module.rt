@@ -69,7 +69,7 @@ fn alphabets_take_names_and_weights(rt: HostRuntime) -> Result<(), Fail> {
     Ok(())
 }
 
-/// Whether it has the letter, and whether a word of the letter may stand in a text.
+/// Whether the alphabet has the letter, also in a word of a text.
 fn has_letter(alloc: Global, letter: Letter) -> Result<bool, Fail> {
     let alphabet = alphabet(alloc)?;
     Ok(alphabet.has(letter) && alphabet.is_text_word(&[letter, letter]))
@@ -131,7 +131,7 @@ fn has_letters(setting: &Setting) -> bool {
         && weights == setting.alphabet().weights()
 }
 
-/// Whether the setting has its letters and is itself, and its prime.
+/// Whether the setting has its letters and is the same as itself, and its prime.
 fn look_at_letters(alloc: Global) -> Result<(bool, bool, u32), Fail> {
     let setting = setting(alloc)?;
     Ok((
@@ -141,7 +141,7 @@ fn look_at_letters(alloc: Global) -> Result<(bool, bool, u32), Fail> {
     ))
 }
 
-/// Whether the setting has two generators and the first is x x z, and what their leading words weigh.
+/// Whether the first of two generators is x x z, and what their leading words weigh.
 fn look_at_generators(alloc: Global) -> Result<Option<(bool, u32, u32)>, Fail> {
     let setting = setting(alloc)?;
     if setting.generators().len() != 2 {
@@ -235,7 +235,7 @@ fn is_within(alloc: Global, problem: &Problem, left: &str) -> Result<bool, Fail>
     Ok(problem.within(&sig))
 }
 
-/// The same of the problem to degree 6.
+/// Whether the first generator with this word before it lies within the problem to degree 6.
 fn is_within_6(alloc: Global, left: &str) -> Result<bool, Fail> {
     let problem = problem(alloc, 6)?;
     is_within(alloc, &problem, left)
@@ -328,7 +328,9 @@ fn collected(alloc: Global) -> Result<(bool, usize), Fail> {
 
 /// Whether the multiples are small.
 fn are_small(u: &[Letter], m: &[ModuleTerm], v: &[Letter]) -> bool
-    ensures { IsTrue result ↔ (All (λ t. word_weight u.now + t.key.degree + word_weight v.now ≤ 300000) m.now × (All (λ t. length u.now + length t.key.left ≤ 200000) m.now × All (λ t. length t.key.right + length v.now ≤ 200000) m.now)) }
+    ensures degrees { IsTrue result → All (λ t. word_weight u.now + t.key.degree + word_weight v.now ≤ 300000) m.now }
+    ensures left { IsTrue result → All (λ t. length u.now + length t.key.left ≤ 200000) m.now }
+    ensures right { IsTrue result → All (λ t. length t.key.right + length v.now ≤ 200000) m.now }
 {
     m.iter().all(|t| weight_of(u) + u128::from(t.at.degree) + weight_of(v) <= 300000)
         && m.iter().all(|t| u.len() as u128 + t.at.left.letters().len() as u128 <= 200000)

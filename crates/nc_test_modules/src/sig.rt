@@ -41,7 +41,7 @@ fn around(
     }
 }
 
-/// The same in x y [1] y x z.
+/// How many letters stand before and behind the monomial in x y [1] y x z.
 fn divide(
     alloc: Global,
     left: &str,
@@ -71,7 +71,7 @@ fn compare_times(
     Ok(sig.compare_times(u.letters(), v.letters(), other))
 }
 
-/// The same, of the multiple of x [2] and x [2] y.
+/// Compares the multiple of x [2] with x [2] y.
 fn compare_multiple(alloc: Global, left: &str, right: &str) -> Result<Ordering, Fail> {
     let one = sig(alloc, "x", 2, "")?;
     let other = sig(alloc, "x", 2, "y")?;
@@ -104,7 +104,7 @@ fn compare_with_copy(sig: &Sig) -> Result<(Ordering, bool), Fail> {
     Ok((sig.cmp(&copy), *sig == copy))
 }
 
-/// The same of x z [3] y.
+/// How x z [3] y compares with its copy, and whether it equals it.
 fn compare_copy(alloc: Global) -> Result<(Ordering, bool), Fail> {
     let sig = sig(alloc, "xz", 3, "y")?;
     compare_with_copy(&sig)

@@ -29,7 +29,7 @@ fn has_numbers(alloc: Global) -> Result<bool, Fail> {
     Ok(list.len() == 600 && found == (Some(255), Some(256), None))
 }
 
-/// The last items of both sides of a share that grew, each by its own item, from a list of this many.
+/// The last items of a list of this many and of its share, after each got an item of its own.
 fn grow_apart(alloc: Global, n: u64) -> Result<(Option<u64>, Option<u64>), Fail> {
     let mut left = numbers(alloc, n)?;
     let mut right = left.share()?;

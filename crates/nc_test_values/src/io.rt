@@ -58,7 +58,7 @@ fn goes_on<S: Source>(alloc: Global, source: &mut S, rest: &[u8]) -> bool {
     }
 }
 
-/// Whether a source in memory does.
+/// Whether a source in memory fails at its second call, and goes on then.
 fn memory_goes_on(alloc: Global) -> Result<bool, Fail> {
     let mut source = source_of(alloc, b"abcdefghij", 3, 2)?;
     Ok(goes_on(alloc, &mut source, b"defghi"))
@@ -113,7 +113,7 @@ impl Read for FlakyReader {
     }
 }
 
-/// Whether a reader that fails at its second call does not stay so.
+/// Whether a reader of std fails at its second call, and goes on then.
 fn reader_goes_on(alloc: Global) -> bool {
     let mut source = StdSource::of(FlakyReader {
         left: b"abcdefgh",

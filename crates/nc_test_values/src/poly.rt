@@ -35,7 +35,7 @@ fn has_room(u: &[Letter], g: &Poly, v: &[Letter]) -> bool
         .all(|t| u.len() + t.letters().len() + v.len() <= 200_000)
 }
 
-/// Whether the words are the same, how they compare, and whether the coefficient 0 is found to be 0.
+/// Whether the words are the same, how they compare, and whether the coefficient 0 is 0.
 fn compare_terms(alloc: Global, a: &str, b: &str) -> Result<(bool, Ordering, bool), Fail> {
     let term = Term::of(0, word(alloc, a)?);
     let other = Term::of(1, word(alloc, b)?);
@@ -64,7 +64,7 @@ fn is_multiplied(alloc: Global, term: &Term, u: Letter, v: Letter) -> Result<boo
     Ok(is_term(&multiple, (49, "xyz")))
 }
 
-/// Whether u t v is.
+/// Whether the multiple u t v of the term t = 50 y is what is wanted.
 fn is_moved(alloc: Global, term: &Term, u: Letter, v: Letter) -> Result<bool, Fail> {
     if term.letters().len() > 9 {
         return Err("too long".into());
@@ -73,7 +73,7 @@ fn is_moved(alloc: Global, term: &Term, u: Letter, v: Letter) -> Result<bool, Fa
     Ok(is_term(&shifted, (50, "xyz")))
 }
 
-/// Whether both are.
+/// Whether both multiples of 50 y are what is wanted.
 fn multiply(alloc: Global, u: Letter, v: Letter) -> Result<bool, Fail> {
     let term = Term::of(50, word(alloc, "y")?);
     Ok(is_multiplied(alloc, &term, u, v)? && is_moved(alloc, &term, u, v)?)
@@ -88,7 +88,7 @@ fn terms_are_compared_and_multiplied(rt: HostRuntime) -> Result<(), Fail> {
     Ok(())
 }
 
-/// Whether terms in any order make 4 x y + 2 x x + 2, and what the coefficient of its greatest term is.
+/// Whether terms in any order make 4 x y + 2 x x + 2, and the first coefficient of the sum.
 fn collected(alloc: Global) -> Result<(bool, Option<Residue>), Fail> {
     let terms = [
         (3, "y"),
@@ -163,7 +163,7 @@ fn polynomials_are_moved_and_added(rt: HostRuntime) -> Result<(), Fail> {
 /// x x - y without 3 x (x x - y) y.
 const DIFFERENCE: [(Residue, &str); 4] = [(98, "xxxy"), (3, "xyy"), (1, "xx"), (100, "y")];
 
-/// Whether a polynomial is this difference then.
+/// Whether a polynomial gives this difference.
 fn poly_loses(alloc: Global, x: Letter, y: Letter) -> Result<bool, Fail> {
     let p = prime()?;
     let mut f = square_minus_y(alloc, p)?;
@@ -175,7 +175,7 @@ fn poly_loses(alloc: Global, x: Letter, y: Letter) -> Result<bool, Fail> {
     Ok(are_terms(f.terms(), &DIFFERENCE))
 }
 
-/// Whether an accumulator is this difference then.
+/// Whether an accumulator gives this difference.
 fn accumulator_loses(alloc: Global, x: Letter, y: Letter) -> Result<bool, Fail> {
     let p = prime()?;
     let mut sum = Accumulator::of(square_minus_y(alloc, p)?);
@@ -201,7 +201,7 @@ fn gives(heap: Heap, want: &[(Residue, &str)]) -> bool {
     left.is_zero()
 }
 
-/// Whether a heap is this difference then.
+/// Whether a heap gives this difference.
 fn heap_loses(alloc: Global, x: Letter, y: Letter) -> Result<bool, Fail> {
     let p = prime()?;
     let mut heap = Heap::of(alloc, square_minus_y(alloc, p)?)?;
