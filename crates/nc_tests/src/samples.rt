@@ -1,25 +1,26 @@
-//! Letters, words and polynomials that tests use.
-#![tactic(auto)]
+//! Values that several tests use.
 
 ghost use Rattle.nc_algebra.specs.Polynomials.{AreResidues};
 ghost use Rattle.nc_algebra.specs.Words.{word_weight};
-ghost use Rattle.std.specs.Prelude.{IfOk, IsTrue, ◌≡◌, ◌≤◌};
+ghost use Rattle.std.specs.Prelude.{IfOk, IsTrue, length, ◌≡◌, ◌≤◌};
 
 use nc_field::{Prime, Residue};
+use nc_module::Problem;
 use nc_poly::{Poly, Term};
+use nc_text::read_problem;
 use nc_words::{Letter, Word};
 use std::alloc::Global;
 use std::test::Fail;
 
 /// The prime 101.
-pub fn prime() -> Result<Prime, Fail>
+pub(crate) fn prime() -> Result<Prime, Fail>
     ensures { IfOk result (λ p. p ≡ 101) }
 {
     Ok(Prime::of(101).ok_or("listed")?)
 }
 
 /// The letters x and y, which weigh 1, and z, which weighs 3.
-pub fn letter(name: u8) -> Result<Letter, Fail> {
+pub(crate) fn letter(name: u8) -> Result<Letter, Fail> {
     let letter = match name {
         b'x' => Letter::of(0, 1),
         b'y' => Letter::of(1, 1),
@@ -30,7 +31,7 @@ pub fn letter(name: u8) -> Result<Letter, Fail> {
 }
 
 /// The word of these letters, of which there are at most nine.
-pub fn word(alloc: Global, text: &str) -> Result<Word, Fail>
+pub(crate) fn word(alloc: Global, text: &str) -> Result<Word, Fail>
     ensures { IfOk result (λ w. word_weight w ≤ 900) }
 {
     let mut letters = Vec::new(alloc);
@@ -57,27 +58,27 @@ fn name(letter: Letter) -> u8 {
 }
 
 /// Whether these are the letters that the text names.
-pub fn spells(letters: &[Letter], text: &str) -> bool {
+pub(crate) fn spells(letters: &[Letter], text: &str) -> bool {
     let names = text.as_bytes();
     letters.len() == names.len() && letters.iter().zip(names).all(|(l, n)| name(*l) == *n)
 }
 
 /// Whether the coefficients lie below the prime.
-pub fn are_residues(p: Prime, terms: &[Term]) -> bool
+fn are_residues(p: Prime, terms: &[Term]) -> bool
     ensures { IsTrue result → AreResidues p terms.now }
 {
     terms.iter().all(|t| t.coefficient < p.number())
 }
 
 /// Appends a term with this coefficient and this word.
-pub fn push_term(alloc: Global, terms: &mut Vec<Term>, c: Residue, text: &str) -> Result<(), Fail> {
+fn push_term(alloc: Global, terms: &mut Vec<Term>, c: Residue, text: &str) -> Result<(), Fail> {
     let word = word(alloc, text)?;
     terms.push(Term::of(c, word))?;
     Ok(())
 }
 
 /// The polynomial with these terms.
-pub fn poly(alloc: Global, p: Prime, terms: &[(Residue, &str)]) -> Result<Poly, Fail>
+pub(crate) fn poly(alloc: Global, p: Prime, terms: &[(Residue, &str)]) -> Result<Poly, Fail>
     ensures { IfOk result (AreResidues p) }
 {
     let mut list = Vec::new(alloc);
@@ -95,15 +96,29 @@ pub fn poly(alloc: Global, p: Prime, terms: &[(Residue, &str)]) -> Result<Poly, 
 }
 
 /// Whether the term has this coefficient and this word.
-pub fn is_term(term: &Term, want: (Residue, &str)) -> bool {
+fn is_term(term: &Term, want: (Residue, &str)) -> bool {
     term.coefficient == want.0 && spells(term.letters(), want.1)
 }
 
 /// Whether the terms have these coefficients and words, in this order.
-pub fn are_terms(terms: &[Term], want: &[(Residue, &str)]) -> bool {
+pub(crate) fn are_terms(terms: &[Term], want: &[(Residue, &str)]) -> bool {
     terms.len() == want.len()
         && terms
             .iter()
             .zip(want)
             .all(|(term, want)| is_term(term, *want))
+}
+
+/// The problem that a text is.
+pub(crate) fn problem(alloc: Global, text: &str) -> Result<Problem, Fail> {
+    Ok(read_problem(alloc, text.as_bytes(), false)?.problem)
+}
+
+/// The words of a line.
+pub(crate) fn words(alloc: Global, line: &str) -> Result<Vec<String>, Fail> {
+    let mut words = Vec::new(alloc);
+    for word in line.split_whitespace() {
+        words.push(String::from_str(alloc, word)?)?;
+    }
+    Ok(words)
 }

@@ -1,0 +1,14 @@
+//! Tests of what no contract says and no case on the built program shows: reads and writes that fail in mid-stream, lists of
+//! another type, and calls that the program does not make.
+#![tactic(auto)]
+
+#[cfg(test)]
+mod calls;
+#[cfg(test)]
+mod chunks;
+#[cfg(test)]
+mod io;
+#[cfg(test)]
+mod run;
+#[cfg(test)]
+mod samples;
