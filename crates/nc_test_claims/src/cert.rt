@@ -7,7 +7,7 @@ ghost use Rattle.std.specs.Prelude.{All, ◌≤◌};
 use nc_cert::{Verdict, check, limit_law};
 use nc_desk::Finished;
 use nc_field::Residue;
-use nc_member::{Proof, prove};
+use nc_member::{Membership, prove};
 use nc_module::Certificate;
 use nc_poly::Poly;
 use nc_sample_runs::{claim, run, setting};
@@ -31,7 +31,7 @@ fn certificate(
     if !setting.same(finished.snapshot().problem().setting()) {
         return Err("another setting".into());
     }
-    let Proof::Below(lines) = prove(alloc, finished, other)? else {
+    let Membership::Below(lines) = prove(alloc, finished, other)? else {
         return Err("no proof".into());
     };
     Ok(Certificate {

@@ -2,8 +2,8 @@
 
 use nc_desk::Finished;
 use nc_field::Residue;
-use nc_member::{Membership, Proof, member, prove};
-use nc_module::Lines;
+use nc_member::{Membership, member, prove};
+use nc_module::{Lines, Module};
 use nc_sample_runs::{claim, is_label, run};
 use nc_samples::are_terms;
 use std::alloc::Global;
@@ -14,7 +14,7 @@ fn answer(
     alloc: Global,
     finished: &Finished,
     terms: &[(Residue, &str)],
-) -> Result<Membership, Fail> {
+) -> Result<Membership<Module>, Fail> {
     let claim = claim(alloc, finished, terms)?;
     Ok(member(alloc, finished, &claim, 2)?)
 }
@@ -44,7 +44,7 @@ fn a_claim_is_not_represented(rt: HostRuntime) -> Result<(), Fail> {
 fn proof(alloc: Global, finished: &Finished) -> Result<Option<Lines>, Fail> {
     let claim = claim(alloc, finished, &[(3, "xx")])?;
     match prove(alloc, finished, &claim)? {
-        Proof::Below(lines) => Ok(Some(lines)),
+        Membership::Below(lines) => Ok(Some(lines)),
         _ => Ok(None),
     }
 }

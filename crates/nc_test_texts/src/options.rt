@@ -2,7 +2,7 @@
 
 use crate::samples::words;
 use nc_options::{
-    BasisOptions, Cofactors, DemoOptions, MemberOptions, Options, OptionsError, read_options,
+    BasisOptions, Cofactors, DemoOptions, Form, MemberOptions, Options, OptionsError, read_options,
 };
 use std::alloc::Global;
 use std::test::Fail;
@@ -50,10 +50,13 @@ fn member(rt: HostRuntime) -> Result<(), Fail> {
         workers: 1,
         window: 64,
         limit: 10_000,
-        form: 2,
+        form: Form::Lines,
     };
     assert!(rt; gives(rt.alloc(), "member", Options::Member(wanted))?);
-    let wanted = MemberOptions { form: 1, ..wanted };
+    let wanted = MemberOptions {
+        form: Form::Terms,
+        ..wanted
+    };
     assert!(rt; gives(rt.alloc(), "member --form 01", Options::Member(wanted))?);
     Ok(())
 }

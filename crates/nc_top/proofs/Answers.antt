@@ -9,6 +9,8 @@ use Rattle.nc_algebra.specs.Problems.{IsProblem, IsWithin, NamedProblem}
 use Rattle.nc_io.specs.Adds.{Adds}
 use Rattle.nc_io.specs.Causes.{Rose}
 use Rattle.nc_io.specs.Pieces.{TakesWhole}
+use Rattle.nc_options.specs.declared.options.Form.{Form}
+use Rattle.nc_options.specs.declared.options.Form.TheVariants.{Terms, Lines}
 use Rattle.nc_options.specs.declared.options.BasisOptions.{BasisOptions}
 use Rattle.nc_options.specs.declared.options.MemberOptions.{MemberOptions}
 use Rattle.nc_options.specs.declared.options.Options.{Options}
@@ -24,7 +26,7 @@ use Rattle.nc_top.proofs.Inputs.{err_or_ok}
 use Rattle.nc_top.proofs.MemberAnswers.{member_answer, one_member, same_claims}
 use Rattle.nc_top.proofs.Claims.{problem_is}
 use Rattle.nc_top.proofs.Remainders.{is_represented}
-use Rattle.nc_top.specs.Member.{IsClaimText, IsMember, IsMemberAnswer, IsNotBelow, IsRemainder, IsTooManyTermsOf, Remainder}
+use Rattle.nc_top.specs.Member.{IsCertified, IsCertifiedAs, IsClaimText, IsMemberAnswer, IsNotBelow, IsRemainder, IsTooManyAs, IsTooManyTermsOf, Remainder}
 use Rattle.nc_snapshot.specs.declared.outcome.Listed.{Listed}
 use Rattle.nc_top.specs.Basis.{IsBasis, IsComplete, IsProblemText, IsTooManyTerms, status_at}
 use Rattle.nc_top.specs.Laws.{CompleteMembers, CompleteRuns, FaultlessRuns, OneAnswer}
@@ -154,17 +156,21 @@ module _ (options : MemberOptions) (bytes : List ℕ) (P : NamedProblem) (claim 
 
   abbrev IsDecided : Status → List ℕ → Type 0
   IsDecided status report =
-      (IsBelow × (status ≡ Done) × IsMember options bytes report)
+      (IsBelow × (status ≡ Done) × IsCertified options bytes report)
       ⊎ ((IsBelow × ((named : Listed) × (terms : ℕ) × (status ≡ TooMany named terms) × IsTooManyTermsOf options bytes named terms report))
       ⊎ (¬ IsBelow × (status ≡ NotBelow) × IsNotBelow bytes report))
 
-  done_below : (report : List ℕ) → IsMember options bytes report → IsBelow
-  done_below report (inl (form, t)) = is_below t.remainder t.is t.nothing
-  done_below report (inr (form, t)) = is_below t.remainder t.is t.nothing
+  done_below : (form : Form) (report : List ℕ) → IsCertifiedAs form options.limit bytes report → IsBelow
+  done_below Terms report t = is_below t.remainder t.is t.nothing
+  done_below Lines report t = is_below t.remainder t.is t.nothing
+
+  many_below : (form : Form) (named : Listed) (terms : ℕ) (report : List ℕ) → IsTooManyAs form options.limit bytes named terms report → IsBelow
+  many_below Terms named terms report t = is_below t.remainder t.is t.nothing
+  many_below Lines named terms report t = absurd t
 
   decided : (status : Status) (report : List ℕ) → IsMemberAnswer options bytes status report → IsDecided status report
-  decided Done report h = inl (done_below report h, refl, h)
-  decided (TooMany named terms) report h = inr (inl (is_below h.1.remainder h.1.is h.1.nothing, (named, terms, refl, h)))
+  decided Done report h = inl (done_below options.form report h, refl, h)
+  decided (TooMany named terms) report h = inr (inl (many_below options.form named terms report h, (named, terms, refl, h)))
   decided NotBelow report h = inr (inr (λ has. h.none (moved_back h.remainder h.is has), refl, h))
   decided Budget report h = let both : End.complete ≡ End.budget h.next = sym (member_complete h.remainder h.is) ∙ h.budget in absurd cc
   decided (BadText line kind) report h = absurd (err_or_ok (sym h.read ∙ text.read))
@@ -180,7 +186,7 @@ module _ (options : MemberOptions) (bytes : List ℕ) (P : NamedProblem) (claim 
     abbrev Decides : Type 0
     Decides =
         ((result ≡ OutOfMemory) × Adds written_before written_after [])
-        ⊎ ((IsBelow × (result ≡ Done) × ((report : List ℕ) × IsMember options bytes report × Adds written_before written_after report))
+        ⊎ ((IsBelow × (result ≡ Done) × ((report : List ℕ) × IsCertified options bytes report × Adds written_before written_after report))
         ⊎ ((IsBelow × ((named : Listed) × (terms : ℕ) × (result ≡ TooMany named terms) × ((report : List ℕ) × IsTooManyTermsOf options bytes named terms report × Adds written_before written_after report)))
         ⊎ (¬ IsBelow × (result ≡ NotBelow) × ((report : List ℕ) × IsNotBelow bytes report × Adds written_before written_after report))))
 

@@ -10,6 +10,7 @@ pub mod Ending
 pub mod Claims
 pub mod Needed
 pub mod Sums
+pub mod Forms
 pub mod MemberEnds
 pub mod MemberLines
 pub mod Remainders

@@ -19,6 +19,8 @@ use Rattle.nc_cofactor.specs.Sums.{IsSum}
 use Rattle.nc_cofactor.specs.Traces.{IsTraceIn}
 use Rattle.nc_member.specs.Lines.{proof_lines}
 use Rattle.nc_module.specs.Modules.{element_of}
+use Rattle.nc_options.specs.declared.options.Form.{Form}
+use Rattle.nc_options.specs.declared.options.Form.TheVariants.{Terms, Lines}
 use Rattle.nc_options.specs.declared.options.MemberOptions.{MemberOptions}
 use Rattle.nc_print.specs.Printing.{certificate_text, terms_text}
 use Rattle.nc_snapshot.specs.declared.outcome.Listed.{Listed}
@@ -34,7 +36,7 @@ use Rattle.nc_top.specs.Inputs.{IsBadText, IsTooLarge}
 use Rattle.nc_top.specs.Reports.{not_below_report, too_many_report, undecided_report}
 use Rattle.nc_top.specs.declared.status.Status.{Status}
 use Rattle.nc_top.specs.declared.status.Status.TheVariants.{BadText, Budget, Done, Invalid, NotBelow, OutOfMemory, ReadFault, TooLarge, TooMany, TooMuch, Usage, WriteFault}
-use Rattle.std.specs.Prelude.{All, List, Ok, Some, [], length, map, true, ℕ, ◌≡◌, ◌≢◌, ◌≤◌, ◌⊎◌}
+use Rattle.std.specs.Prelude.{All, List, Ok, Some, [], length, map, true, ℕ, ◌≡◌, ◌≢◌, ◌≤◌}
 use Rattle.std.specs.declared.result.Result.{Result}
 
 -- a problem, whose claim is wanted
@@ -139,17 +141,26 @@ pub record IsUndecided (bytes report : List ℕ) : Type 0 where
 
 -- ---- answers
 
--- a certificate in the form that is asked for: terms in form 1, and lines in form 2
-abbrev pub IsMember : MemberOptions → List ℕ → List ℕ → Type 0
-IsMember options bytes report = ((options.form ≡ 1) × IsTerms options.limit bytes report) ⊎ ((options.form ≢ 1) × IsLines bytes report)
+-- a certificate of the claim in this form; only terms have a limit
+abbrev pub IsCertifiedAs : Form → ℕ → List ℕ → List ℕ → Type 0
+IsCertifiedAs Terms limit bytes report = IsTerms limit bytes report
+IsCertifiedAs Lines limit bytes report = IsLines bytes report
 
--- only form 1 has a limit
+-- a label has more terms than the limit, which no lines have
+abbrev pub IsTooManyAs : Form → ℕ → List ℕ → Listed → ℕ → List ℕ → Type 0
+IsTooManyAs Terms limit bytes named terms report = IsTooManyInSum limit bytes named terms report
+IsTooManyAs Lines limit bytes named terms report = ⊥
+
+-- the same in the form that is asked for
+abbrev pub IsCertified : MemberOptions → List ℕ → List ℕ → Type 0
+IsCertified options bytes report = IsCertifiedAs options.form options.limit bytes report
+
 abbrev pub IsTooManyTermsOf : MemberOptions → List ℕ → Listed → ℕ → List ℕ → Type 0
-IsTooManyTermsOf options bytes named terms report = (options.form ≡ 1) × IsTooManyInSum options.limit bytes named terms report
+IsTooManyTermsOf options bytes named terms report = IsTooManyAs options.form options.limit bytes named terms report
 
 -- status and report for the bytes of an input
 abbrev pub IsMemberAnswer : MemberOptions → List ℕ → Status → List ℕ → Type 0
-IsMemberAnswer options bytes Done report = IsMember options bytes report
+IsMemberAnswer options bytes Done report = IsCertified options bytes report
 IsMemberAnswer options bytes NotBelow report = IsNotBelow bytes report
 IsMemberAnswer options bytes Budget report = IsUndecided bytes report
 IsMemberAnswer options bytes (TooMany named terms) report = IsTooManyTermsOf options bytes named terms report
