@@ -20,9 +20,7 @@ use Rattle.nc_cofactor.specs.declared.fault.CofactorFault.TheVariants.{OutOfMemo
 use Rattle.nc_desk.specs.Ends.{Finished}
 use Rattle.nc_member.specs.Lines.{proof_lines}
 use Rattle.nc_member.specs.declared.membership.Membership.{Membership}
-use Rattle.nc_member.specs.declared.membership.Membership.TheVariants.{Below as Represented, NotBelow as Unrepresented, Undecided as Open}
-use Rattle.nc_member.specs.declared.proof.Proof.{Proof}
-use Rattle.nc_member.specs.declared.proof.Proof.TheVariants.{Below, NotBelow, Undecided}
+use Rattle.nc_member.specs.declared.membership.Membership.TheVariants.{Below, NotBelow, Undecided}
 use Rattle.nc_module.specs.Modules.{element_of}
 use Rattle.nc_snapshot.specs.declared.outcome.Listed.{Listed}
 use Rattle.nc_theory.specs.Bases.{HasRepresentation}
@@ -62,13 +60,17 @@ pub record IsOpen (P : Problem) (n : ℕ) (ending : End) (claim rest : Polynomia
   pub steps : List Step
   pub is : IsRestOf P n claim rest steps
 
+-- the answer: what shows a representation, that there is none within the bound, or that it stays open
+abbrev pub IsMembership : {T : Type 0} → (T → Type 0) → Finished → Polynomial → Membership T → Type 0
+IsMembership Shows f claim (Below x) = Shows x
+IsMembership Shows f claim (NotBelow rest) = IsUnrepresented f.snapshot.problem.problem f.snapshot.handled f.ending claim rest
+IsMembership Shows f claim (Undecided rest) = IsOpen f.snapshot.problem.problem f.snapshot.handled f.ending claim rest
+
 -- ---- with a module element
 
--- the answer: a representation, that there is none within the bound, or that it stays open
-abbrev pub IsMember : Finished → Polynomial → ℕ → Membership → Type 0
-IsMember f claim limit (Represented m) = IsRepresented f.snapshot.problem.problem f.snapshot.handled claim limit m
-IsMember f claim limit (Unrepresented rest) = IsUnrepresented f.snapshot.problem.problem f.snapshot.handled f.ending claim rest
-IsMember f claim limit (Open rest) = IsOpen f.snapshot.problem.problem f.snapshot.handled f.ending claim rest
+-- the answer, with a representation
+abbrev pub IsMember : Finished → Polynomial → ℕ → Membership (List (Term Sig)) → Type 0
+IsMember f claim limit = IsMembership (IsRepresented f.snapshot.problem.problem f.snapshot.handled claim limit) f claim
 
 -- nothing is left, and the label of this entry that is needed, or else the representation, has more terms than the limit
 pub record IsTooManyOf (P : Problem) (n : ℕ) (claim : Polynomial) (limit : ℕ) (named : Listed) (terms : ℕ) : Type 0 where
@@ -95,8 +97,6 @@ pub record IsProved (P : NamedProblem) (n : ℕ) (claim : Polynomial) (lines : L
   pub valid : IsValid P.problem.setting claim lines
   pub has : HasRepresentation P.problem.setting (IsWithin P.problem) claim
 
--- the answer, with lines of a certificate in the place of the module element
-abbrev pub IsProof : Finished → Polynomial → Proof → Type 0
-IsProof f claim (Below lines) = IsProved f.snapshot.problem f.snapshot.handled claim lines
-IsProof f claim (NotBelow rest) = IsUnrepresented f.snapshot.problem.problem f.snapshot.handled f.ending claim rest
-IsProof f claim (Undecided rest) = IsOpen f.snapshot.problem.problem f.snapshot.handled f.ending claim rest
+-- the answer, with lines of a certificate
+abbrev pub IsProof : Finished → Polynomial → Membership (List Line) → Type 0
+IsProof f claim = IsMembership (IsProved f.snapshot.problem f.snapshot.handled claim) f claim

@@ -7,4 +7,4 @@ mod proof;
 mod rest;
 
 pub use membership::{Membership, member};
-pub use proof::{Proof, prove};
+pub use proof::prove;

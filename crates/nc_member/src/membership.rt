@@ -1,4 +1,4 @@
-//! Membership with a representation as a module element.
+//! Membership of a claim, with a representation as a module element.
 
 ghost use Rattle.nc_algebra.specs.Alphabets.{IsPolynomialIn};
 ghost use Rattle.nc_algebra.specs.Words.{word_weight};
@@ -13,11 +13,11 @@ use nc_poly::Poly;
 use nc_reduce::Rest;
 use std::alloc::Global;
 
-/// Whether a claim has a representation within the bound.
+/// Whether a claim has a representation within the bound, where `T` is what shows one.
 #[derive(Drop)]
-pub enum Membership {
+pub enum Membership<T> {
     /// It has this one.
-    Below(Module),
+    Below(T),
     /// It has none; this is what is left of it.
     NotBelow(Poly),
     /// The steps of the problem were used up; this is what is left of it.
@@ -33,7 +33,7 @@ pub fn member(
     finished: &Finished,
     claim: &Poly,
     limit: u64,
-) -> Result<Membership, CofactorFault>
+) -> Result<Membership<Module>, CofactorFault>
     requires claim { IsPolynomialIn finished.now.snapshot.problem.alphabet finished.now.snapshot.problem.problem.setting.prime claim.now }
     requires light { All (λ t. word_weight t.key ≤ 200000) claim.now }
     ensures member { IfOk result (IsMember finished.now claim.now limit) }

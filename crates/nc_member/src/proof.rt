@@ -6,6 +6,7 @@ ghost use Rattle.nc_member.specs.Members.{IsProof};
 ghost use Rattle.std.specs.Prelude.{All, IfOk, ◌≤◌};
 
 use crate::lines::lines_of;
+use crate::membership::Membership;
 use crate::rest::rest_of;
 use nc_desk::{End, Finished};
 use nc_module::Lines;
@@ -13,20 +14,13 @@ use nc_poly::Poly;
 use nc_reduce::Rest;
 use std::alloc::{AllocError, Global};
 
-/// Whether a claim has a representation within the bound.
-#[derive(Drop)]
-pub enum Proof {
-    /// It has one: the lines of a certificate of the claim.
-    Below(Lines),
-    /// It has none; this is what is left of it.
-    NotBelow(Poly),
-    /// The steps of the problem were used up; this is what is left of it.
-    Undecided(Poly),
-}
-
 /// Reduces the claim within the problem's bound by all entries of the run, and gives the lines of a certificate where nothing
 /// is left: one for each entry that is needed, in ascending order, and one for the claim. A claim of zero has no line.
-pub fn prove(alloc: Global, finished: &Finished, claim: &Poly) -> Result<Proof, AllocError>
+pub fn prove(
+    alloc: Global,
+    finished: &Finished,
+    claim: &Poly,
+) -> Result<Membership<Lines>, AllocError>
     requires claim { IsPolynomialIn finished.now.snapshot.problem.alphabet finished.now.snapshot.problem.problem.setting.prime claim.now }
     requires light { All (λ t. word_weight t.key ≤ 200000) claim.now }
     ensures { IfOk result (IsProof finished.now claim.now) }
@@ -36,10 +30,10 @@ pub fn prove(alloc: Global, finished: &Finished, claim: &Poly) -> Result<Proof, 
     let Rest { poly, steps } = rest_of(alloc, finished, claim)?;
     if poly.is_zero() {
         let lines = lines_of(alloc, snapshot, finished.leads(), steps.items())?;
-        return Ok(Proof::Below(lines));
+        return Ok(Membership::Below(lines));
     }
     Ok(match finished.end() {
-        End::Complete => Proof::NotBelow(poly),
-        End::Budget(_) => Proof::Undecided(poly),
+        End::Complete => Membership::NotBelow(poly),
+        End::Budget(_) => Membership::Undecided(poly),
     })
 }

@@ -12,6 +12,7 @@ use Rattle.nc_options.specs.Values.{cofactors_of, degree_of, digits_of, form_of,
 use Rattle.nc_options.specs.declared.options.BasisOptions.{BasisOptions}
 use Rattle.nc_options.specs.declared.options.Cofactors.{Cofactors}
 use Rattle.nc_options.specs.declared.options.DemoOptions.{DemoOptions}
+use Rattle.nc_options.specs.declared.options.Form.{Form}
 use Rattle.nc_options.specs.declared.options.MemberOptions.{MemberOptions}
 use Rattle.nc_options.specs.declared.options.Options.{Options}
 use Rattle.nc_options.specs.declared.options.Options.TheVariants.{Basis, Check, Demo, Member}
@@ -54,10 +55,10 @@ basis_parts (Some w) (Some x) None c o e = absurd (none_of_some o e)
 basis_parts (Some w) None l c o e = absurd (none_of_some o e)
 basis_parts None x l c o e = absurd (none_of_some o e)
 
-member_parts : (w x l f : Option ℕ) (o : MemberOptions) → member_with w x l f ≡ Some o → (w ≡ Some o.workers) × (x ≡ Some o.window) × (l ≡ Some o.limit) × (f ≡ Some o.form)
+member_parts : (w x l : Option ℕ) (f : Option Form) (o : MemberOptions) → member_with w x l f ≡ Some o → (w ≡ Some o.workers) × (x ≡ Some o.window) × (l ≡ Some o.limit)
 member_parts (Some w) (Some x) (Some l) (Some f) o e =
     let same : record { workers = w; window = x; limit = l; form = f } ≡ o = cc in
-    (ap (λ (p : MemberOptions). Some p.workers) same, ap (λ (p : MemberOptions). Some p.window) same, ap (λ (p : MemberOptions). Some p.limit) same, ap (λ (p : MemberOptions). Some p.form) same)
+    (ap (λ (p : MemberOptions). Some p.workers) same, ap (λ (p : MemberOptions). Some p.window) same, ap (λ (p : MemberOptions). Some p.limit) same)
 member_parts (Some w) (Some x) (Some l) None o e = absurd (none_of_some o e)
 member_parts (Some w) (Some x) None f o e = absurd (none_of_some o e)
 member_parts (Some w) None l f o e = absurd (none_of_some o e)
@@ -88,12 +89,8 @@ basis_in given o e =
 
 member_in : (given : Text → Option Text) (o : MemberOptions) → member_of given ≡ Some o → AreInRange (Member o)
 member_in given o e =
-    let parts = member_parts (workers_of given) (window_of given) (limit_of given) (form_of given) o e in (
-      workers_in given o.workers parts.0,
-      window_in given o.window parts.1,
-      limit_in given o.limit parts.2,
-      or_in_range 1 2 2 (given (codes "form")) o.form (omega arith) (omega arith) parts.3,
-    )
+    let parts = member_parts (workers_of given) (window_of given) (limit_of given) (form_of given) o e in
+    (workers_in given o.workers parts.0, window_in given o.window parts.1, limit_in given o.limit parts.2)
 
 demo_in : (given : Text → Option Text) (o : DemoOptions) → demo_of given ≡ Some o → AreInRange (Demo o)
 demo_in given o e =

@@ -33,7 +33,7 @@ IsWithin low high number = (low ≤ number) × (number ≤ high)
 -- the numbers lie in their ranges
 abbrev pub AreInRange : Options → Type 0
 AreInRange (Basis options) = IsWithin 1 64 options.workers × IsWithin 1 4096 options.window × IsWithin 1 10000000 options.limit
-AreInRange (Member options) = IsWithin 1 64 options.workers × IsWithin 1 4096 options.window × IsWithin 1 10000000 options.limit × IsWithin 1 2 options.form
+AreInRange (Member options) = IsWithin 1 64 options.workers × IsWithin 1 4096 options.window × IsWithin 1 10000000 options.limit
 AreInRange Check = Unit {0}
 AreInRange (Demo options) = IsWithin 0 65536 options.number × IsWithin 2 10 options.degree × IsWithin 1 64 options.workers × IsWithin 1 4096 options.window
 

@@ -11,6 +11,7 @@ use Rattle.nc_command.specs.Uses.{uses_of, value_of}
 use Rattle.nc_options.specs.Values.{workers_of, window_of, limit_of, cofactors_of, form_of, number_of, degree_of}
 use Rattle.nc_options.specs.declared.options.Cofactors.{Cofactors}
 use Rattle.nc_options.specs.declared.options.BasisOptions.{BasisOptions}
+use Rattle.nc_options.specs.declared.options.Form.{Form}
 use Rattle.nc_options.specs.declared.options.MemberOptions.{MemberOptions}
 use Rattle.nc_options.specs.declared.options.DemoOptions.{DemoOptions}
 use Rattle.nc_options.specs.declared.options.Options.{Options}
@@ -23,7 +24,7 @@ basis_with (Some workers) (Some window) (Some limit) (Some cofactors) =
 basis_with _ _ _ _ = None
 
 -- the same of `member`
-abbrev pub member_with : Option ℕ → Option ℕ → Option ℕ → Option ℕ → Option MemberOptions
+abbrev pub member_with : Option ℕ → Option ℕ → Option ℕ → Option Form → Option MemberOptions
 member_with (Some workers) (Some window) (Some limit) (Some form) =
     Some (record { workers = workers; window = window; limit = limit; form = form })
 member_with _ _ _ _ = None

@@ -3,8 +3,9 @@
 -- Values are texts until here. `given` is a function from names to the texts that were given, or
 -- `None`. A number has 1 to 18 decimal digits and lies in its range; leading zeros are digits. A
 -- default holds where the option was not given, and never for a text that is no value. `cofactors`
--- says what is shown of the cofactors: none, the traces, or the labels in full.
-use Rattle.std.specs.Prelude.{◌&&◌, ℕ, Option, Some, None, codes, if◌then◌else◌, length, nat_le, nat_lt, option_and_then}
+-- says what is shown of the cofactors: none, the traces, or the labels in full; `form` says whether a
+-- certificate is printed as terms or as lines.
+use Rattle.std.specs.Prelude.{◌&&◌, ◌==◌, ℕ, Option, Some, None, codes, if◌then◌else◌, length, nat_le, nat_lt, option_and_then, option_map}
 use Rattle.std.specs.Char.{is_ascii_digit}
 use Rattle.std.specs.List.{list_all}
 use Rattle.std.specs.Str.{bytes_eq}
@@ -13,6 +14,8 @@ use Rattle.nc_command.specs.Pieces.{Text}
 use Rattle.nc_command.specs.Uses.{number_id}
 use Rattle.nc_options.specs.declared.options.Cofactors.{Cofactors}
 use Rattle.nc_options.specs.declared.options.Cofactors.TheVariants.{Omitted, Trace, Full}
+use Rattle.nc_options.specs.declared.options.Form.{Form}
+use Rattle.nc_options.specs.declared.options.Form.TheVariants.{Terms, Lines}
 
 -- the value of 1 to 18 decimal digits; leading zeros are digits
 abbrev pub digits_of : Text → Option ℕ
@@ -44,9 +47,13 @@ window_of given = number_or 1 4096 64 (given (codes "window"))
 abbrev pub limit_of : (Text → Option Text) → Option ℕ
 limit_of given = number_or 1 10000000 10000 (given (codes "limit"))
 
+-- the form with this number, 1 or 2
+abbrev pub form_numbered : ℕ → Form
+form_numbered number = if number == 1 then Terms else Lines
+
 -- form 1 or 2, form 2 by default
-abbrev pub form_of : (Text → Option Text) → Option ℕ
-form_of given = number_or 1 2 2 (given (codes "form"))
+abbrev pub form_of : (Text → Option Text) → Option Form
+form_of given = option_map form_numbered (number_or 1 2 2 (given (codes "form")))
 
 -- a degree of 2 to 10, 6 by default
 abbrev pub degree_of : (Text → Option Text) → Option ℕ

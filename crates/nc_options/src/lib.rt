@@ -12,7 +12,7 @@ mod split;
 mod values;
 
 pub use error::OptionsError;
-pub use options::{BasisOptions, Cofactors, DemoOptions, MemberOptions, Options};
+pub use options::{BasisOptions, Cofactors, DemoOptions, Form, MemberOptions, Options};
 pub use read::read_options;
 
 /// The order of the options is free, and so is the place of the number among them.

@@ -11,6 +11,15 @@ pub enum Cofactors {
     Full,
 }
 
+/// How a certificate is printed.
+#[derive(Clone, Copy, Debug, PartialEq, Eq)]
+pub enum Form {
+    /// As the terms of a module element: `--form 1`.
+    Terms,
+    /// As lines that use the lines before them: `--form 2`.
+    Lines,
+}
+
 /// The options of `basis`.
 #[derive(Clone, Copy, Debug, PartialEq, Eq)]
 pub struct BasisOptions {
@@ -33,8 +42,8 @@ pub struct MemberOptions {
     pub window: u32,
     /// How many terms a representation may have, 1 to 10,000,000.
     pub limit: u32,
-    /// The form of the certificate that is printed, 1 or 2.
-    pub form: u32,
+    /// The form of the certificate that is printed.
+    pub form: Form,
 }
 
 /// The options of `demo`.

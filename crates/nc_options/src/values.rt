@@ -6,7 +6,7 @@ ghost use Rattle.std.specs.Char.{is_ascii_digit};
 ghost use Rattle.std.specs.List.{list_all};
 ghost use Rattle.std.specs.Prelude.{◌≡◌, option_map};
 
-use crate::options::Cofactors;
+use crate::options::{Cofactors, Form};
 use clap::ArgMatches;
 
 /// Whether each byte is a digit.
@@ -69,10 +69,15 @@ pub fn limit(matches: &ArgMatches<'_>) -> Option<u32>
 }
 
 /// `--form`, 1 or 2, by default 2.
-pub fn form(matches: &ArgMatches<'_>) -> Option<u32>
+pub fn form(matches: &ArgMatches<'_>) -> Option<Form>
     ensures { result ≡ form_of (first_value (found_of matches.now)) }
 {
-    number_or(matches.get_str("form"), 1, 2, 2)
+    let number = number_or(matches.get_str("form"), 1, 2, 2)?;
+    Some(if number == 1 {
+        Form::Terms
+    } else {
+        Form::Lines
+    })
 }
 
 /// `--degree`, 2 to 10, by default 6.

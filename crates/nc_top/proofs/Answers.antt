@@ -9,6 +9,9 @@ use Rattle.nc_algebra.specs.Problems.{IsProblem, IsWithin, NamedProblem}
 use Rattle.nc_io.specs.Adds.{Adds}
 use Rattle.nc_io.specs.Causes.{Rose}
 use Rattle.nc_io.specs.Pieces.{TakesWhole}
+use Rattle.nc_module.specs.Modules.{element_of}
+use Rattle.nc_options.specs.declared.options.Form.{Form}
+use Rattle.nc_options.specs.declared.options.Form.TheVariants.{Terms, Lines}
 use Rattle.nc_options.specs.declared.options.BasisOptions.{BasisOptions}
 use Rattle.nc_options.specs.declared.options.MemberOptions.{MemberOptions}
 use Rattle.nc_options.specs.declared.options.Options.{Options}
@@ -18,13 +21,13 @@ use Rattle.nc_search.specs.Named.{letters_of}
 use Rattle.nc_search.specs.Untraced.{untraced}
 use Rattle.nc_theory.specs.Bases.{HasRepresentation}
 use Rattle.nc_theory.specs.Runs.{End, IsEnd}
-use Rattle.nc_top.proofs.BasisAnswers.{Known, basis_answer, ended_run, known, one_basis, prime_of, problem_of_text, same_problem}
+use Rattle.nc_top.proofs.BasisAnswers.{Known, basis_answer, known, one_basis, prime_of, problem_of_text, same_problem}
 use Rattle.nc_top.proofs.CheckAnswers.{check_answer, one_check}
 use Rattle.nc_top.proofs.Inputs.{err_or_ok}
 use Rattle.nc_top.proofs.MemberAnswers.{member_answer, one_member, same_claims}
 use Rattle.nc_top.proofs.Claims.{problem_is}
 use Rattle.nc_top.proofs.Remainders.{is_represented}
-use Rattle.nc_top.specs.Member.{IsClaimText, IsMember, IsMemberAnswer, IsNotBelow, IsRemainder, IsTooManyTermsOf, Remainder}
+use Rattle.nc_top.specs.Member.{Ended, IsCertified, IsCertifiedAs, IsClaimText, IsEnded, IsMemberAnswer, IsNotBelow, IsTooManyAs, IsTooManyTermsOf}
 use Rattle.nc_snapshot.specs.declared.outcome.Listed.{Listed}
 use Rattle.nc_top.specs.Basis.{IsBasis, IsComplete, IsProblemText, IsTooManyTerms, status_at}
 use Rattle.nc_top.specs.Laws.{CompleteMembers, CompleteRuns, FaultlessRuns, OneAnswer}
@@ -127,46 +130,47 @@ module _ (options : MemberOptions) (bytes : List ℕ) (P : NamedProblem) (claim 
   abbrev IsBelow : Type 0
   IsBelow = HasRepresentation P.problem.setting (IsWithin P.problem) claim
 
-  module _ (r : Remainder) (is : IsRemainder bytes r) where
-    same : (r.problem ≡ P) × (r.claim ≡ claim)
-    same = same_claims bytes r.problem P r.claim claim is.text text
+  module _ (e : Ended) (is : IsEnded bytes e) where
+    same : (e.problem ≡ P) × (e.claim ≡ claim)
+    same = same_claims bytes e.problem P e.claim claim is.text text
 
-    here : IsProblem r.problem
-    here = problem_is bytes r.problem r.claim is.text
+    here : IsProblem e.problem
+    here = problem_is bytes e.problem e.claim is.text
 
-    member_complete : r.ending ≡ End.complete
-    member_complete = subst Ends (sym same.0) (λ at few ends. complete P at (prime_of P at) few r.handled (untraced r.run) r.ending (record { run = r.run; ends = ends; stands = refl })) here enough_there is.ends
+    member_complete : e.ending ≡ End.complete
+    member_complete = subst Ends (sym same.0) (λ at few ends. complete P at (prime_of P at) few e.handled (untraced is.run) e.ending (record { run = is.run; ends = ends; stands = refl })) here enough_there is.ends
       where
         Ends : NamedProblem → Type 0
-        Ends Q = IsProblem Q → length (monomials_within Q.problem.setting Q.problem.bound (letters_of Q.alphabet)) ≤ Q.problem.steps → IsEnd Q.problem r.handled r.run r.ending → r.ending ≡ End.complete
+        Ends Q = IsProblem Q → length (monomials_within Q.problem.setting Q.problem.bound (letters_of Q.alphabet)) ≤ Q.problem.steps → IsEnd Q.problem e.handled is.run e.ending → e.ending ≡ End.complete
 
-        enough_there : length (monomials_within r.problem.problem.setting r.problem.problem.bound (letters_of r.problem.alphabet)) ≤ r.problem.problem.steps
+        enough_there : length (monomials_within e.problem.problem.setting e.problem.problem.bound (letters_of e.problem.alphabet)) ≤ e.problem.problem.steps
         enough_there = subst (λ (Q : NamedProblem). length (monomials_within Q.problem.setting Q.problem.bound (letters_of Q.alphabet)) ≤ Q.problem.steps) (sym same.0) enough
 
-    moved : HasRepresentation r.problem.problem.setting (IsWithin r.problem.problem) r.claim → IsBelow
+    moved : HasRepresentation e.problem.problem.setting (IsWithin e.problem.problem) e.claim → IsBelow
     moved has = subst₂ (λ (Q : NamedProblem) (f : Polynomial). HasRepresentation Q.problem.setting (IsWithin Q.problem) f) same.0 same.1 has
 
-    moved_back : IsBelow → HasRepresentation r.problem.problem.setting (IsWithin r.problem.problem) r.claim
+    moved_back : IsBelow → HasRepresentation e.problem.problem.setting (IsWithin e.problem.problem) e.claim
     moved_back has = subst₂ (λ (Q : NamedProblem) (f : Polynomial). HasRepresentation Q.problem.setting (IsWithin Q.problem) f) (sym same.0) (sym same.1) has
-
-    is_below : r.rest ≡ [] → IsBelow
-    is_below nothing = moved (is_represented r.problem here (ended_run r.problem.problem is.ends).1 r.claim r.rest r.steps is.reduces nothing)
 
   abbrev IsDecided : Status → List ℕ → Type 0
   IsDecided status report =
-      (IsBelow × (status ≡ Done) × IsMember options bytes report)
+      (IsBelow × (status ≡ Done) × IsCertified options bytes report)
       ⊎ ((IsBelow × ((named : Listed) × (terms : ℕ) × (status ≡ TooMany named terms) × IsTooManyTermsOf options bytes named terms report))
       ⊎ (¬ IsBelow × (status ≡ NotBelow) × IsNotBelow bytes report))
 
-  done_below : (report : List ℕ) → IsMember options bytes report → IsBelow
-  done_below report (inl (form, t)) = is_below t.remainder t.is t.nothing
-  done_below report (inr (form, t)) = is_below t.remainder t.is t.nothing
+  done_below : (form : Form) (report : List ℕ) → IsCertifiedAs form options.limit bytes report → IsBelow
+  done_below Terms report t = moved t.ended t.is (element_of t.m, t.represented.lies, t.represented.evaluates)
+  done_below Lines report t = moved t.ended t.is t.proved.has
+
+  many_below : (form : Form) (named : Listed) (terms : ℕ) (report : List ℕ) → IsTooManyAs form options.limit bytes named terms report → IsBelow
+  many_below Terms named terms report t = moved t.ended t.is (is_represented t.ended.problem (here t.ended t.is) t.many.rest.runs t.ended.claim [] t.many.steps t.many.rest.reduces refl)
+  many_below Lines named terms report t = absurd t
 
   decided : (status : Status) (report : List ℕ) → IsMemberAnswer options bytes status report → IsDecided status report
-  decided Done report h = inl (done_below report h, refl, h)
-  decided (TooMany named terms) report h = inr (inl (is_below h.1.remainder h.1.is h.1.nothing, (named, terms, refl, h)))
-  decided NotBelow report h = inr (inr (λ has. h.none (moved_back h.remainder h.is has), refl, h))
-  decided Budget report h = let both : End.complete ≡ End.budget h.next = sym (member_complete h.remainder h.is) ∙ h.budget in absurd cc
+  decided Done report h = inl (done_below options.form report h, refl, h)
+  decided (TooMany named terms) report h = inr (inl (many_below options.form named terms report h, (named, terms, refl, h)))
+  decided NotBelow report h = inr (inr (λ has. h.left.none (moved_back h.ended h.is has), refl, h))
+  decided Budget report h = let both : End.complete ≡ End.budget h.left.next = sym (member_complete h.ended h.is) ∙ h.left.budget in absurd cc
   decided (BadText line kind) report h = absurd (err_or_ok (sym h.read ∙ text.read))
   decided TooLarge report h = absurd (omega (arith, h.large, text.small))
   decided Invalid report h = absurd h
@@ -180,7 +184,7 @@ module _ (options : MemberOptions) (bytes : List ℕ) (P : NamedProblem) (claim 
     abbrev Decides : Type 0
     Decides =
         ((result ≡ OutOfMemory) × Adds written_before written_after [])
-        ⊎ ((IsBelow × (result ≡ Done) × ((report : List ℕ) × IsMember options bytes report × Adds written_before written_after report))
+        ⊎ ((IsBelow × (result ≡ Done) × ((report : List ℕ) × IsCertified options bytes report × Adds written_before written_after report))
         ⊎ ((IsBelow × ((named : Listed) × (terms : ℕ) × (result ≡ TooMany named terms) × ((report : List ℕ) × IsTooManyTermsOf options bytes named terms report × Adds written_before written_after report)))
         ⊎ (¬ IsBelow × (result ≡ NotBelow) × ((report : List ℕ) × IsNotBelow bytes report × Adds written_before written_after report))))
 

@@ -33,7 +33,7 @@ use Rattle.nc_top.proofs.BasisAnswers.{field_of}
 use Rattle.nc_top.proofs.Letters.{IsNamed, named, words_named}
 use Rattle.nc_top.specs.Member.{IsClaimText, reads_claim}
 use Rattle.nc_text.proofs.ReadProblems.{reads_problems}
-use Rattle.std.proofs.Common.{All, Contains, IfOk, List, None, Ok, Option, Result, Some, arith, length, refl, subst, sym, true, ℕ, ◌-◌, ◌<◌, ◌∙◌, ◌≡◌, ◌≤◌}
+use Rattle.std.proofs.Common.{All, Contains, IfOk, List, None, Ok, Option, Result, Some, arith, length, refl, subst, sym, true, ℕ, ◌<◌, ◌∙◌, ◌≡◌, ◌≤◌}
 use Rattle.std.proofs.lemmas.List.Elements.{All-weaker}
 
 -- ---- what is read

@@ -10,6 +10,8 @@ pub mod Ending
 pub mod Claims
 pub mod Needed
 pub mod Sums
+pub mod Forms
+pub mod Told
 pub mod MemberEnds
 pub mod MemberLines
 pub mod Remainders

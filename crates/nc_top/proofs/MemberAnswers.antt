@@ -3,7 +3,6 @@
 -- (`same_remainders`), and each claim has such a remainder (`remainder_exists`). `Told` is what is
 -- told of it: a certificate in one of two forms, a label with too many terms, no representation, or
 -- steps that did not suffice.
-use Rattle.nc_algebra.proofs.Orders.{Decided}
 use Rattle.nc_algebra.specs.Certificates.{Line}
 use Rattle.nc_algebra.specs.Lists.{Among}
 use Rattle.nc_algebra.specs.Monomials.{Monomial, Sig}
@@ -16,6 +15,8 @@ use Rattle.nc_cofactor.specs.Claims.{AreWithinLimit, IsTooManyFor, numbers_of}
 use Rattle.nc_cofactor.specs.Sums.{IsSum}
 use Rattle.nc_member.specs.Lines.{proof_lines}
 use Rattle.nc_module.specs.Modules.{element_of}
+use Rattle.nc_options.specs.declared.options.Form.{Form}
+use Rattle.nc_options.specs.declared.options.Form.TheVariants.{Terms, Lines}
 use Rattle.nc_options.specs.declared.options.MemberOptions.{MemberOptions}
 use Rattle.nc_print.specs.Printing.{certificate_text, terms_text}
 use Rattle.nc_snapshot.specs.declared.outcome.Listed.{Listed}
@@ -30,13 +31,15 @@ use Rattle.nc_tokens.specs.Kinds.{number_of}
 use Rattle.nc_tokens.specs.declared.fault.TextFault.{TextFault}
 use Rattle.nc_top.proofs.BasisAnswers.{ended_run, field_of, prime_of}
 use Rattle.nc_top.proofs.Claims.{claim_in, has_claim, problem_is}
+use Rattle.nc_top.proofs.Forms.{as_lines, as_terms, as_too_many}
 use Rattle.nc_top.proofs.Inputs.{err_or_ok, same_fault}
 use Rattle.nc_top.proofs.MemberLines.{proof_holds}
-use Rattle.nc_top.proofs.Needed.{AreListed, needed_dec, needed_list, needed_once, needed_within, number_dec, numbers_within}
+use Rattle.nc_top.proofs.Needed.{AreListed, needed_dec, needed_list, needed_once, needed_within, numbers_within}
 use Rattle.nc_top.proofs.Remainders.{not_represented, rest_exists, rest_once, terms_evaluate, terms_lie}
+use Rattle.nc_top.proofs.Told.{AreProof, IsRemainder, Remainder, Represents, at_end, ended, is_at_end, is_ended, many_at_end, many_of, open_of, proof_at_end, proved_of, represented_of, terms_at_end, unrepresented_of}
 use Rattle.nc_top.proofs.Sums.{first_or_within, never_both, too_many_once}
 use Rattle.nc_top.specs.Inputs.{IsBadText, IsTooLarge}
-use Rattle.nc_top.specs.Member.{AreProof, IsClaimText, IsLines, IsMember, IsMemberAnswer, IsRemainder, IsRepresentation, IsTerms, Remainder, certificate_with, reads_claim}
+use Rattle.nc_top.specs.Member.{IsCertifiedAs, IsClaimText, IsMemberAnswer, IsTooManyAs, certificate_with, reads_claim}
 use Rattle.nc_top.specs.Reports.{bad_text_report, not_below_report, too_many_report, undecided_report}
 use Rattle.nc_top.specs.declared.status.Status.{Status}
 use Rattle.nc_top.specs.declared.status.Status.TheVariants.{BadText, Budget, Done, Invalid, NotBelow, OutOfMemory, ReadFault, TooLarge, TooMany, TooMuch, Usage, WriteFault}
@@ -83,17 +86,20 @@ same_remainders bytes r r' a b = λ j. record { problem = texts.0 j; claim = tex
 -- ---- what is told of a remainder
 
 data Told (options : MemberOptions) (r : Remainder) : Status → List ℕ → Type 0 where
-  by_terms : {report : List ℕ} → options.form ≡ 1 → r.rest ≡ [] → (m : List (Term Sig)) → IsRepresentation r options.limit m → report ≡ terms_text (setting_of r.problem) r.claim (element_of m) → Told options r Done report
-  by_lines : {report : List ℕ} → options.form ≢ 1 → r.rest ≡ [] → (needed : List (ℕ × Trace)) (lines : List Line) → AreProof r needed lines → report ≡ certificate_text (certificate_with r lines) → Told options r Done report
-  by_many : {report : List ℕ} → options.form ≡ 1 → r.rest ≡ [] → (named : Listed) (terms : ℕ) → IsTooManyFor r.problem.problem.setting.prime r.run r.steps options.limit named terms → report ≡ too_many_report named terms → Told options r (TooMany named terms) report
+  by_terms : {report : List ℕ} → options.form ≡ Terms → r.rest ≡ [] → (m : List (Term Sig)) → Represents r options.limit m → report ≡ terms_text (setting_of r.problem) r.claim (element_of m) → Told options r Done report
+  by_lines : {report : List ℕ} → options.form ≡ Lines → r.rest ≡ [] → (needed : List (ℕ × Trace)) (lines : List Line) → AreProof r needed lines → report ≡ certificate_text (certificate_with (ended r) lines) → Told options r Done report
+  by_many : {report : List ℕ} → options.form ≡ Terms → r.rest ≡ [] → (named : Listed) (terms : ℕ) → IsTooManyFor r.problem.problem.setting.prime r.run r.steps options.limit named terms → report ≡ too_many_report named terms → Told options r (TooMany named terms) report
   by_none : {report : List ℕ} → r.ending ≡ End.complete → r.rest ≢ [] → ¬ HasRepresentation r.problem.problem.setting (IsWithin r.problem.problem) r.claim → report ≡ not_below_report r.problem.alphabet.names r.rest → Told options r NotBelow report
   by_budget : {report : List ℕ} (τ : Monomial) → r.ending ≡ End.budget τ → r.rest ≢ [] → report ≡ undecided_report r.problem.alphabet.names τ r.rest → Told options r Budget report
 
-done_terms : (options : MemberOptions) (bytes : List ℕ) (report : List ℕ) → (options.form ≡ 1) × IsTerms options.limit bytes report → (r : Remainder) × IsRemainder bytes r × Told options r Done report
-done_terms options bytes report (form, t) = (t.remainder, t.is, Told.by_terms form t.nothing t.m t.represents t.written)
+done : (options : MemberOptions) (bytes : List ℕ) (report : List ℕ) (form : Form) → options.form ≡ form → IsCertifiedAs form options.limit bytes report → (r : Remainder) × IsRemainder bytes r × Told options r Done report
+done options bytes report Terms is t = (at_end bytes t.ended t.is [] t.represented.steps, is_at_end bytes t.ended t.is [] t.represented.steps t.represented.rest, Told.by_terms is refl t.m (terms_at_end bytes t.ended t.is options.limit t.m t.represented) t.written)
+done options bytes report Lines is t = (at_end bytes t.ended t.is [] t.proved.steps, is_at_end bytes t.ended t.is [] t.proved.steps t.proved.rest, Told.by_lines is refl t.proved.needed t.lines (proof_at_end bytes t.ended t.is t.lines t.keeps t.proved) t.written)
 
-done_lines : (options : MemberOptions) (bytes : List ℕ) (report : List ℕ) → (options.form ≢ 1) × IsLines bytes report → (r : Remainder) × IsRemainder bytes r × Told options r Done report
-done_lines options bytes report (form, t) = (t.remainder, t.is, Told.by_lines form t.nothing t.needed t.lines t.proof t.written)
+too_many : (options : MemberOptions) (bytes : List ℕ) (named : Listed) (terms : ℕ) (report : List ℕ) (form : Form) → options.form ≡ form → IsTooManyAs form options.limit bytes named terms report
+    → (r : Remainder) × IsRemainder bytes r × Told options r (TooMany named terms) report
+too_many options bytes named terms report Terms is t = (at_end bytes t.ended t.is [] t.many.steps, is_at_end bytes t.ended t.is [] t.many.steps t.many.rest, Told.by_many is refl named terms (many_at_end bytes t.ended t.is options.limit named terms t.many) t.written)
+too_many options bytes named terms report Lines is t = absurd t
 
 -- what an answer comes from: too many bytes, a fault, or the remainder of a claim
 data Known (options : MemberOptions) (bytes : List ℕ) : Status → List ℕ → Type 0 where
@@ -101,15 +107,11 @@ data Known (options : MemberOptions) (bytes : List ℕ) : Status → List ℕ �
   is_bad : {report : List ℕ} (line kind : ℕ) → IsBadText reads_claim bytes line kind report → Known options bytes (BadText line kind) report
   remains : {status : Status} {report : List ℕ} → (r : Remainder) × IsRemainder bytes r × Told options r status report → Known options bytes status report
 
-known_done : (options : MemberOptions) (bytes report : List ℕ) → IsMember options bytes report → Known options bytes Done report
-known_done options bytes report (inl h) = Known.remains (done_terms options bytes report h)
-known_done options bytes report (inr h) = Known.remains (done_lines options bytes report h)
-
 known : (options : MemberOptions) (bytes : List ℕ) (status : Status) (report : List ℕ) → IsMemberAnswer options bytes status report → Known options bytes status report
-known options bytes Done report h = known_done options bytes report h
-known options bytes NotBelow report h = Known.remains (h.remainder, h.is, Told.by_none h.complete h.some h.none h.written)
-known options bytes Budget report h = Known.remains (h.remainder, h.is, Told.by_budget h.next h.budget h.some h.written)
-known options bytes (TooMany named terms) report (form, h) = Known.remains (h.remainder, h.is, Told.by_many form h.nothing named terms h.many h.written)
+known options bytes Done report h = Known.remains (done options bytes report options.form refl h)
+known options bytes NotBelow report h = Known.remains (at_end bytes h.ended h.is h.rest h.left.steps, is_at_end bytes h.ended h.is h.rest h.left.steps h.left.is, Told.by_none h.left.complete h.left.some h.left.none h.written)
+known options bytes Budget report h = Known.remains (at_end bytes h.ended h.is h.rest h.left.steps, is_at_end bytes h.ended h.is h.rest h.left.steps h.left.is, Told.by_budget h.left.next h.left.budget h.left.some h.written)
+known options bytes (TooMany named terms) report h = Known.remains (too_many options bytes named terms report options.form refl h)
 known options bytes (BadText line kind) report h = Known.is_bad line kind h
 known options bytes TooLarge report h = Known.is_large h
 known options bytes Invalid report h = absurd h
@@ -120,13 +122,16 @@ known options bytes WriteFault report h = absurd h
 known options bytes OutOfMemory report h = absurd h
 
 answered : (options : MemberOptions) (bytes : List ℕ) (status : Status) (report : List ℕ) (r : Remainder) → IsRemainder bytes r → Told options r status report → IsMemberAnswer options bytes status report
-answered options bytes s report r is (Told.by_terms form nothing m represents written) = inl (form, record { remainder = r; is = is; nothing = nothing; m = m; represents = represents; written = written })
-answered options bytes s report r is (Told.by_lines form nothing needed lines proof written) = inr (form, record { remainder = r; is = is; nothing = nothing; needed = needed; lines = lines; proof = proof; written = written })
-answered options bytes s report r is (Told.by_many form nothing named terms many written) = (form, record { remainder = r; is = is; nothing = nothing; many = many; written = written })
-answered options bytes s report r is (Told.by_none complete some none written) = record { remainder = r; is = is; complete = complete; some = some; none = none; written = written }
-answered options bytes s report r is (Told.by_budget τ budget some written) = record { remainder = r; is = is; next = τ; budget = budget; some = some; written = written }
+answered options bytes s report r is (Told.by_terms form nothing m represents written) = as_terms options bytes report form (record { ended = ended r; is = is_ended bytes r is; m = m; represented = represented_of bytes r is nothing options.limit m represents; written = written })
+answered options bytes s report r is (Told.by_lines form nothing needed lines proof written) = as_lines options bytes report form (record { ended = ended r; is = is_ended bytes r is; lines = lines; proved = proved_of bytes r is nothing needed lines proof; keeps = proof.keeps; written = written })
+answered options bytes s report r is (Told.by_many form nothing named terms many written) = as_too_many options bytes report named terms form (record { ended = ended r; is = is_ended bytes r is; many = many_of bytes r is nothing options.limit named terms many; written = written })
+answered options bytes s report r is (Told.by_none complete some none written) = record { ended = ended r; is = is_ended bytes r is; rest = r.rest; left = unrepresented_of bytes r is complete some none; written = written }
+answered options bytes s report r is (Told.by_budget τ budget some written) = record { ended = ended r; is = is_ended bytes r is; rest = r.rest; left = open_of bytes r is τ budget some; written = written }
 
 -- ---- one answer
+
+other_form : {f : Form} → f ≡ Terms → f ≡ Lines → ⊥
+other_form a b = let both : Terms ≡ Lines = sym a ∙ b in absurd cc
 
 other_end : (e : End) (τ : Monomial) → e ≡ End.complete → e ≡ End.budget τ → ⊥
 other_end e τ a b = let both : End.complete ≡ End.budget τ = sym a ∙ b in absurd cc
@@ -135,7 +140,7 @@ one_next : (e : End) (τ τ' : Monomial) → e ≡ End.budget τ → e ≡ End.b
 one_next e τ τ' a b = let both : End.budget τ ≡ End.budget τ' = sym a ∙ b in cc
 
 module _ (options : MemberOptions) (r : Remainder) (some : 0 < r.problem.problem.setting.prime) where
-  within_or_many : (m : List (Term Sig)) → IsRepresentation r options.limit m → (named : Listed) (terms : ℕ) → IsTooManyFor r.problem.problem.setting.prime r.run r.steps options.limit named terms → ⊥
+  within_or_many : (m : List (Term Sig)) → Represents r options.limit m → (named : Listed) (terms : ℕ) → IsTooManyFor r.problem.problem.setting.prime r.run r.steps options.limit named terms → ⊥
   within_or_many m represents named terms many = never_both r.problem.problem.setting some r.run r.steps options.limit represents.within named terms many
 
   same_lines : (needed needed' : List (ℕ × Trace)) (lines lines' : List Line) → AreProof r needed lines → AreProof r needed' lines' → lines ≡ lines'
@@ -145,17 +150,17 @@ module _ (options : MemberOptions) (r : Remainder) (some : 0 < r.problem.problem
 
   told_once : (s s' : Status) (report report' : List ℕ) → Told options r s report → Told options r s' report' → (s ≡ s') × (report ≡ report')
   told_once s s' q q' (Told.by_terms form nothing m a w) (Told.by_terms form' nothing' m' a' w') = (refl, w ∙ (ap (λ (x : List (Term Sig)). terms_text (setting_of r.problem) r.claim (element_of x)) (sum_once r.problem.problem.setting (step_multiples (labels_of r.problem.problem.setting.prime r.run.entries) r.steps) m m' a.is a'.is) ∙ sym w'))
-  told_once s s' q q' (Told.by_terms form nothing m a w) (Told.by_lines form' nothing' needed lines b w') = absurd (form' form)
+  told_once s s' q q' (Told.by_terms form nothing m a w) (Told.by_lines form' nothing' needed lines b w') = absurd (other_form form form')
   told_once s s' q q' (Told.by_terms form nothing m a w) (Told.by_many form' nothing' named terms b w') = absurd (within_or_many m a named terms b)
   told_once s s' q q' (Told.by_terms form nothing m a w) (Told.by_none complete left none w') = absurd (left nothing)
   told_once s s' q q' (Told.by_terms form nothing m a w) (Told.by_budget τ budget left w') = absurd (left nothing)
-  told_once s s' q q' (Told.by_lines form nothing needed lines a w) (Told.by_terms form' nothing' m b w') = absurd (form form')
-  told_once s s' q q' (Told.by_lines form nothing needed lines a w) (Told.by_lines form' nothing' needed' lines' b w') = (refl, w ∙ (ap (λ (l : List Line). certificate_text (certificate_with r l)) (same_lines needed needed' lines lines' a b) ∙ sym w'))
-  told_once s s' q q' (Told.by_lines form nothing needed lines a w) (Told.by_many form' nothing' named terms b w') = absurd (form form')
+  told_once s s' q q' (Told.by_lines form nothing needed lines a w) (Told.by_terms form' nothing' m b w') = absurd (other_form form' form)
+  told_once s s' q q' (Told.by_lines form nothing needed lines a w) (Told.by_lines form' nothing' needed' lines' b w') = (refl, w ∙ (ap (λ (l : List Line). certificate_text (certificate_with (ended r) l)) (same_lines needed needed' lines lines' a b) ∙ sym w'))
+  told_once s s' q q' (Told.by_lines form nothing needed lines a w) (Told.by_many form' nothing' named terms b w') = absurd (other_form form' form)
   told_once s s' q q' (Told.by_lines form nothing needed lines a w) (Told.by_none complete left none w') = absurd (left nothing)
   told_once s s' q q' (Told.by_lines form nothing needed lines a w) (Told.by_budget τ budget left w') = absurd (left nothing)
   told_once s s' q q' (Told.by_many form nothing named terms a w) (Told.by_terms form' nothing' m b w') = absurd (within_or_many m b named terms a)
-  told_once s s' q q' (Told.by_many form nothing named terms a w) (Told.by_lines form' nothing' needed lines b w') = absurd (form' form)
+  told_once s s' q q' (Told.by_many form nothing named terms a w) (Told.by_lines form' nothing' needed lines b w') = absurd (other_form form form')
   told_once s s' q q' (Told.by_many form nothing named terms a w) (Told.by_many form' nothing' named' terms' b w') = let one = too_many_once r.problem.problem.setting some r.run r.steps options.limit named named' terms terms' a b in (ap₂ TooMany one.0 one.1, w ∙ (ap₂ too_many_report one.0 one.1 ∙ sym w'))
   told_once s s' q q' (Told.by_many form nothing named terms a w) (Told.by_none complete left none w') = absurd (left nothing)
   told_once s s' q q' (Told.by_many form nothing named terms a w) (Told.by_budget τ budget left w') = absurd (left nothing)
@@ -208,7 +213,7 @@ module _ (options : MemberOptions) (bytes : List ℕ) (r : Remainder) (is : IsRe
   runs = ended_run r.problem.problem is.ends
 
   module _ (nothing : r.rest ≡ []) where
-    tells_terms : options.form ≡ 1 → AreWithinLimit r.problem.problem.setting.prime r.run r.steps options.limit ⊎ ((named : Listed) × (terms : ℕ) × IsTooManyFor r.problem.problem.setting.prime r.run r.steps options.limit named terms) → TellsSome
+    tells_terms : options.form ≡ Terms → AreWithinLimit r.problem.problem.setting.prime r.run r.steps options.limit ⊎ ((named : Listed) × (terms : ℕ) × IsTooManyFor r.problem.problem.setting.prime r.run r.steps options.limit named terms) → TellsSome
     tells_terms form (inl within) = go (sum_exists r.problem.problem.setting some (step_multiples (labels_of r.problem.problem.setting.prime r.run.entries) r.steps))
       where
         go : (m : List (Term Sig)) × IsSum r.problem.problem.setting (step_multiples (labels_of r.problem.problem.setting.prime r.run.entries) r.steps) m → TellsSome
@@ -227,7 +232,7 @@ module _ (options : MemberOptions) (bytes : List ℕ) (r : Remainder) (is : IsRe
     numbers : (j : ℕ) → Among j (numbers_of r.steps) → (1 ≤ j) × (j ≤ length r.run.entries)
     numbers = numbers_within r.problem.problem.setting r.run.entries (IsWithin r.problem.problem) is.reduces
 
-    tells_lines : options.form ≢ 1 → TellsSome
+    tells_lines : options.form ≡ Lines → TellsSome
     tells_lines form = go (needed_list r.problem problem runs.1 (numbers_of r.steps) numbers)
       where
         go : (l : List (ℕ × Trace)) × AreListed r.problem problem runs.1 (numbers_of r.steps) numbers l → TellsSome
@@ -235,7 +240,7 @@ module _ (options : MemberOptions) (bytes : List ℕ) (r : Remainder) (is : IsRe
             let lines : List Line = proof_lines r.problem.problem.setting.prime needed r.steps in
             let holds = proof_holds r.problem problem r.handled r.run runs.0 runs.1 r.claim r.steps (claim_in bytes r.problem r.claim is.text) (subst (λ (f : Polynomial). Reduction r.problem.problem.setting r.run.entries (IsWithin r.problem.problem) r.claim f r.steps) nothing is.reduces) needed listed.lists listed.traces in (
               Done,
-              certificate_text (certificate_with r lines),
+              certificate_text (certificate_with (ended r) lines),
               Told.by_lines form nothing needed lines (record {
                 lists = listed.lists;
                 traces = listed.traces;
@@ -246,16 +251,16 @@ module _ (options : MemberOptions) (bytes : List ℕ) (r : Remainder) (is : IsRe
               }) refl,
             )
 
-    tells_member : Decided (options.form ≡ 1) → TellsSome
-    tells_member (inl form) = tells_terms form (first_or_within r.problem.problem.setting some r.run r.steps options.limit (needed_dec r.problem problem runs.1 (numbers_of r.steps) numbers) (λ j h. (needed_within r.problem problem runs.1 (numbers_of r.steps) numbers h).1))
-    tells_member (inr other) = tells_lines other
+    tells_member : (form : Form) → options.form ≡ form → TellsSome
+    tells_member Terms form = tells_terms form (first_or_within r.problem.problem.setting some r.run r.steps options.limit (needed_dec r.problem problem runs.1 (numbers_of r.steps) numbers) (λ j h. (needed_within r.problem problem runs.1 (numbers_of r.steps) numbers h).1))
+    tells_member Lines form = tells_lines form
 
   tells_left : r.rest ≢ [] → (e : End) → r.ending ≡ e → TellsSome
   tells_left left End.complete ending = (NotBelow, not_below_report r.problem.alphabet.names r.rest, Told.by_none ending left (not_represented r.problem problem r.handled r.run (subst (IsEnd r.problem.problem r.handled r.run) ending is.ends) r.claim r.rest r.steps is.reduces left) refl)
   tells_left left (End.budget τ) ending = (Budget, undecided_report r.problem.alphabet.names τ r.rest, Told.by_budget τ ending left refl)
 
   tells_rest : (f : Polynomial) → r.rest ≡ f → TellsSome
-  tells_rest [] nothing = tells_member nothing (number_dec options.form 1)
+  tells_rest [] nothing = tells_member nothing options.form refl
   tells_rest (t ∷ f) left = tells_left (λ e. let both : t ∷ f ≡ [] = sym left ∙ e in absurd cc) r.ending refl
 
   tells : TellsSome

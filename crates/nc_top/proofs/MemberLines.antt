@@ -14,7 +14,7 @@ use Rattle.nc_theory.specs.Reductions.{Reduction}
 use Rattle.nc_theory.specs.Runs.{SequentialRun}
 use Rattle.nc_theory.specs.States.{State, Step, Trace}
 use Rattle.nc_algebra.specs.Alphabets.{IsPolynomialIn}
-use Rattle.std.proofs.Common.{List, Option, [], map, refl, ℕ, ◌≡◌}
+use Rattle.std.proofs.Common.{List, Option, [], map, refl, ℕ}
 use Rattle.std.specs.List.{All}
 
 -- as `prove` shows of the lines that it gives

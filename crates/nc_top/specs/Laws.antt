@@ -18,7 +18,7 @@ use Rattle.nc_search.specs.Named.{letters_of}
 use Rattle.nc_snapshot.specs.declared.outcome.Listed.{Listed}
 use Rattle.nc_top.specs.Basis.{IsComplete, IsProblemText, IsTooManyTerms}
 use Rattle.nc_theory.specs.Bases.{HasRepresentation}
-use Rattle.nc_top.specs.Member.{IsClaimText, IsMember, IsNotBelow, IsTooManyTermsOf}
+use Rattle.nc_top.specs.Member.{IsCertified, IsClaimText, IsNotBelow, IsTooManyTermsOf}
 use Rattle.nc_top.specs.Run.{IsAnswer, Ran, Runs}
 use Rattle.nc_top.specs.declared.status.Status.{Status}
 use Rattle.nc_top.specs.declared.status.Status.TheVariants.{Done, NotBelow, OutOfMemory, TooMany}
@@ -56,6 +56,6 @@ CompleteMembers = (options : MemberOptions) (bytes : List ℕ) (P : NamedProblem
     → (left_after written_before written_after : Option (List ℕ)) (source sink : ℕ) (result : Status)
     → Ran (Member options) (Some bytes) left_after written_before written_after source source sink sink result
     → ((result ≡ OutOfMemory) × Adds written_before written_after [])
-    ⊎ ((HasRepresentation P.problem.setting (IsWithin P.problem) claim × (result ≡ Done) × ((report : List ℕ) × IsMember options bytes report × Adds written_before written_after report))
+    ⊎ ((HasRepresentation P.problem.setting (IsWithin P.problem) claim × (result ≡ Done) × ((report : List ℕ) × IsCertified options bytes report × Adds written_before written_after report))
     ⊎ ((HasRepresentation P.problem.setting (IsWithin P.problem) claim × ((named : Listed) × (terms : ℕ) × (result ≡ TooMany named terms) × ((report : List ℕ) × IsTooManyTermsOf options bytes named terms report × Adds written_before written_after report)))
     ⊎ (¬ HasRepresentation P.problem.setting (IsWithin P.problem) claim × (result ≡ NotBelow) × ((report : List ℕ) × IsNotBelow bytes report × Adds written_before written_after report))))

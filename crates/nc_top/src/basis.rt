@@ -7,7 +7,7 @@ ghost use Rattle.nc_top.specs.Basis.{AreShort, IsBasisAnswer, IsProblemText, rea
 ghost use Rattle.nc_cofactor.specs.Terms.{AllWithin};
 ghost use Rattle.nc_top.specs.Reports.{basis_report, too_many_report};
 ghost use Rattle.nc_top.specs.Shown.{FailsToShow, IsRunAt, IsShownOf, kind_of, labels_in};
-ghost use Rattle.std.specs.Prelude.{Err, IfErr, IfOk, Ok, length, ◌≡◌, ◌≤◌};
+ghost use Rattle.std.specs.Prelude.{IfErr, IfOk, Ok, length, ◌≡◌, ◌≤◌};
 
 use crate::input::bad_text_report;
 use crate::listing::report_on;
@@ -20,7 +20,7 @@ use nc_index::Leads;
 use nc_module::Problem;
 use nc_options::{BasisOptions, Cofactors};
 use nc_snapshot::{Listed, Snapshot};
-use nc_text::{ReadFault, TextFault, read_problem};
+use nc_text::{ReadFault, read_problem};
 use std::alloc::{AllocError, Global};
 use std::sync::Arc;
 
@@ -160,23 +160,6 @@ fn answer_problem(
     }
 }
 
-/// Status and report for a text that is no problem.
-fn answer_fault(
-    alloc: Global,
-    bytes: &[u8],
-    options: BasisOptions,
-    fault: TextFault,
-) -> Result<(Status, Vec<u8>), AllocError>
-    requires small { length bytes.now ≤ 16777216 }
-    requires fault { reads_relations bytes.now ≡ Err fault }
-    ensures { IfOk result (λ r. IsBasisAnswer options bytes.now r.0 r.1.items) }
-{
-    let line = fault.line;
-    let kind = fault.kind.number();
-    let report = bad_text_report(alloc, line, kind)?;
-    Ok((Status::BadText { line, kind }, report))
-}
-
 /// Status and report for the bytes of an input that are not too many.
 pub(crate) fn answer_basis(
     alloc: Global,
@@ -190,7 +173,11 @@ pub(crate) fn answer_basis(
 {
     match read_problem(alloc, bytes, false) {
         Ok(text) => answer_problem(alloc, bytes, text.problem, options),
-        Err(ReadFault::Text(fault)) => answer_fault(alloc, bytes, options, fault),
+        Err(ReadFault::Text(fault)) => {
+            let (line, kind) = (fault.line, fault.kind.number());
+            let report = bad_text_report(alloc, line, kind)?;
+            Ok((Status::BadText { line, kind }, report))
+        }
         Err(ReadFault::OutOfMemory) => Err(AllocError),
     }
 }

@@ -4,7 +4,7 @@ ghost use Rattle.nc_algebra.specs.Certificates.{rest_of};
 ghost use Rattle.nc_text.specs.Certificates.{reads_certificate};
 ghost use Rattle.nc_top.specs.Check.{IsCheckAnswer};
 ghost use Rattle.nc_top.specs.Reports.{invalid_report, too_much_report};
-ghost use Rattle.std.specs.Prelude.{Err, IfOk, Ok, length, ◌≡◌, ◌≤◌};
+ghost use Rattle.std.specs.Prelude.{IfOk, Ok, length, ◌≡◌, ◌≤◌};
 
 use crate::input::bad_text_report;
 use crate::status::Status;
@@ -12,7 +12,7 @@ use itoa::Buffer;
 use nc_cert::{Verdict, check};
 use nc_module::Certificate;
 use nc_poly::Poly;
-use nc_text::{ReadFault, TextFault, read_certificate, write_poly};
+use nc_text::{ReadFault, read_certificate, write_poly};
 use std::alloc::{AllocError, Global};
 
 /// The report on a certificate that is not valid.
@@ -43,22 +43,6 @@ fn too_much_report(alloc: Global, line: u32, charge: u128) -> Result<Vec<u8>, Al
     Ok(report)
 }
 
-/// Status and report for a text that is no certificate.
-fn answer_fault(
-    alloc: Global,
-    bytes: &[u8],
-    fault: TextFault,
-) -> Result<(Status, Vec<u8>), AllocError>
-    requires small { length bytes.now ≤ 16777216 }
-    requires fault { reads_certificate bytes.now ≡ Err fault }
-    ensures { IfOk result (λ r. IsCheckAnswer bytes.now r.0 r.1.items) }
-{
-    let line = fault.line;
-    let kind = fault.kind.number();
-    let report = bad_text_report(alloc, line, kind)?;
-    Ok((Status::BadText { line, kind }, report))
-}
-
 /// Status and report for a text of a certificate.
 fn answer_certificate(
     alloc: Global,
@@ -86,7 +70,11 @@ pub(crate) fn answer_check(alloc: Global, bytes: &[u8]) -> Result<(Status, Vec<u
 {
     match read_certificate(alloc, bytes) {
         Ok(certificate) => answer_certificate(alloc, bytes, &certificate),
-        Err(ReadFault::Text(fault)) => answer_fault(alloc, bytes, fault),
+        Err(ReadFault::Text(fault)) => {
+            let (line, kind) = (fault.line, fault.kind.number());
+            let report = bad_text_report(alloc, line, kind)?;
+            Ok((Status::BadText { line, kind }, report))
+        }
         Err(ReadFault::OutOfMemory) => Err(AllocError),
     }
 }

@@ -1,10 +1,11 @@
 //! The answer of `member`.
 
 ghost use Rattle.nc_member.specs.Members.{IsMember, IsOpen, IsProved, IsRepresented, IsUnrepresented};
+ghost use Rattle.nc_options.specs.declared.options.Form.TheVariants.{Lines as AsLines, Terms as AsTerms};
 ghost use Rattle.nc_top.specs.Member.{IsClaimText, IsMemberAnswer, reads_claim};
 ghost use Rattle.nc_algebra.specs.Monomials.{monomial_of};
 ghost use Rattle.nc_top.specs.Reports.{not_below_report, remainder_line, undecided_report};
-ghost use Rattle.std.specs.Prelude.{All, Err, IfOk, Ok, OnOk, length, ◌++◌, ◌<◌, ◌≡◌, ◌≢◌, ◌≤◌};
+ghost use Rattle.std.specs.Prelude.{All, IfOk, Ok, OnOk, length, ◌++◌, ◌<◌, ◌≡◌, ◌≤◌};
 
 use crate::basis::{run_problem, too_many_report};
 use crate::input::bad_text_report;
@@ -12,13 +13,13 @@ use crate::item::names_of;
 use crate::status::Status;
 use nc_cofactor::CofactorFault;
 use nc_desk::{End, Finished};
-use nc_member::{Membership, Proof, member, prove};
+use nc_member::{Membership, member, prove};
 use nc_module::{Lines, Module, Name, Problem};
-use nc_options::MemberOptions;
+use nc_options::{Form, MemberOptions};
 use nc_poly::Poly;
 use nc_print::{write_poly, write_proof, write_sig, write_terms};
 use nc_sig::Sig;
-use nc_text::{ProblemText, ReadFault, TextFault, read_problem};
+use nc_text::{ProblemText, ReadFault, read_problem};
 use std::alloc::{AllocError, Global};
 
 /// Appends what is left of a claim.
@@ -113,7 +114,7 @@ fn answer_lines(
     options: MemberOptions,
 ) -> Result<(Status, Vec<u8>), AllocError>
     requires text { IsClaimText bytes.now finished.now.snapshot.problem claim.now }
-    requires form { options.form ≢ 1 }
+    requires form { options.form ≡ AsLines }
     requires lines { IsProved finished.now.snapshot.problem finished.now.snapshot.handled claim.now lines.now }
     ensures { IfOk result (λ r. IsMemberAnswer options bytes.now r.0 r.1.items) }
 {
@@ -134,7 +135,7 @@ fn answer_terms(
     options: MemberOptions,
 ) -> Result<(Status, Vec<u8>), AllocError>
     requires text { IsClaimText bytes.now finished.now.snapshot.problem claim.now }
-    requires form { options.form ≡ 1 }
+    requires form { options.form ≡ AsTerms }
     requires m { IsRepresented finished.now.snapshot.problem.problem finished.now.snapshot.handled claim.now options.limit m.now }
     ensures { IfOk result (λ r. IsMemberAnswer options bytes.now r.0 r.1.items) }
 {
@@ -145,7 +146,7 @@ fn answer_terms(
     Ok((Status::Done, report))
 }
 
-/// Status and report in form 2.
+/// Status and report where lines are wanted.
 fn answer_by_lines(
     alloc: Global,
     bytes: &[u8],
@@ -154,13 +155,17 @@ fn answer_by_lines(
     options: MemberOptions,
 ) -> Result<(Status, Vec<u8>), AllocError>
     requires text { IsClaimText bytes.now finished.now.snapshot.problem claim.now }
-    requires form { options.form ≢ 1 }
+    requires form { options.form ≡ AsLines }
     ensures { IfOk result (λ r. IsMemberAnswer options bytes.now r.0 r.1.items) }
 {
     match prove(alloc, finished, claim)? {
-        Proof::Below(lines) => answer_lines(alloc, bytes, finished, claim, &lines, options),
-        Proof::NotBelow(rest) => answer_not_below(alloc, bytes, finished, claim, &rest, options),
-        Proof::Undecided(rest) => answer_undecided(alloc, bytes, finished, claim, &rest, options),
+        Membership::Below(lines) => answer_lines(alloc, bytes, finished, claim, &lines, options),
+        Membership::NotBelow(rest) => answer_not_below(
+            alloc, bytes, finished, claim, &rest, options,
+        ),
+        Membership::Undecided(rest) => answer_undecided(
+            alloc, bytes, finished, claim, &rest, options,
+        ),
     }
 }
 
@@ -170,11 +175,11 @@ fn answer_found(
     bytes: &[u8],
     finished: &Finished,
     claim: &Poly,
-    found: Membership,
+    found: Membership<Module>,
     options: MemberOptions,
 ) -> Result<(Status, Vec<u8>), AllocError>
     requires text { IsClaimText bytes.now finished.now.snapshot.problem claim.now }
-    requires form { options.form ≡ 1 }
+    requires form { options.form ≡ AsTerms }
     requires found { IsMember finished.now claim.now options.limit found }
     ensures { IfOk result (λ r. IsMemberAnswer options bytes.now r.0 r.1.items) }
 {
@@ -189,7 +194,7 @@ fn answer_found(
     }
 }
 
-/// Status and report in form 1.
+/// Status and report where terms are wanted.
 fn answer_by_terms(
     alloc: Global,
     bytes: &[u8],
@@ -198,7 +203,7 @@ fn answer_by_terms(
     options: MemberOptions,
 ) -> Result<(Status, Vec<u8>), AllocError>
     requires text { IsClaimText bytes.now finished.now.snapshot.problem claim.now }
-    requires form { options.form ≡ 1 }
+    requires form { options.form ≡ AsTerms }
     ensures { IfOk result (λ r. IsMemberAnswer options bytes.now r.0 r.1.items) }
 {
     let snapshot = finished.snapshot();
@@ -228,10 +233,9 @@ fn answer_claim(
     ensures { IfOk result (λ r. IsMemberAnswer options bytes.now r.0 r.1.items) }
 {
     let finished = run_problem(alloc, problem, options.window)?;
-    if options.form == 1 {
-        answer_by_terms(alloc, bytes, &finished, claim, options)
-    } else {
-        answer_by_lines(alloc, bytes, &finished, claim, options)
+    match options.form {
+        Form::Terms => answer_by_terms(alloc, bytes, &finished, claim, options),
+        Form::Lines => answer_by_lines(alloc, bytes, &finished, claim, options),
     }
 }
 
@@ -255,23 +259,6 @@ fn answer_problem(
     }
 }
 
-/// Status and report for a text that is no problem with a claim.
-fn answer_fault(
-    alloc: Global,
-    bytes: &[u8],
-    options: MemberOptions,
-    fault: TextFault,
-) -> Result<(Status, Vec<u8>), AllocError>
-    requires small { length bytes.now ≤ 16777216 }
-    requires fault { reads_claim bytes.now ≡ Err fault }
-    ensures { IfOk result (λ r. IsMemberAnswer options bytes.now r.0 r.1.items) }
-{
-    let line = fault.line;
-    let kind = fault.kind.number();
-    let report = bad_text_report(alloc, line, kind)?;
-    Ok((Status::BadText { line, kind }, report))
-}
-
 /// Status and report for the bytes of an input that are not too many.
 pub(crate) fn answer_member(
     alloc: Global,
@@ -285,7 +272,11 @@ pub(crate) fn answer_member(
 {
     match read_problem(alloc, bytes, true) {
         Ok(text) => answer_problem(alloc, bytes, text, options),
-        Err(ReadFault::Text(fault)) => answer_fault(alloc, bytes, options, fault),
+        Err(ReadFault::Text(fault)) => {
+            let (line, kind) = (fault.line, fault.kind.number());
+            let report = bad_text_report(alloc, line, kind)?;
+            Ok((Status::BadText { line, kind }, report))
+        }
         Err(ReadFault::OutOfMemory) => Err(AllocError),
     }
 }
