@@ -19,6 +19,7 @@ use nc_words::{Letter, Word, weight_of};
 use std::alloc::Global;
 use std::sync::Arc;
 use std::test::Fail;
+use std::thread;
 
 #[test]
 fn digits_give_residues(rt: HostRuntime) -> Result<(), Fail> {
@@ -211,6 +212,18 @@ fn run(alloc: Global) -> Result<Finished, Fail> {
         Ok(finished) => Ok(finished),
         Err(_) => Err("no memory".into()),
     }
+}
+
+#[test]
+fn two_threads_read_a_run(rt: HostRuntime) -> Result<(), Fail> {
+    let finished = run(rt.alloc())?;
+    let (entries, leads) = thread::join(
+        &rt,
+        || finished.snapshot().entries(),
+        || finished.leads().len(),
+    );
+    assert!(rt; entries == 2 && leads == 2);
+    Ok(())
 }
 
 /// How many terms the label of the last entry has, with at most so many.

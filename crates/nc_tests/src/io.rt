@@ -94,6 +94,91 @@ fn memory_sink_fails_at_a_call_and_without_room(rt: HostRuntime) -> Result<(), F
     Ok(())
 }
 
+/// Keeps the length of each buffer that it is handed.
+#[derive(Drop)]
+struct Asked<S> {
+    source: S,
+    lengths: Vec<usize>,
+}
+
+impl<S: Source> Source for Asked<S> {
+    ghost left = { λ s. S.left s.source };
+
+    ghost faults = { λ s. S.faults s.source };
+
+    fn take(&mut self, buf: &mut [u8]) -> Result<usize, Failed> {
+        let _ = self.lengths.push(buf.len());
+        self.source.take(buf)
+    }
+}
+
+/// The lengths of the buffers that a source of 10,000 bytes is handed, which gives so many at a time, up to a limit.
+fn lengths(alloc: Global, step: usize, limit: usize) -> Result<Vec<usize>, Fail>
+    requires { 0 < step }
+{
+    let bytes = vec![in alloc; 9u8; 10_000]?;
+    let mut asked = Asked {
+        source: source_of(alloc, &bytes, step, 0)?,
+        lengths: Vec::new(alloc),
+    };
+    let whole = take_whole(alloc, &mut asked, limit).ok().ok_or("read")?;
+    if whole.len() != limit {
+        return Err("not all".into());
+    }
+    let Asked { source: _, lengths } = asked;
+    Ok(lengths)
+}
+
+#[test]
+fn take_whole_asks_for_a_piece_at_a_time(rt: HostRuntime) -> Result<(), Fail> {
+    let found = lengths(rt.alloc(), 20_000, 10_000)?;
+    assert_eq!(rt; found.as_slice(), [4096, 4096, 1808].as_slice());
+    let found = lengths(rt.alloc(), 3000, 7000)?;
+    assert_eq!(rt; found.as_slice(), [4096, 4000, 1000].as_slice());
+    Ok(())
+}
+
+/// Keeps each piece that it is offered, and a bar behind it.
+#[derive(Drop)]
+struct Offered<K> {
+    sink: K,
+    pieces: Vec<u8>,
+}
+
+impl<K: Sink> Sink for Offered<K> {
+    ghost written = { λ s. K.written s.sink };
+
+    ghost faults = { λ s. K.faults s.sink };
+
+    fn put(&mut self, piece: &[u8]) -> Result<usize, Failed> {
+        let _ = self.pieces.extend_from_slice(piece);
+        let _ = self.pieces.push(b'|');
+        self.sink.put(piece)
+    }
+}
+
+/// What a sink that takes three bytes a call is offered.
+fn pieces(alloc: Global) -> Result<Vec<u8>, Fail> {
+    let mut offered = Offered {
+        sink: MemorySink::of(alloc, 30, 3, Vec::new(alloc))?,
+        pieces: Vec::new(alloc),
+    };
+    if put_whole(&mut offered, b"abcdefgh").is_err() {
+        return Err("not written".into());
+    }
+    let Offered { sink: _, pieces } = offered;
+    Ok(pieces)
+}
+
+#[test]
+fn put_whole_offers_all_that_is_left(rt: HostRuntime) -> Result<(), Fail> {
+    assert_eq!(rt;
+        pieces(rt.alloc())?.as_slice(),
+        b"abcdefgh|defgh|gh|".as_slice()
+    );
+    Ok(())
+}
+
 /// Gives up to three bytes a call, and fails at one call.
 #[derive(Drop)]
 struct FlakyReader {

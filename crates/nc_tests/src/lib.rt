@@ -1,5 +1,6 @@
-//! Tests of what no contract says and no case on the built program shows: reads and writes that fail in mid-stream, lists of
-//! another type, and calls that the program does not make.
+//! Tests of what no contract says and no case on the built program shows: reads and writes that fail in mid-stream, what is asked
+//! of a source and offered to a sink, that threads may share a run, lists of another type, and calls that the program does not
+//! make.
 #![tactic(auto)]
 
 #[cfg(test)]
