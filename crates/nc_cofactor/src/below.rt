@@ -12,7 +12,7 @@ pub(crate) fn entries_below(snapshot: &Snapshot, sig: &Sig) -> u32
     requires { HasDegree snapshot.now.problem.problem.setting sig.now }
     ensures { AreLesser snapshot.now.problem.problem.setting snapshot.now.state.entries (monomial_of sig.now) result }
 {
-    let _problem = snapshot.problem();
+    snapshot.recall_rule();
     let mut low = 0;
     let mut high = snapshot.entries();
     'halves: while low < high {

@@ -43,7 +43,7 @@ pub fn needed_traces(
     requires listed { All (λ j. (1 ≤ j) × (j ≤ length snapshot.now.state.entries)) numbers.now }
     ensures { IfOk result (λ l. AreNeededTraces snapshot.now.problem.problem snapshot.now.handled numbers.now l.items) }
 {
-    let _problem = snapshot.problem();
+    snapshot.recall_rule();
     let mut kept = no_marks(alloc, snapshot.entries())?;
     let marks = kept.as_mut_slice();
     mark_numbers(marks, numbers);

@@ -32,7 +32,7 @@ pub fn expand(
     ensures label { IfOk result (IsExpanded snapshot.now.problem.problem snapshot.now.handled listed limit) }
     ensures fault { IfErr result (FailsToExpand snapshot.now.problem.problem snapshot.now.handled listed limit) }
 {
-    let _problem = snapshot.problem();
+    snapshot.recall_rule();
     let trace = trace_of(alloc, snapshot, leads, listed)?;
     let mut kept = no_marks(alloc, snapshot.entries())?;
     let marks = kept.as_mut_slice();

@@ -51,7 +51,7 @@ pub(crate) fn labels_from(
     ensures labels { IfOk result (λ l. AreFilled snapshot.now.problem.problem snapshot.now.handled marks.old limit l.items) }
     ensures fault { IfErr result (FailsToFill snapshot.now.problem.problem snapshot.now.handled marks.old limit) }
 {
-    let _problem = snapshot.problem();
+    snapshot.recall_rule();
     let mut stack = traces_from(alloc, snapshot, leads, marks)?;
     let mut labels = Vec::new(alloc);
     while let Some(slot) = stack.pop() {

@@ -33,7 +33,7 @@ fn begin_with_generator(alloc: Global, setting: &Setting, i: u32) -> Result<Sum<
 {
     let at = Sig::of(setting.weight(i), i, Word::empty(alloc), Word::empty(alloc));
     let prime = setting.prime();
-    let _number = prime.number();
+    prime.recall_rule();
     let mut sum = Sum::new(alloc);
     sum.push_greatest(at, 1)?;
     Ok(sum)
@@ -53,8 +53,8 @@ fn begin_with_multiple(
 {
     let label = label_in(labels, number);
     let prime = setting.prime();
-    let _number = prime.number();
-    let _terms = label.terms();
+    prime.recall_rule();
+    label.recall_rule();
     let mut sum = Sum::new(alloc);
     add_multiple(alloc, &mut sum, setting, 1, left, label, right)?;
     Ok(sum)
@@ -102,7 +102,7 @@ fn take_step(
 {
     let label = label_in(labels, step.number);
     let c = setting.prime().neg(step.coefficient);
-    let _terms = label.terms();
+    label.recall_rule();
     add_multiple(
         alloc,
         sum,
@@ -129,8 +129,8 @@ fn add_step(
     ensures { OnOk result ((α : Element) → IsSum setting.now.setting α sum.old → IsSum setting.now.setting (scale step.now.coefficient (element_times step.now.left (label_at (elements_of labels.now) step.now.number) step.now.right) ++ α) sum.new) }
 {
     let label = label_in(labels, step.number);
-    let _prime = setting.prime();
-    let _terms = label.terms();
+    setting.recall_rule();
+    label.recall_rule();
     add_multiple(
         alloc,
         sum,
@@ -158,7 +158,7 @@ pub(crate) fn steps_sum(
     for step in steps {
         add_step(alloc, &mut sum, setting, labels, step)?;
     }
-    let _prime = setting.prime();
+    setting.recall_rule();
     let whole = finish(alloc, setting, sum)?;
     Ok(whole)
 }
@@ -178,7 +178,7 @@ pub(crate) fn trace_sum(
     for step in trace.steps.items() {
         take_step(alloc, &mut sum, setting, labels, step)?;
     }
-    let _prime = setting.prime();
+    setting.recall_rule();
     let label = finish(alloc, setting, sum)?;
     Ok(label)
 }

@@ -55,7 +55,7 @@ fn entry_label(
     ensures few { IfOk result (λ m. length m ≤ limit) }
     ensures fault { IfErr result (FailsToSum snapshot.now.problem.problem snapshot.now.handled (EntryOf number) limit) }
 {
-    let _problem = snapshot.problem();
+    snapshot.recall_rule();
     let listed = Listed::Entry(number);
     let trace = trace_of(alloc, snapshot, leads, listed)?;
     item_label(alloc, snapshot, labels, listed, &trace, limit)
@@ -93,7 +93,7 @@ impl Labels {
         ensures few { IfOk result (All (λ m. length m ≤ limit)) }
         ensures fault { IfErr result (FailsToLabel snapshot.now.problem.problem snapshot.now.handled limit) }
     {
-        let _problem = snapshot.problem();
+        snapshot.recall_rule();
         let mut kept = Vec::new(alloc);
         for i in 0..snapshot.entries() {
             match entry_label(alloc, snapshot, leads, kept.as_slice(), i + 1, limit) {
@@ -130,7 +130,7 @@ impl Labels {
         ensures few { IfOk result (λ l. All (λ m. length m ≤ limit) l.items) }
         ensures fault { IfErr result (FailsToLabelSyzygies snapshot.now.problem.problem snapshot.now.handled limit) }
     {
-        let _problem = snapshot.problem();
+        snapshot.recall_rule();
         let mut kept = Vec::new(alloc);
         for i in 0..snapshot.syzygies() {
             match self.syzygy(alloc, snapshot, leads, i + 1, limit) {
@@ -159,7 +159,7 @@ impl Labels {
         ensures few { IfOk result (λ m. length m ≤ limit) }
         ensures fault { IfErr result (FailsToSum snapshot.now.problem.problem snapshot.now.handled (SyzygyOf number) limit) }
     {
-        let _problem = snapshot.problem();
+        snapshot.recall_rule();
         let listed = Listed::Syzygy(number);
         let trace = trace_of(alloc, snapshot, leads, listed)?;
         item_label(alloc, snapshot, self.kept.as_slice(), listed, &trace, limit)

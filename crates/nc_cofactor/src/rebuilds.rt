@@ -92,7 +92,7 @@ pub fn rebuild(
     requires lesser { AreLesser snapshot.now.problem.problem.setting snapshot.now.state.entries (monomial_of sig.now) entries }
     ensures { IfOk result (λ t. (f : Polynomial) × Rebuilds snapshot.now.problem.problem.setting snapshot.now.state.entries (monomial_of sig.now) t f) }
 {
-    let _problem = snapshot.problem();
+    snapshot.recall_rule();
     let start = start_over(alloc, snapshot, sig, entries)?;
     let Reduced { poly: _, trace } = reduce(alloc, snapshot, leads, start, sig)?;
     Ok(trace)

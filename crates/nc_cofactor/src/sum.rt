@@ -74,6 +74,6 @@ pub(crate) fn finish(alloc: Global, setting: &Setting, sum: Sum<Sig>) -> Result<
         terms.push(ModuleTerm::of(c, at))?;
     }
     let m = Module::of_terms(alloc, setting.prime(), terms)?;
-    let _terms = m.terms();
+    m.recall_rule();
     Ok(m)
 }

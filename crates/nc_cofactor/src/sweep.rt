@@ -83,7 +83,7 @@ fn slot_at(
     requires size { length marks.old ≡ length snapshot.now.state.entries }
     ensures { IfOk result (IsSlot snapshot.now.problem.problem snapshot.now.handled marks.old marks.new number) }
 {
-    let _problem = snapshot.problem();
+    snapshot.recall_rule();
     if !is_marked(marks, number) {
         return Ok(None);
     }
@@ -104,7 +104,7 @@ pub(crate) fn traces_from(
     requires size { length marks.old ≡ length snapshot.now.state.entries }
     ensures { IfOk result (λ stack. AreFound snapshot.now.problem.problem snapshot.now.handled marks.old stack.items) }
 {
-    let _problem = snapshot.problem();
+    snapshot.recall_rule();
     let mut stack = Vec::new(alloc);
     let mut left = snapshot.entries();
     while left > 0 {

@@ -22,7 +22,7 @@ fn entry_trace(
     requires within { number ≤ length snapshot.now.state.entries }
     ensures { IfOk result (HasTrace snapshot.now.problem.problem snapshot.now.handled (Listed.Entry number)) }
 {
-    let _problem = snapshot.problem();
+    snapshot.recall_rule();
     rebuild(
         alloc,
         snapshot,
@@ -44,7 +44,7 @@ fn syzygy_trace(
     requires within { number ≤ length snapshot.now.state.syzygies }
     ensures { IfOk result (HasTrace snapshot.now.problem.problem snapshot.now.handled (Listed.Syzygy number)) }
 {
-    let _problem = snapshot.problem();
+    snapshot.recall_rule();
     let sig = snapshot.syzygy(number).sig();
     rebuild(alloc, snapshot, leads, sig, entries_below(snapshot, sig))
 }

@@ -30,7 +30,7 @@ impl<'a> Lead<'a> {
         requires within { number ≤ length snapshot.now.state.entries }
         ensures { IsLeadAt snapshot.now.problem.problem.setting snapshot.now.state.entries (number - 1) result }
     {
-        let _problem = snapshot.problem();
+        snapshot.recall_rule();
         let entry = snapshot.entry(number);
         let Some(term) = entry.poly().lead() else {
             unreachable!()

@@ -97,7 +97,7 @@ impl Desk {
         ensures window { self.new.window ≡ self.old.window }
         ensures unchanged { OnErr result (self.new ≡ self.old) }
     {
-        let _problem = self.snapshot.problem();
+        self.snapshot.recall_rule();
         let Some(least) = self.waiting.least() else {
             unreachable!()
         };
@@ -111,7 +111,7 @@ impl Desk {
         )?;
         self.snapshot = snapshot;
         self.leads = leads;
-        let _taken = self.waiting.take_least();
+        self.waiting.take_least();
         Ok(())
     }
 
@@ -119,7 +119,7 @@ impl Desk {
     fn waits(&self) -> bool
         ensures { IsTrue result ↔ Waits self.now.snapshot }
     {
-        let _problem = self.snapshot.problem();
+        self.snapshot.recall_rule();
         match self.waiting.least() {
             Some(_) => true,
             None => false,
@@ -147,8 +147,8 @@ impl Desk {
         ensures canonical { AreCanonical result.snapshot.problem.problem.setting result.snapshot.state }
         ensures ended { IsEndAt result.snapshot result.ending }
     {
-        let _problem = self.snapshot.problem();
-        let _least = self.waiting.least();
+        self.snapshot.recall_rule();
+        self.waiting.recall_rule();
         let Desk {
             alloc: _,
             snapshot,

@@ -52,6 +52,13 @@ impl Finished {
         }
     }
 
+    /// Tells the proof, where it stands, what always holds of a finished run. It does nothing.
+    pub fn recall_rule(&self)
+        ensures ended { IsEndAt self.now.snapshot self.now.ending }
+    {
+        let _ = &self.snapshot;
+    }
+
     /// What was found.
     pub fn snapshot(&self) -> &Snapshot
         ensures snapshot { result.now ≡ self.now.snapshot }

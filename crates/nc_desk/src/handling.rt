@@ -75,7 +75,7 @@ fn from_multiple(
     ensures { IfOk result (λ o. Handles snapshot.now.problem.problem.setting snapshot.now.state (monomial_of sig.now) (outcome_of o)) }
 {
     best_multiple_law();
-    let _problem = snapshot.problem();
+    snapshot.recall_rule();
     let number = best.number;
     let (left, right) = around(sig, &best);
     let word = leading_word(alloc, snapshot, left, number, right)?;
@@ -103,7 +103,7 @@ pub fn handle(
     requires candidate { IsCandidate snapshot.now.problem.problem snapshot.now.state (monomial_of sig.now) }
     ensures { IfOk result (λ o. Handles snapshot.now.problem.problem.setting snapshot.now.state (monomial_of sig.now) (outcome_of o)) }
 {
-    let _problem = snapshot.problem();
+    snapshot.recall_rule();
     if syzygy_divides(snapshot, sig) {
         return Ok(Outcome::Covered);
     }

@@ -62,7 +62,7 @@ pub(crate) fn leading_word(
     requires { IsReadable snapshot.now.problem.problem.setting snapshot.now.state.entries (Beginning.a_multiple left.now number right.now) }
     ensures { IfOk result (λ w. w ≡ left.now ++ (leading snapshot.now.problem.problem.setting.prime (polynomial_of snapshot.now.state.entries number) ++ right.now)) }
 {
-    let _problem = snapshot.problem();
+    snapshot.recall_rule();
     let Some(lead) = snapshot.entry(number).poly().lead() else {
         unreachable!()
     };

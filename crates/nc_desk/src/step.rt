@@ -42,8 +42,8 @@ fn entry_news(
     requires handles { (trace : Trace) × Handles snapshot.now.problem.problem.setting snapshot.now.state (monomial_of sig.now.value) (Result.an_entry poly.now trace) }
     ensures { IfOk result (λ r. (trace : Trace) → Handles snapshot.now.problem.problem.setting snapshot.now.state (monomial_of sig.now.value) (Result.an_entry poly.now trace) → AreNews snapshot.now.problem.problem snapshot.now.state (monomial_of sig.now.value) (Result.an_entry poly.now trace) r.0 (map arc_value r.1.items)) }
 {
-    let _problem = snapshot.problem();
-    let _entries = snapshot.entries();
+    snapshot.recall_rule();
+    snapshot.recall_rule();
     let Some(lead) = poly.lead() else {
         unreachable!()
     };
@@ -100,7 +100,7 @@ pub(crate) fn advance(
     ensures advance { IfOk result (λ r. IsAdvance snapshot.now (monomial_of sig.now.value) r.0 r.1 waiting.old waiting.new) }
     ensures unchanged { OnErr result (waiting.new ≡ waiting.old) }
 {
-    let _problem = snapshot.problem();
+    snapshot.recall_rule();
     let outcome = handle(alloc, snapshot, leads, sig)?;
     let (more, found) = news(alloc, snapshot, leads, sig, &outcome)?;
     let mut later = snapshot.share()?;

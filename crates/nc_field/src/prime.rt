@@ -55,6 +55,15 @@ impl Prime {
         }
     }
 
+    /// Tells the proof, where it stands, what always holds of a prime. It does nothing.
+    pub fn recall_rule(&self)
+        ensures prime { IsPrime self.now }
+        ensures listed { IsTrue (is_listed_prime self.now) }
+        ensures small { self.now < 65536 }
+    {
+        let _ = &self.number;
+    }
+
     /// The prime as a number.
     pub fn number(&self) -> u32
         ensures value { result ≡ self.now }

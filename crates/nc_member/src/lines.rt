@@ -156,7 +156,7 @@ fn needed_by(
     requires steps { AreSubtracted snapshot.now.problem.problem snapshot.now.state.entries steps.now }
     ensures { IfOk result (λ l. AreUsable snapshot.now.problem.problem snapshot.now.handled (numbers_of steps.now) l.items) }
 {
-    let _problem = snapshot.problem();
+    snapshot.recall_rule();
     let numbers = named_by(alloc, steps)?;
     needed_traces(alloc, snapshot, leads, numbers.as_slice())
 }
@@ -173,7 +173,7 @@ pub(crate) fn lines_of(
     requires steps { AreSubtracted snapshot.now.problem.problem snapshot.now.state.entries steps.now }
     ensures { IfOk result (AreProofLines snapshot.now.problem.problem snapshot.now.handled steps.now) }
 {
-    let _problem = snapshot.problem();
+    snapshot.recall_rule();
     let mut lines = Lines::empty(alloc);
     if steps.is_empty() {
         return Ok(lines);

@@ -40,7 +40,7 @@ pub fn member(
     ensures fault { IfErr result (FailsToAnswer finished.now claim.now limit) }
 {
     let snapshot = finished.snapshot();
-    let _problem = snapshot.problem();
+    snapshot.recall_rule();
     let Rest { poly, steps } = rest_of(alloc, finished, claim)?;
     if poly.is_zero() {
         let module = represent(alloc, snapshot, finished.leads(), steps.items(), limit)?;

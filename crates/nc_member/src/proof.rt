@@ -26,7 +26,7 @@ pub fn prove(
     ensures { IfOk result (IsProof finished.now claim.now) }
 {
     let snapshot = finished.snapshot();
-    let _problem = snapshot.problem();
+    snapshot.recall_rule();
     let Rest { poly, steps } = rest_of(alloc, finished, claim)?;
     if poly.is_zero() {
         let lines = lines_of(alloc, snapshot, finished.leads(), steps.items())?;

@@ -19,7 +19,7 @@ pub(crate) fn rest_of(alloc: Global, finished: &Finished, claim: &Poly) -> Resul
     ensures subtracted { IfOk result (λ r. AreSubtracted finished.now.snapshot.problem.problem finished.now.snapshot.state.entries r.steps) }
 {
     let snapshot = finished.snapshot();
-    let _problem = snapshot.problem();
+    snapshot.recall_rule();
     let leads = finished.leads();
     reduce_within(alloc, snapshot, leads, claim)
 }

@@ -91,6 +91,13 @@ impl Alphabet {
         same_names(self.names(), other.names()) && self.weights() == other.weights()
     }
 
+    /// Tells the proof, where it stands, what always holds of an alphabet. It does nothing.
+    pub fn recall_rule(&self)
+        ensures alphabet { IsAlphabet self.now }
+    {
+        let _ = &self.names;
+    }
+
     /// The names, that of letter 0 first.
     pub fn names(&self) -> &[Name]
         ensures names { result.now ≡ self.now.names }

@@ -206,6 +206,13 @@ impl Module {
         }
     }
 
+    /// Tells the proof, where it stands, what always holds of a module element. It does nothing.
+    pub fn recall_rule(&self)
+        ensures descending { Descends compare_sigs self.now }
+    {
+        let _ = &self.kept;
+    }
+
     /// The terms, the one with the greatest monomial first.
     pub fn terms(&self) -> &[ModuleTerm]
         ensures terms { result.now ≡ self.now }

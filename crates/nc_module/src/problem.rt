@@ -73,6 +73,13 @@ impl Problem {
         }
     }
 
+    /// Tells the proof, where it stands, what always holds of a problem. It does nothing.
+    pub fn recall_rule(&self)
+        ensures problem { IsProblem self.now }
+    {
+        let _ = &self.setting;
+    }
+
     /// The setting.
     pub fn setting(&self) -> &Setting
         ensures setting { result.now ≡ record { alphabet = self.now.alphabet; setting = self.now.problem.setting } }

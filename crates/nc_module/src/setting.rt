@@ -58,7 +58,7 @@ impl Setting {
     pub fn takes(prime: Prime, alphabet: &Alphabet, generators: &[Poly]) -> bool
         ensures { IsTrue result ↔ IsSetting (record { alphabet = alphabet.now; setting = record { prime = prime; generators = generators.now } }) }
     {
-        let _names = alphabet.names();
+        alphabet.recall_rule();
         generators.len() <= 1000 && generators.iter().all(|f| alphabet.is_generator(prime, f))
     }
 
@@ -69,6 +69,13 @@ impl Setting {
         self.prime.number() == other.prime.number()
             && self.alphabet.same(&other.alphabet)
             && same_polynomials(self.generators(), other.generators())
+    }
+
+    /// Tells the proof, where it stands, what always holds of a setting. It does nothing.
+    pub fn recall_rule(&self)
+        ensures setting { IsSetting self.now }
+    {
+        let _ = &self.prime;
     }
 
     /// The prime.

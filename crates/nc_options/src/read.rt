@@ -85,7 +85,7 @@ fn read_check(alloc: Global, words: &[String]) -> Result<Options, OptionsError>
     requires { 0 < length words.now }
     ensures { Answers (check_after (drop 1 (map string_bytes words.now))) result }
 {
-    let _matches = split_words(alloc, "check", CHECK_NAMES.as_slice(), false, words)?;
+    split_words(alloc, "check", CHECK_NAMES.as_slice(), false, words)?;
     Ok(Options::Check)
 }
 

@@ -100,7 +100,7 @@ fn lead_of(snapshot: &Snapshot, n: u32) -> Lead<'_>
     ensures lead { (d : Entry) → IsLedBy snapshot.now.problem.problem.setting result (get_or snapshot.now.state.entries (n - 1) d) }
     ensures over { IsSignatureOver snapshot.now.problem.problem.setting result.sig.now }
 {
-    let _problem = snapshot.problem();
+    snapshot.recall_rule();
     let entry = snapshot.entry(n);
     let Some(term) = entry.poly().lead() else {
         unreachable!()

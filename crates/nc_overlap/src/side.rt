@@ -82,7 +82,7 @@ impl<'a> Side<'a> {
         requires within { IsWithin problem.now.problem (monomial_of (side_sig self.now)) }
         ensures { IfOk result (λ s. s ≡ side_sig self.now) }
     {
-        let _setting = problem.setting();
+        problem.recall_rule();
         self.sig.times(alloc, self.left, self.right)
     }
 }

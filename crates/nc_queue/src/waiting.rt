@@ -93,6 +93,13 @@ impl Waiting {
         }
     }
 
+    /// Tells the proof, where it stands, what always holds of waiting signatures. It does nothing.
+    pub fn recall_rule(&self)
+        ensures ascending { IsAscending self.now }
+    {
+        let _ = &self.kept;
+    }
+
     /// The least one.
     pub fn least(&self) -> Option<&Arc<Sig>>
         ensures none { IsNone result ↔ (self.now ≡ []) }

@@ -81,7 +81,7 @@ pub fn reduce(
     ensures start { IfOk result (λ r. r.trace.start ≡ start_of start) }
     ensures reduction { IfOk result (λ r. ReductionAt snapshot.now.problem.problem.setting snapshot.now.state.entries (monomial_of sig.now) (start_polynomial snapshot.now.problem.problem.setting snapshot.now.state.entries (start_of start)) r.poly r.trace.steps) }
 {
-    let _problem = snapshot.problem();
+    snapshot.recall_rule();
     let f = start_poly(alloc, snapshot, &start)?;
     let (poly, steps) = reduce_all(alloc, snapshot, leads, f, sig)?;
     let trace = Trace { start, steps };
@@ -104,7 +104,7 @@ pub fn reduce_within(
     requires small { HasSmallWords snapshot.now.problem.problem.setting claim.now }
     ensures { IfOk result (λ r. Reduction snapshot.now.problem.problem.setting snapshot.now.state.entries (IsWithin snapshot.now.problem.problem) claim.now r.poly r.steps) }
 {
-    let _problem = snapshot.problem();
+    snapshot.recall_rule();
     let limit = limit_of(alloc, snapshot)?;
     let (poly, steps) = reduce_all(alloc, snapshot, leads, claim.copy()?, &limit)?;
     Ok(Rest { poly, steps })

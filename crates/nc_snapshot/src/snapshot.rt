@@ -45,12 +45,19 @@ impl Snapshot {
     pub fn empty(alloc: Global, problem: Arc<Problem>) -> Snapshot
         ensures { result ≡ record { problem = problem.value; handled = 0; state = opening } }
     {
-        let _setting = problem.setting();
+        problem.recall_rule();
         Snapshot {
             problem,
             handled: 0,
             found: Found::empty(alloc),
         }
+    }
+
+    /// Tells the proof, where it stands, what always holds of a snapshot. It does nothing.
+    pub fn recall_rule(&self)
+        ensures snapshot { IsSnapshot self.now }
+    {
+        let _ = &self.problem;
     }
 
     /// The problem.

@@ -50,7 +50,7 @@ fn inside_of(setting: &Setting, longest: &[usize], reaches: &[usize], of: Of) ->
     ensures value { result ≡ factor_reach setting.now.setting reaches.now (factor_of of) }
     ensures short { result ≤ 100000 }
 {
-    let _ = setting.prime();
+    setting.recall_rule();
     match of {
         Of::Generator(i) => longest[i as usize - 1],
         Of::Line(k) => reaches[k as usize - 1],

@@ -72,7 +72,7 @@ fn below(setting: &Setting, mono: Mono) -> Bound
         generator,
         right,
     } = mono;
-    let _ = setting.prime();
+    setting.recall_rule();
     Bound::Below(Sig::of(setting.weight(generator), generator, left, right))
 }
 

@@ -38,7 +38,7 @@ pub(crate) fn run_problem(
     let desk = Desk::open(alloc, Arc::new(alloc, problem)?, window)?;
     match desk.drive() {
         Ok(finished) => {
-            let _ended = finished.snapshot();
+            finished.recall_rule();
             Ok(finished)
         }
         Err((_, error)) => Err(error),
@@ -59,7 +59,7 @@ fn labels_of(
     ensures fault { IfErr result (FailsToShow snapshot.now limit) }
 {
     let limit = u64::from(limit);
-    let _problem = snapshot.problem();
+    snapshot.recall_rule();
     let entries = match Labels::of(alloc, snapshot, leads, limit) {
         Ok(entries) => entries,
         Err(fault) => return Err(fault),
@@ -146,10 +146,10 @@ fn answer_problem(
     requires few { options.window ≤ 4096 }
     ensures { IfOk result (λ r. IsBasisAnswer options bytes.now r.0 r.1.items) }
 {
-    let _setting = problem.setting();
+    problem.recall_rule();
     let finished = run_problem(alloc, problem, options.window)?;
     let snapshot = finished.snapshot();
-    let _problem = snapshot.problem();
+    snapshot.recall_rule();
     match shown_of(alloc, snapshot, finished.leads(), options) {
         Ok(shown) => answer_run(alloc, &finished, &shown),
         Err(CofactorFault::TooMany { listed, terms }) => Ok((

@@ -22,7 +22,7 @@ pub(crate) fn entry_at(snapshot: &Snapshot, n: u32) -> &Entry
     ensures right { All (λ x. x.index < length snapshot.now.problem.alphabet.names) result.now.sig.right }
     ensures words { All (λ t. All (λ x. x.index < length snapshot.now.problem.alphabet.names) t.key) result.now.polynomial }
 {
-    let _problem = snapshot.problem();
+    snapshot.recall_rule();
     snapshot.entry(n)
 }
 
@@ -34,6 +34,6 @@ pub(crate) fn syzygy_at(snapshot: &Snapshot, n: u32) -> &Syzygy
     ensures left { All (λ x. x.index < length snapshot.now.problem.alphabet.names) result.now.left }
     ensures right { All (λ x. x.index < length snapshot.now.problem.alphabet.names) result.now.right }
 {
-    let _problem = snapshot.problem();
+    snapshot.recall_rule();
     snapshot.syzygy(n)
 }

@@ -31,7 +31,7 @@ fn write_entry_lines(
     requires within { n ≤ length snapshot.now.state.entries }
     ensures { OnOk result ((run : State) (e : EntryOf) → IsRunAt snapshot.now run → slice_get run.entries (n - 1) ≡ Some e → out.new.items ≡ out.old.items ++ ended (entry_lines (kind_of shown.now) snapshot.now.problem.alphabet.names (labels_in shown.now) n e)) }
 {
-    let _problem = snapshot.problem();
+    snapshot.recall_rule();
     let names = names_of(snapshot);
     write_entry(out, names, n, entry_at(snapshot, n))?;
     write_shown(alloc, out, snapshot, leads, shown, Listed::Entry(n))
@@ -52,7 +52,7 @@ fn write_syzygy_lines(
     requires within { n ≤ length snapshot.now.state.syzygies }
     ensures { OnOk result ((run : State) (h : SyzygyOf) → IsRunAt snapshot.now run → slice_get run.syzygies (n - 1) ≡ Some h → out.new.items ≡ out.old.items ++ ended (syzygy_lines (kind_of shown.now) snapshot.now.problem.alphabet.names (labels_in shown.now) n h)) }
 {
-    let _problem = snapshot.problem();
+    snapshot.recall_rule();
     let names = names_of(snapshot);
     write_syzygy(out, names, n, syzygy_at(snapshot, n))?;
     write_shown(alloc, out, snapshot, leads, shown, Listed::Syzygy(n))
@@ -70,7 +70,7 @@ fn write_entries(
     requires shown { IsShownOf snapshot.now shown.now }
     ensures { OnOk result ((run : State) → IsRunAt snapshot.now run → out.new.items ≡ out.old.items ++ ended (numbered (entry_lines (kind_of shown.now) snapshot.now.problem.alphabet.names (labels_in shown.now)) 1 run.entries)) }
 {
-    let _problem = snapshot.problem();
+    snapshot.recall_rule();
     for index in 0..snapshot.entries() {
         write_entry_lines(alloc, out, snapshot, leads, shown, index + 1)?;
     }
@@ -89,7 +89,7 @@ fn write_syzygies(
     requires shown { IsShownOf snapshot.now shown.now }
     ensures { OnOk result ((run : State) → IsRunAt snapshot.now run → out.new.items ≡ out.old.items ++ ended (numbered (syzygy_lines (kind_of shown.now) snapshot.now.problem.alphabet.names (labels_in shown.now)) 1 run.syzygies)) }
 {
-    let _problem = snapshot.problem();
+    snapshot.recall_rule();
     for index in 0..snapshot.syzygies() {
         write_syzygy_lines(alloc, out, snapshot, leads, shown, index + 1)?;
     }
@@ -101,7 +101,7 @@ fn write_end(out: &mut Vec<u8>, finished: &Finished) -> Result<(), AllocError>
     ensures { OnOk result (out.new.items ≡ out.old.items ++ (end_line finished.now.snapshot.problem.alphabet.names finished.now.ending ++ 10 ∷ [])) }
 {
     let snapshot = finished.snapshot();
-    let _problem = snapshot.problem();
+    snapshot.recall_rule();
     match finished.end() {
         End::Complete => write_complete(out),
         End::Budget(next) => write_budget(out, names_of(snapshot), next),
@@ -119,7 +119,7 @@ pub(crate) fn report_on(
 {
     let snapshot = finished.snapshot();
     let leads = finished.leads();
-    let _problem = snapshot.problem();
+    snapshot.recall_rule();
     let mut out = Vec::new(alloc);
     write_end(&mut out, finished)?;
     write_counts(&mut out, snapshot)?;

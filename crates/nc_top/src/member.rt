@@ -75,7 +75,7 @@ fn answer_not_below(
     ensures { IfOk result (λ r. IsMemberAnswer options bytes.now r.0 r.1.items) }
 {
     let snapshot = finished.snapshot();
-    let _problem = snapshot.problem();
+    snapshot.recall_rule();
     let report = not_below_report(alloc, names_of(snapshot), rest)?;
     Ok((Status::NotBelow, report))
 }
@@ -94,7 +94,7 @@ fn answer_undecided(
     ensures { IfOk result (λ r. IsMemberAnswer options bytes.now r.0 r.1.items) }
 {
     let snapshot = finished.snapshot();
-    let _problem = snapshot.problem();
+    snapshot.recall_rule();
     match finished.end() {
         End::Complete => unreachable!(),
         End::Budget(next) => {
@@ -207,7 +207,7 @@ fn answer_by_terms(
     ensures { IfOk result (λ r. IsMemberAnswer options bytes.now r.0 r.1.items) }
 {
     let snapshot = finished.snapshot();
-    let _problem = snapshot.problem();
+    snapshot.recall_rule();
     let limit = u64::from(options.limit);
     match member(alloc, finished, claim, limit) {
         Ok(found) => answer_found(alloc, bytes, finished, claim, found, options),

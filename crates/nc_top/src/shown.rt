@@ -46,7 +46,7 @@ fn named_trace(
     ensures trace { IfOk result (λ t. (run : State) → IsRunAt snapshot.now run → IsTraceIn run listed t) }
     ensures named { IfOk result (IsTraceNamed (length snapshot.now.problem.alphabet.names)) }
 {
-    let _problem = snapshot.problem();
+    snapshot.recall_rule();
     trace_of(alloc, snapshot, leads, listed)
 }
 
@@ -92,7 +92,7 @@ fn label_in<'a>(
     ensures left { All (λ t. All (λ x. x.index < length snapshot.now.problem.alphabet.names) t.key.left) result.now }
     ensures right { All (λ t. All (λ x. x.index < length snapshot.now.problem.alphabet.names) t.key.right) result.now }
 {
-    let _problem = snapshot.problem();
+    snapshot.recall_rule();
     match listed {
         Listed::Entry(k) => entries.entry(k),
         Listed::Syzygy(k) => &syzygies[k as usize - 1],

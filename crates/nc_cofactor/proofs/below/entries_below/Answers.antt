@@ -9,7 +9,7 @@ pub halves-preserved-then-is_lt : goal.halves-preserved-then-is_lt
 halves-preserved-then-is_lt c = record {
   order = omega arith;
   few = c.halves.invariant.few;
-  lesser = lower_half c.args.snapshot.now c.problem-problem.ensures.snapshot c.args.sig.now c.requires (c.halves.low + (c.halves.high - c.halves.low) / 2) c.entry.result.now c.entry.ensures.entry c.entry.ensures.degree c.deref-entry.result.now (c.deref-entry.ensures ∙ c.sig.ensures) c.is_lt.result (c.is_lt.ensures ∙ ap is_lt c.cmp.ensures) c.if-is_lt.true;
+  lesser = lower_half c.args.snapshot.now c.recall_rule.ensures.snapshot c.args.sig.now c.requires (c.halves.low + (c.halves.high - c.halves.low) / 2) c.entry.result.now c.entry.ensures.entry c.entry.ensures.degree c.deref-entry.result.now (c.deref-entry.ensures ∙ c.sig.ensures) c.is_lt.result (c.is_lt.ensures ∙ ap is_lt c.cmp.ensures) c.if-is_lt.true;
   others = c.halves.invariant.others;
 }
 
@@ -18,7 +18,7 @@ halves-preserved c = record {
   order = omega arith;
   few = omega arith;
   lesser = c.halves.invariant.lesser;
-  others = upper_half c.args.snapshot.now c.problem-problem.ensures.snapshot c.args.sig.now c.requires (c.halves.low + (c.halves.high - c.halves.low) / 2) c.entry.result.now c.entry.ensures.entry c.entry.ensures.degree c.deref-entry.result.now (c.deref-entry.ensures ∙ c.sig.ensures) c.is_lt.result (c.is_lt.ensures ∙ ap is_lt c.cmp.ensures) c.if-is_lt.false;
+  others = upper_half c.args.snapshot.now c.recall_rule.ensures.snapshot c.args.sig.now c.requires (c.halves.low + (c.halves.high - c.halves.low) / 2) c.entry.result.now c.entry.ensures.entry c.entry.ensures.degree c.deref-entry.result.now (c.deref-entry.ensures ∙ c.sig.ensures) c.is_lt.result (c.is_lt.ensures ∙ ap is_lt c.cmp.ensures) c.if-is_lt.false;
 }
 
 pub returns : goal.returns

@@ -24,4 +24,4 @@ loop-step-preserved c =
 pub returns : goal.returns
 returns c =
     all_steps c.args.setting.now.setting (step_multiples (elements_of c.args.labels.now)) c.args.steps.now c.loop-step.step-index c.loop-step.sum c.in_ok-whole.whole
-    (omega arith) (listed_is_prime c.args.setting.now.setting.prime c.prime-prime.ensures.setting.prime).above_one c.in_ok-whole.ensures.sum c.in_ok-whole.ensures.descends c.in_ok-whole.ensures.residues c.loop-step.invariant
+    (omega arith) (listed_is_prime c.args.setting.now.setting.prime c.recall_rule.ensures.setting.prime).above_one c.in_ok-whole.ensures.sum c.in_ok-whole.ensures.descends c.in_ok-whole.ensures.residues c.loop-step.invariant

@@ -26,4 +26,4 @@ pub returns : goal.returns
 returns c =
     let is : c.items-step-items.result.now ≡ c.args.trace.now.steps = c.items-step-items.ensures ∙ ap (λ (t : Trace). t.steps) c.trace.view_is in
     all_steps c.args.setting.now.setting (less_steps c.args.setting.now.setting.prime (elements_of c.args.labels.now) (start_label (elements_of c.args.labels.now) c.args.trace.now.start)) c.args.trace.now.steps c.loop-step.step-index c.loop-step.sum c.in_ok-label.label
-    (omega (arith, ap length is)) (listed_is_prime c.args.setting.now.setting.prime c.prime-prime.ensures.setting.prime).above_one c.in_ok-label.ensures.sum c.in_ok-label.ensures.descends c.in_ok-label.ensures.residues c.loop-step.invariant
+    (omega (arith, ap length is)) (listed_is_prime c.args.setting.now.setting.prime c.recall_rule.ensures.setting.prime).above_one c.in_ok-label.ensures.sum c.in_ok-label.ensures.descends c.in_ok-label.ensures.residues c.loop-step.invariant

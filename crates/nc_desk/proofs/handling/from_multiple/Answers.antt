@@ -13,7 +13,7 @@ use Rattle.nc_desk.proofs.handling.from_multiple.Goals as goal
 
 pub leading_word-requires : goal.leading_word-requires
 leading_word-requires c =
-    start_readable (setting_of c.args.snapshot.now.problem) c.problem-problem.ensures.snapshot.problem.setting c.args.snapshot.now.state.entries (snapshot_usable c.args.snapshot.now c.problem-problem.ensures.snapshot) (monomial_of c.args.sig.now) c.requires.usable (Start.a_multiple c.around.result.0.now c.args.best.number c.around.result.1.now)
+    start_readable (setting_of c.args.snapshot.now.problem) c.recall_rule.ensures.snapshot.problem.setting c.args.snapshot.now.state.entries (snapshot_usable c.args.snapshot.now c.recall_rule.ensures.snapshot) (monomial_of c.args.sig.now) c.requires.usable (Start.a_multiple c.around.result.0.now c.args.best.number c.around.result.1.now)
     (best_start c.args.snapshot.now.problem.problem.setting c.args.snapshot.now.state (monomial_of c.args.sig.now) c.args.best c.requires.best c.around.result.0.now c.around.result.1.now c.around.ensures.left c.around.ensures.right)
 
 pub returns-then-not-is_reducible : goal.returns-then-not-is_reducible

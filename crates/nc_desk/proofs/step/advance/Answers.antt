@@ -13,7 +13,7 @@ append-requires-clause-next c =
     let s : Snapshot = c.args.snapshot.now in
     let σ : Sig = c.args.sig.now.value in
     subst (λ (t : Snapshot). IsNextOfRun t.problem.problem t.handled t.state (monomial_of c.in_ok-try_clone.field-0.value)) (sym c.in_ok-later.ensures)
-    (subst (λ (ρ : Sig). IsNextOfRun s.problem.problem s.handled s.state (monomial_of ρ)) (sym c.in_ok-try_clone.ensures) (next_of_run s c.problem-problem.ensures.snapshot (monomial_of σ) c.requires.next))
+    (subst (λ (ρ : Sig). IsNextOfRun s.problem.problem s.handled s.state (monomial_of ρ)) (sym c.in_ok-try_clone.ensures) (next_of_run s c.recall_rule.ensures.snapshot (monomial_of σ) c.requires.next))
 
 pub returns-clause-advance : goal.returns-clause-advance
 returns-clause-advance c =

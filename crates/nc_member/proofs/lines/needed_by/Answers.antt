@@ -18,5 +18,5 @@ returns c =
     let s : Snapshot = c.args.snapshot.now in
     let same : c.as_slice.result.now ≡ numbers_of c.args.steps.now = c.as_slice.ensures.value ∙ c.in_ok-numbers.ensures in
     IfOk-weaker c.needed_traces.result (λ l. AreNeededTraces s.problem.problem s.handled c.as_slice.result.now l.items) (λ l. AreUsable s.problem.problem s.handled (numbers_of c.args.steps.now) l.items)
-    (λ l h. usable s.problem c.problem-problem.ensures.snapshot.problem s.handled c.problem-problem.ensures.snapshot.few (numbers_of c.args.steps.now) l.items (subst (λ (k : List ℕ). AreNeededTraces s.problem.problem s.handled k l.items) same h))
+    (λ l h. usable s.problem c.recall_rule.ensures.snapshot.problem s.handled c.recall_rule.ensures.snapshot.few (numbers_of c.args.steps.now) l.items (subst (λ (k : List ℕ). AreNeededTraces s.problem.problem s.handled k l.items) same h))
     c.needed_traces.ensures

@@ -18,7 +18,7 @@ member-requires-clause-light c = claim_light c.args.bytes.now c.args.finished.no
 pub returns-in_ok-too_many_report-in-Err-TooMany : goal.returns-in_ok-too_many_report-in-Err-TooMany
 returns-in_ok-too_many_report-in-Err-TooMany c =
     as_too_many c.args.options c.args.bytes.now _ _ _ c.requires.form (
-    many_at c.args.finished.now.snapshot (subst IsSnapshot c.snapshot-snapshot.ensures.snapshot c.problem-problem.ensures.snapshot) c.args.finished.now.ending c.snapshot-snapshot.ensures.ended c.args.bytes.now c.args.claim.now c.requires.text
+    many_at c.args.finished.now.snapshot (subst IsSnapshot c.snapshot-snapshot.ensures.snapshot c.recall_rule.ensures.snapshot) c.args.finished.now.ending c.snapshot-snapshot.ensures.ended c.args.bytes.now c.args.claim.now c.requires.text
     c.args.options.limit _ _ c.in_ok-too_many_report-in-Err-TooMany.field-0.items
     (subst₂ (λ (l : Listed) (n : ℕ). FailsToAnswer c.args.finished.now c.args.claim.now c.args.options.limit (TooMany l n)) (sym c.in-Err-TooMany.listed-is) (sym c.in-Err-TooMany.terms-is)
     (subst (λ (f : CofactorFault). FailsToAnswer c.args.finished.now c.args.claim.now c.args.options.limit f) c.in-Err-TooMany.field-0-is
