@@ -2,7 +2,7 @@
 
 ghost use Rattle.nc_cofactor.specs.Claims.{AreNeededFor, AreNeededTraces, AreSubtracted, FailsToRepresent, IsRepresentation};
 ghost use Rattle.nc_cofactor.specs.Needed.{AreNumbered};
-ghost use Rattle.nc_index.specs.Chosen.{leads_of};
+ghost use Rattle.nc_reduce.specs.Leads.{LeadsOf};
 ghost use Rattle.std.specs.Prelude.{All, IfErr, IfOk, length, ◌≡◌, ◌≤◌};
 
 use crate::fault::CofactorFault;
@@ -39,7 +39,7 @@ pub fn needed_traces(
     leads: &Leads,
     numbers: &[u32],
 ) -> Result<Vec<(u32, Trace)>, AllocError>
-    requires leads { leads.now ≡ leads_of snapshot.now.problem.problem.setting snapshot.now.state.entries }
+    requires leads { LeadsOf snapshot.now leads.now }
     requires listed { All (λ j. (1 ≤ j) × (j ≤ length snapshot.now.state.entries)) numbers.now }
     ensures { IfOk result (λ l. AreNeededTraces snapshot.now.problem.problem snapshot.now.handled numbers.now l.items) }
 {
@@ -59,7 +59,7 @@ pub fn needed(
     leads: &Leads,
     numbers: &[u32],
 ) -> Result<Vec<u32>, AllocError>
-    requires leads { leads.now ≡ leads_of snapshot.now.problem.problem.setting snapshot.now.state.entries }
+    requires leads { LeadsOf snapshot.now leads.now }
     requires listed { All (λ j. (1 ≤ j) × (j ≤ length snapshot.now.state.entries)) numbers.now }
     ensures { IfOk result (λ l. AreNeededFor snapshot.now.problem.problem snapshot.now.handled numbers.now l.items) }
 {
@@ -79,7 +79,7 @@ pub fn represent(
     steps: &[Step],
     limit: u64,
 ) -> Result<Module, CofactorFault>
-    requires leads { leads.now ≡ leads_of snapshot.now.problem.problem.setting snapshot.now.state.entries }
+    requires leads { LeadsOf snapshot.now leads.now }
     requires steps { AreSubtracted snapshot.now.problem.problem snapshot.now.state.entries steps.now }
     ensures label { IfOk result (IsRepresentation snapshot.now.problem.problem snapshot.now.handled steps.now limit) }
     ensures fault { IfErr result (FailsToRepresent snapshot.now.problem.problem snapshot.now.handled steps.now limit) }

@@ -2,7 +2,7 @@
 
 ghost use Rattle.nc_cofactor.specs.Expanding.{FailsToExpand, IsExpanded};
 ghost use Rattle.nc_cofactor.specs.Traces.{IsListed};
-ghost use Rattle.nc_index.specs.Chosen.{leads_of};
+ghost use Rattle.nc_reduce.specs.Leads.{LeadsOf};
 ghost use Rattle.std.specs.Prelude.{IfErr, IfOk, ◌≡◌};
 
 use crate::fault::CofactorFault;
@@ -27,7 +27,7 @@ pub fn expand(
     listed: Listed,
     limit: u64,
 ) -> Result<Module, CofactorFault>
-    requires leads { leads.now ≡ leads_of snapshot.now.problem.problem.setting snapshot.now.state.entries }
+    requires leads { LeadsOf snapshot.now leads.now }
     requires listed { IsListed snapshot.now.state listed }
     ensures label { IfOk result (IsExpanded snapshot.now.problem.problem snapshot.now.handled listed limit) }
     ensures fault { IfErr result (FailsToExpand snapshot.now.problem.problem snapshot.now.handled listed limit) }

@@ -2,7 +2,7 @@
 
 ghost use Rattle.nc_cofactor.specs.Expanding.{AreNamedLabels, FailsToSum};
 ghost use Rattle.nc_cofactor.specs.Needed.{AreFilled, FailsToFill, IsNewLabel};
-ghost use Rattle.nc_index.specs.Chosen.{leads_of};
+ghost use Rattle.nc_reduce.specs.Leads.{LeadsOf};
 ghost use Rattle.nc_snapshot.specs.declared.outcome.Listed.TheVariants.{Entry as EntryOf};
 ghost use Rattle.nc_theory.specs.States.{Trace as TraceValue};
 ghost use Rattle.std.specs.Prelude.{IfErr, IfOk, Some, length, ◌+◌, ◌≡◌, ◌≤◌, ◌⊎◌};
@@ -46,7 +46,7 @@ pub(crate) fn labels_from(
     marks: &mut [bool],
     limit: u64,
 ) -> Result<Vec<Module>, CofactorFault>
-    requires leads { leads.now ≡ leads_of snapshot.now.problem.problem.setting snapshot.now.state.entries }
+    requires leads { LeadsOf snapshot.now leads.now }
     requires size { length marks.old ≡ length snapshot.now.state.entries }
     ensures labels { IfOk result (λ l. AreFilled snapshot.now.problem.problem snapshot.now.handled marks.old limit l.items) }
     ensures fault { IfErr result (FailsToFill snapshot.now.problem.problem snapshot.now.handled marks.old limit) }

@@ -2,7 +2,7 @@
 
 ghost use Rattle.nc_cofactor.specs.Expanding.{AreNamedLabels, FailsToLabel, FailsToLabelSyzygies, FailsToSum};
 ghost use Rattle.nc_cofactor.specs.Labels.{AreLabels, AreSyzygyLabels, HasLabel};
-ghost use Rattle.nc_index.specs.Chosen.{leads_of};
+ghost use Rattle.nc_reduce.specs.Leads.{LeadsOf};
 ghost use Rattle.nc_snapshot.specs.declared.outcome.Listed.TheVariants.{Entry as EntryOf, Syzygy as SyzygyOf};
 ghost use Rattle.std.specs.Prelude.{All, IfErr, IfOk, Some, length, slice_get, ◌+◌, ◌-◌, ◌≡◌, ◌≤◌};
 
@@ -47,7 +47,7 @@ fn entry_label(
     number: u32,
     limit: u64,
 ) -> Result<Module, CofactorFault>
-    requires leads { leads.now ≡ leads_of snapshot.now.problem.problem.setting snapshot.now.state.entries }
+    requires leads { LeadsOf snapshot.now leads.now }
     requires within { number ≤ length snapshot.now.state.entries }
     requires labels { AreLabels snapshot.now.problem.problem snapshot.now.handled labels.now }
     requires next { number ≡ length labels.now + 1 }
@@ -87,7 +87,7 @@ impl Labels {
         leads: &Leads,
         limit: u64,
     ) -> Result<Labels, CofactorFault>
-        requires leads { leads.now ≡ leads_of snapshot.now.problem.problem.setting snapshot.now.state.entries }
+        requires leads { LeadsOf snapshot.now leads.now }
         ensures labels { IfOk result (AreLabels snapshot.now.problem.problem snapshot.now.handled) }
         ensures all { IfOk result (λ l. length l ≡ length snapshot.now.state.entries) }
         ensures few { IfOk result (All (λ m. length m ≤ limit)) }
@@ -122,7 +122,7 @@ impl Labels {
         leads: &Leads,
         limit: u64,
     ) -> Result<Vec<Module>, CofactorFault>
-        requires leads { leads.now ≡ leads_of snapshot.now.problem.problem.setting snapshot.now.state.entries }
+        requires leads { LeadsOf snapshot.now leads.now }
         requires labels { AreLabels snapshot.now.problem.problem snapshot.now.handled self.now }
         requires all { length self.now ≡ length snapshot.now.state.entries }
         ensures labels { IfOk result (λ l. AreSyzygyLabels snapshot.now.problem.problem snapshot.now.handled l.items) }
@@ -150,7 +150,7 @@ impl Labels {
         number: u32,
         limit: u64,
     ) -> Result<Module, CofactorFault>
-        requires leads { leads.now ≡ leads_of snapshot.now.problem.problem.setting snapshot.now.state.entries }
+        requires leads { LeadsOf snapshot.now leads.now }
         requires some { 1 ≤ number }
         requires within { number ≤ length snapshot.now.state.syzygies }
         requires labels { AreLabels snapshot.now.problem.problem snapshot.now.handled self.now }

@@ -6,7 +6,7 @@ ghost use Rattle.nc_algebra.specs.Polynomials.{Polynomial};
 ghost use Rattle.nc_cofactor.specs.Rebuilding.{AreLesser, HasStart, IsStartOver};
 ghost use Rattle.nc_cofactor.specs.Traces.{IsListedSignature};
 ghost use Rattle.nc_criteria.specs.Multiples.{IsBestWithin};
-ghost use Rattle.nc_index.specs.Chosen.{leads_of};
+ghost use Rattle.nc_reduce.specs.Leads.{LeadsOf};
 ghost use Rattle.nc_snapshot.specs.Traces.{start_of};
 ghost use Rattle.nc_theory.specs.Rebuilding.{Rebuilds};
 ghost use Rattle.nc_theory.specs.States.{Start as Beginning};
@@ -86,7 +86,7 @@ pub fn rebuild(
     sig: &Sig,
     entries: u32,
 ) -> Result<Trace, AllocError>
-    requires leads { leads.now ≡ leads_of snapshot.now.problem.problem.setting snapshot.now.state.entries }
+    requires leads { LeadsOf snapshot.now leads.now }
     requires degree { HasDegree snapshot.now.problem.problem.setting sig.now }
     requires listed { IsListedSignature snapshot.now.state (monomial_of sig.now) }
     requires lesser { AreLesser snapshot.now.problem.problem.setting snapshot.now.state.entries (monomial_of sig.now) entries }

@@ -2,7 +2,7 @@
 
 ghost use Rattle.nc_cofactor.specs.Needed.{AreFound, IsMarked, IsSlot, MarksMore, StepsName};
 ghost use Rattle.nc_cofactor.specs.Terms.{Names, StartNames};
-ghost use Rattle.nc_index.specs.Chosen.{leads_of};
+ghost use Rattle.nc_reduce.specs.Leads.{LeadsOf};
 ghost use Rattle.nc_snapshot.specs.Traces.{start_of};
 ghost use Rattle.std.specs.Prelude.{All, Contains, IfOk, IsTrue, false, length, ℕ, ◌≡◌, ◌≤◌, ◌↔◌};
 
@@ -77,7 +77,7 @@ fn slot_at(
     marks: &mut [bool],
     number: u32,
 ) -> Result<Option<Trace>, AllocError>
-    requires leads { leads.now ≡ leads_of snapshot.now.problem.problem.setting snapshot.now.state.entries }
+    requires leads { LeadsOf snapshot.now leads.now }
     requires some { 1 ≤ number }
     requires within { number ≤ length snapshot.now.state.entries }
     requires size { length marks.old ≡ length snapshot.now.state.entries }
@@ -100,7 +100,7 @@ pub(crate) fn traces_from(
     leads: &Leads,
     marks: &mut [bool],
 ) -> Result<Vec<Option<Trace>>, AllocError>
-    requires leads { leads.now ≡ leads_of snapshot.now.problem.problem.setting snapshot.now.state.entries }
+    requires leads { LeadsOf snapshot.now leads.now }
     requires size { length marks.old ≡ length snapshot.now.state.entries }
     ensures { IfOk result (λ stack. AreFound snapshot.now.problem.problem snapshot.now.handled marks.old stack.items) }
 {

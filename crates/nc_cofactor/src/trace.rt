@@ -1,7 +1,7 @@
 //! Traces of listed items.
 
 ghost use Rattle.nc_cofactor.specs.Traces.{HasTrace, IsListed};
-ghost use Rattle.nc_index.specs.Chosen.{leads_of};
+ghost use Rattle.nc_reduce.specs.Leads.{LeadsOf};
 ghost use Rattle.std.specs.Prelude.{IfOk, length, ◌≡◌, ◌≤◌};
 
 use crate::below::entries_below;
@@ -17,7 +17,7 @@ fn entry_trace(
     leads: &Leads,
     number: u32,
 ) -> Result<Trace, AllocError>
-    requires leads { leads.now ≡ leads_of snapshot.now.problem.problem.setting snapshot.now.state.entries }
+    requires leads { LeadsOf snapshot.now leads.now }
     requires some { 1 ≤ number }
     requires within { number ≤ length snapshot.now.state.entries }
     ensures { IfOk result (HasTrace snapshot.now.problem.problem snapshot.now.handled (Listed.Entry number)) }
@@ -39,7 +39,7 @@ fn syzygy_trace(
     leads: &Leads,
     number: u32,
 ) -> Result<Trace, AllocError>
-    requires leads { leads.now ≡ leads_of snapshot.now.problem.problem.setting snapshot.now.state.entries }
+    requires leads { LeadsOf snapshot.now leads.now }
     requires some { 1 ≤ number }
     requires within { number ≤ length snapshot.now.state.syzygies }
     ensures { IfOk result (HasTrace snapshot.now.problem.problem snapshot.now.handled (Listed.Syzygy number)) }
@@ -57,7 +57,7 @@ pub fn trace_of(
     leads: &Leads,
     listed: Listed,
 ) -> Result<Trace, AllocError>
-    requires leads { leads.now ≡ leads_of snapshot.now.problem.problem.setting snapshot.now.state.entries }
+    requires leads { LeadsOf snapshot.now leads.now }
     requires listed { IsListed snapshot.now.state listed }
     ensures { IfOk result (HasTrace snapshot.now.problem.problem snapshot.now.handled listed) }
 {

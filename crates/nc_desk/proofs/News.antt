@@ -5,12 +5,13 @@ use Rattle.nc_algebra.specs.Monomials.{Monomial, Sig, monomial_of, sig_of}
 use Rattle.nc_algebra.specs.Polynomials.{IsNormal, Polynomial, leading}
 use Rattle.nc_algebra.specs.Sums.{Term}
 use Rattle.nc_algebra.specs.Words.{Word}
-use Rattle.nc_desk.specs.Desks.{IsNextAt, LeadsOf}
+use Rattle.nc_desk.specs.Desks.{IsNextAt}
 use Rattle.nc_desk.specs.Steps.{AreNews, IsBrought}
 use Rattle.nc_index.specs.Chosen.{lead_of, leads_of}
 use Rattle.nc_index.specs.Pairs.{Lead}
 use Rattle.nc_overlap.proofs.Lists.{image, preimage}
 use Rattle.nc_overlap.specs.Overlaps.{AreNewSignatures}
+use Rattle.nc_reduce.specs.Leads.{LeadsOf}
 use Rattle.nc_search.proofs.Snapshots.{facts}
 use Rattle.nc_search.proofs.UntracedSteps.{goes_on}
 use Rattle.nc_search.specs.Laws.{GoesOn}

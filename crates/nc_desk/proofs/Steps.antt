@@ -4,11 +4,12 @@
 use Rattle.nc_algebra.specs.Elements.{HasDegree, Setting}
 use Rattle.nc_algebra.specs.Monomials.{Monomial, Sig, monomial_of}
 use Rattle.nc_desk.proofs.Left.{first_next, later_run, left_later, none_next}
-use Rattle.nc_desk.specs.Desks.{AreLeft, IsNextAt, LeadsOf, Waits}
+use Rattle.nc_desk.specs.Desks.{AreLeft, IsNextAt, Waits}
 use Rattle.nc_desk.specs.Steps.{AreNews, IsAdvance, IsBrought, IsStep}
 use Rattle.nc_index.specs.Chosen.{lead_of, leads_of}
 use Rattle.nc_index.specs.Pairs.{Lead}
 use Rattle.nc_queue.specs.Queues.{IsAscending, IsUnion}
+use Rattle.nc_reduce.specs.Leads.{LeadsOf}
 use Rattle.nc_search.proofs.UntracedSteps.{goes_on}
 use Rattle.nc_search.specs.Untraced.{IsNextOfRun, untraced, untraced_entry}
 use Rattle.nc_snapshot.proofs.Snapshots.{snapshot_prime}

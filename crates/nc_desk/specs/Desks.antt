@@ -8,21 +8,17 @@
 -- works.
 use Rattle.nc_algebra.specs.Elements.{HasDegree}
 use Rattle.nc_algebra.specs.Monomials.{Monomial, Sig, monomial_of}
-use Rattle.nc_index.specs.Chosen.{leads_of}
 use Rattle.nc_index.specs.Pairs.{Lead}
+use Rattle.nc_reduce.specs.Leads.{LeadsOf}
 use Rattle.nc_search.specs.Untraced.{IsNextOfRun, IsRunTo}
 use Rattle.nc_snapshot.specs.Snapshots.{Snapshot}
 use Rattle.nc_theory.specs.Runs.{IsNext, IsWaiting}
-use Rattle.std.specs.Prelude.{Contains, List, Option, ℕ, ◌<◌, ◌↔◌, ◌≡◌, ◌≤◌}
+use Rattle.std.specs.Prelude.{Contains, List, Option, ℕ, ◌<◌, ◌↔◌, ◌≤◌}
 
 -- a snapshot, and how many signatures may be claimed at once
 pub record Desk : Type 0 where
   pub snapshot : Snapshot
   pub window : ℕ
-
--- the leads are those of the snapshot's entries
-abbrev pub LeadsOf : Snapshot → List Lead → Type 0
-LeadsOf s leads = leads ≡ leads_of s.problem.problem.setting s.state.entries
 
 -- the signatures are exactly the candidates left after the last one that was handled, each with its degree
 pub record AreLeft (s : Snapshot) (signatures : List Sig) : Type 0 where

@@ -3,10 +3,11 @@
 -- The end of the code carries a degree beside the signature.
 use Rattle.nc_algebra.specs.Elements.{HasDegree, Setting}
 use Rattle.nc_algebra.specs.Monomials.{monomial_of}
-use Rattle.nc_desk.specs.Desks.{LeadsOf, MayStep}
+use Rattle.nc_desk.specs.Desks.{MayStep}
 use Rattle.nc_desk.specs.declared.finished.End.{End}
 use Rattle.nc_desk.specs.declared.finished.End.TheVariants.{Budget, Complete}
 use Rattle.nc_index.specs.Pairs.{Lead}
+use Rattle.nc_reduce.specs.Leads.{LeadsOf}
 use Rattle.nc_search.specs.Untraced.{IsEndOf}
 use Rattle.nc_snapshot.specs.Snapshots.{Snapshot}
 use Rattle.nc_theory.specs.Runs.{End as Ending}

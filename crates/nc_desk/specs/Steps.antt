@@ -6,10 +6,10 @@
 use Rattle.nc_algebra.specs.Elements.{HasDegree}
 use Rattle.nc_algebra.specs.Monomials.{Monomial, Sig, monomial_of}
 use Rattle.nc_algebra.specs.Problems.{IsWithin, Problem}
-use Rattle.nc_desk.specs.Desks.{LeadsOf}
 use Rattle.nc_index.specs.Chosen.{leads_of}
 use Rattle.nc_index.specs.Pairs.{Lead}
 use Rattle.nc_queue.specs.Queues.{IsAscending}
+use Rattle.nc_reduce.specs.Leads.{LeadsOf}
 use Rattle.nc_search.specs.Untraced.{IsNextOfRun, untraced}
 use Rattle.nc_snapshot.specs.Snapshots.{Snapshot}
 use Rattle.nc_theory.specs.Runs.{BringsAmbiguity, Handles, Outcome, state_after}

@@ -1,7 +1,7 @@
 //! The end of a run.
 
-ghost use Rattle.nc_desk.specs.Desks.{LeadsOf};
 ghost use Rattle.nc_desk.specs.Ends.{HasEndDegree, IsEndAt, IsFinished, end_of};
+ghost use Rattle.nc_reduce.specs.Leads.{LeadsOf};
 ghost use Rattle.std.specs.Prelude.{◌≡◌};
 
 use nc_index::Leads;

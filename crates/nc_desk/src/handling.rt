@@ -3,7 +3,7 @@
 ghost use Rattle.nc_algebra.specs.Elements.{HasDegree, IsGenerator};
 ghost use Rattle.nc_algebra.specs.Monomials.{monomial_of, unit_monomial};
 ghost use Rattle.nc_criteria.specs.Multiples.{IsBestWithin};
-ghost use Rattle.nc_index.specs.Chosen.{leads_of};
+ghost use Rattle.nc_reduce.specs.Leads.{LeadsOf};
 ghost use Rattle.nc_search.specs.Outcomes.{outcome_after};
 ghost use Rattle.nc_search.specs.Usable.{IsUsableSignature};
 ghost use Rattle.nc_snapshot.specs.Outcomes.{outcome_of};
@@ -45,7 +45,7 @@ fn from_generator(
     leads: &Leads,
     sig: &Sig,
 ) -> Result<Outcome, AllocError>
-    requires leads { leads.now ≡ leads_of snapshot.now.problem.problem.setting snapshot.now.state.entries }
+    requires leads { LeadsOf snapshot.now leads.now }
     requires degree { HasDegree snapshot.now.problem.problem.setting sig.now }
     requires usable { IsUsableSignature snapshot.now.problem.problem.setting (monomial_of sig.now) }
     requires generator { IsGenerator snapshot.now.problem.problem.setting sig.now.generator }
@@ -66,7 +66,7 @@ fn from_multiple(
     sig: &Sig,
     best: Multiple,
 ) -> Result<Outcome, AllocError>
-    requires leads { leads.now ≡ leads_of snapshot.now.problem.problem.setting snapshot.now.state.entries }
+    requires leads { LeadsOf snapshot.now leads.now }
     requires degree { HasDegree snapshot.now.problem.problem.setting sig.now }
     requires usable { IsUsableSignature snapshot.now.problem.problem.setting (monomial_of sig.now) }
     requires other { monomial_of sig.now ≢ unit_monomial sig.now.generator }
@@ -98,7 +98,7 @@ pub fn handle(
     leads: &Leads,
     sig: &Sig,
 ) -> Result<Outcome, AllocError>
-    requires leads { leads.now ≡ leads_of snapshot.now.problem.problem.setting snapshot.now.state.entries }
+    requires leads { LeadsOf snapshot.now leads.now }
     requires degree { HasDegree snapshot.now.problem.problem.setting sig.now }
     requires candidate { IsCandidate snapshot.now.problem.problem snapshot.now.state (monomial_of sig.now) }
     ensures { IfOk result (λ o. Handles snapshot.now.problem.problem.setting snapshot.now.state (monomial_of sig.now) (outcome_of o)) }

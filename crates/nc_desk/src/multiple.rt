@@ -5,7 +5,7 @@ ghost use Rattle.nc_algebra.specs.Monomials.{monomial_of};
 ghost use Rattle.nc_algebra.specs.Polynomials.{leading};
 ghost use Rattle.nc_algebra.specs.Words.{Word as WordValue};
 ghost use Rattle.nc_criteria.specs.Multiples.{IsBestWithin};
-ghost use Rattle.nc_index.specs.Chosen.{leads_of};
+ghost use Rattle.nc_reduce.specs.Leads.{LeadsOf};
 ghost use Rattle.nc_reduce.specs.Starts.{IsReadable, polynomial_of};
 ghost use Rattle.nc_snapshot.specs.Traces.{start_of};
 ghost use Rattle.nc_theory.specs.Divisors.{Multiple as MultipleAt, RegularDivisor};
@@ -90,7 +90,7 @@ pub(crate) fn multiple_start(
 
 /// Whether a multiple of an entry with a signature below this one has the word as its leading word.
 pub(crate) fn is_reducible(snapshot: &Snapshot, leads: &Leads, sig: &Sig, word: &Word) -> bool
-    requires leads { leads.now ≡ leads_of snapshot.now.problem.problem.setting snapshot.now.state.entries }
+    requires leads { LeadsOf snapshot.now leads.now }
     requires degree { HasDegree snapshot.now.problem.problem.setting sig.now }
     ensures { IsTrue result ↔ RegularDivisor snapshot.now.problem.problem.setting snapshot.now.state.entries (monomial_of sig.now) word.now }
 {

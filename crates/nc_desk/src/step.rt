@@ -2,8 +2,9 @@
 
 ghost use Rattle.nc_algebra.specs.Elements.{HasDegree};
 ghost use Rattle.nc_algebra.specs.Monomials.{monomial_of};
-ghost use Rattle.nc_desk.specs.Desks.{IsNextAt, LeadsOf};
+ghost use Rattle.nc_desk.specs.Desks.{IsNextAt};
 ghost use Rattle.nc_desk.specs.Steps.{AreNews, IsAdvance};
+ghost use Rattle.nc_reduce.specs.Leads.{LeadsOf};
 ghost use Rattle.nc_snapshot.specs.Outcomes.{outcome_of};
 ghost use Rattle.nc_theory.specs.Runs.{Handles, Outcome as Result};
 ghost use Rattle.nc_theory.specs.States.{Trace};

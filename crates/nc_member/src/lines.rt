@@ -1,9 +1,9 @@
 //! The lines that prove a claim.
 
 ghost use Rattle.nc_cofactor.specs.Claims.{AreSubtracted, numbers_of};
-ghost use Rattle.nc_index.specs.Chosen.{leads_of};
 ghost use Rattle.nc_member.specs.Found.{AreProofLines, AreUsable, HasResidues, entries_of, trace_lines};
 ghost use Rattle.nc_member.specs.Lines.{claim_line, line_of, start_part, step_part, trace_line};
+ghost use Rattle.nc_reduce.specs.Leads.{LeadsOf};
 ghost use Rattle.nc_snapshot.specs.Traces.{start_of};
 ghost use Rattle.std.specs.List.Sorted.{IsStrictlyIncreasing};
 ghost use Rattle.std.specs.Prelude.{All, IfOk, OnOk, length, ◌++◌, ◌+◌, ◌<◌, ◌≡◌, ◌≤◌};
@@ -152,7 +152,7 @@ fn needed_by(
     leads: &Leads,
     steps: &[Step],
 ) -> Result<Vec<(u32, Trace)>, AllocError>
-    requires leads { leads.now ≡ leads_of snapshot.now.problem.problem.setting snapshot.now.state.entries }
+    requires leads { LeadsOf snapshot.now leads.now }
     requires steps { AreSubtracted snapshot.now.problem.problem snapshot.now.state.entries steps.now }
     ensures { IfOk result (λ l. AreUsable snapshot.now.problem.problem snapshot.now.handled (numbers_of steps.now) l.items) }
 {
@@ -169,7 +169,7 @@ pub(crate) fn lines_of(
     leads: &Leads,
     steps: &[Step],
 ) -> Result<Lines, AllocError>
-    requires leads { leads.now ≡ leads_of snapshot.now.problem.problem.setting snapshot.now.state.entries }
+    requires leads { LeadsOf snapshot.now leads.now }
     requires steps { AreSubtracted snapshot.now.problem.problem snapshot.now.state.entries steps.now }
     ensures { IfOk result (AreProofLines snapshot.now.problem.problem snapshot.now.handled steps.now) }
 {

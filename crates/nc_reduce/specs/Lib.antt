@@ -1,3 +1,4 @@
+pub mod Leads
 pub mod Starts
 pub mod Turns
 pub mod Limits

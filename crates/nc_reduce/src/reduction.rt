@@ -4,7 +4,8 @@ ghost use Rattle.nc_algebra.specs.Elements.{HasDegree};
 ghost use Rattle.nc_algebra.specs.Monomials.{monomial_of};
 ghost use Rattle.nc_algebra.specs.Polynomials.{IsNormal};
 ghost use Rattle.nc_algebra.specs.Problems.{IsWithin};
-ghost use Rattle.nc_index.specs.Chosen.{IsBelowSig, leads_of};
+ghost use Rattle.nc_index.specs.Chosen.{IsBelowSig};
+ghost use Rattle.nc_reduce.specs.Leads.{LeadsOf};
 ghost use Rattle.nc_reduce.specs.Starts.{IsStartAt, start_polynomial};
 ghost use Rattle.nc_search.specs.Usable.{HasSmallWords, IsUsableSignature};
 ghost use Rattle.nc_snapshot.specs.Traces.{start_of};
@@ -42,7 +43,7 @@ fn reduce_all(
     f: Poly,
     bound: &Sig,
 ) -> Result<(Poly, StepList), AllocError>
-    requires leads { leads.now ≡ leads_of snapshot.now.problem.problem.setting snapshot.now.state.entries }
+    requires leads { LeadsOf snapshot.now leads.now }
     requires normal { IsNormal snapshot.now.problem.problem.setting.prime f }
     requires small { HasSmallWords snapshot.now.problem.problem.setting f }
     ensures { IfOk result (λ r. Reduction snapshot.now.problem.problem.setting snapshot.now.state.entries (IsBelowSig snapshot.now.problem.problem.setting bound.now) f r.0 r.1) }
@@ -74,7 +75,7 @@ pub fn reduce(
     start: Start,
     sig: &Sig,
 ) -> Result<Reduced, AllocError>
-    requires leads { leads.now ≡ leads_of snapshot.now.problem.problem.setting snapshot.now.state.entries }
+    requires leads { LeadsOf snapshot.now leads.now }
     requires degree { HasDegree snapshot.now.problem.problem.setting sig.now }
     requires usable { IsUsableSignature snapshot.now.problem.problem.setting (monomial_of sig.now) }
     requires start { IsStartAt snapshot.now.problem.problem.setting snapshot.now.state.entries (monomial_of sig.now) (start_of start) }
@@ -99,7 +100,7 @@ pub fn reduce_within(
     leads: &Leads,
     claim: &Poly,
 ) -> Result<Rest, AllocError>
-    requires leads { leads.now ≡ leads_of snapshot.now.problem.problem.setting snapshot.now.state.entries }
+    requires leads { LeadsOf snapshot.now leads.now }
     requires normal { IsNormal snapshot.now.problem.problem.setting.prime claim.now }
     requires small { HasSmallWords snapshot.now.problem.problem.setting claim.now }
     ensures { IfOk result (λ r. Reduction snapshot.now.problem.problem.setting snapshot.now.state.entries (IsWithin snapshot.now.problem.problem) claim.now r.poly r.steps) }

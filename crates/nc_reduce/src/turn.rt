@@ -1,7 +1,7 @@
 //! One turn of a reduction.
 
 ghost use Rattle.nc_algebra.specs.Polynomials.{IsNormal, Polynomial};
-ghost use Rattle.nc_index.specs.Chosen.{leads_of};
+ghost use Rattle.nc_reduce.specs.Leads.{LeadsOf};
 ghost use Rattle.nc_reduce.specs.Turns.{IsTurn};
 ghost use Rattle.nc_search.specs.Usable.{HasSmallWords};
 ghost use Rattle.nc_snapshot.specs.Snapshots.{IsSnapshot};
@@ -50,7 +50,7 @@ pub(crate) fn take_turn(
     bound: &Sig,
     rest: &mut Heap,
 ) -> Result<Turn, AllocError>
-    requires leads { leads.now ≡ leads_of snapshot.now.problem.problem.setting snapshot.now.state.entries }
+    requires leads { LeadsOf snapshot.now leads.now }
     requires normal { IsNormal snapshot.now.problem.problem.setting.prime rest.old }
     requires some { rest.old ≢ [] }
     requires small { HasSmallWords snapshot.now.problem.problem.setting rest.old }

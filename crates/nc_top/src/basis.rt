@@ -1,7 +1,7 @@
 //! The answer of `basis`.
 
-ghost use Rattle.nc_desk.specs.Desks.{LeadsOf};
 ghost use Rattle.nc_desk.specs.Ends.{IsEndAt};
+ghost use Rattle.nc_reduce.specs.Leads.{LeadsOf};
 ghost use Rattle.nc_theory.specs.States.{State};
 ghost use Rattle.nc_top.specs.Basis.{AreShort, IsBasisAnswer, IsProblemText, reads_relations, status_at};
 ghost use Rattle.nc_cofactor.specs.Terms.{AllWithin};

@@ -1,7 +1,7 @@
 //! The report on a run.
 
-ghost use Rattle.nc_desk.specs.Desks.{LeadsOf};
 ghost use Rattle.nc_print.specs.Printing.{ended};
+ghost use Rattle.nc_reduce.specs.Leads.{LeadsOf};
 ghost use Rattle.nc_report.specs.Reports.{end_line, numbered};
 ghost use Rattle.nc_theory.specs.States.{Entry as EntryOf, State, Syzygy as SyzygyOf};
 ghost use Rattle.nc_top.specs.Reports.{basis_report, entry_lines, syzygy_lines};

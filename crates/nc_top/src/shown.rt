@@ -2,10 +2,10 @@
 
 ghost use Rattle.nc_algebra.specs.Elements.{Element};
 ghost use Rattle.nc_cofactor.specs.Traces.{IsListed, IsTraceIn};
-ghost use Rattle.nc_desk.specs.Desks.{LeadsOf};
 ghost use Rattle.nc_module.specs.Modules.{element_of};
 ghost use Rattle.nc_options.specs.declared.options.Cofactors.TheVariants.{Full, Trace as TraceOf};
 ghost use Rattle.nc_print.specs.Printing.{ended};
+ghost use Rattle.nc_reduce.specs.Leads.{LeadsOf};
 ghost use Rattle.nc_theory.specs.States.{State, Trace as Proof};
 ghost use Rattle.nc_top.specs.Reports.{cofactor_lines};
 ghost use Rattle.nc_top.specs.Shown.{AreAllLabels, IsRunAt, IsShownOf, IsTraceNamed, kind_of, label_among, labels_in};
