@@ -4,12 +4,12 @@ use Rattle.std.specs.Prelude.{IsPermutation, if◌then◌else◌, option_and_the
 use Rattle.std.specs.Str.{bytes_eq}
 use Rattle.std.proofs.lemmas.List.Sorted.{IsPermutation-sym}
 use Rattle.std.proofs.lemmas.Slice.Eq.{bytes_eq-Decides}
-use Rattle.nc_command.proofs.Orders.{distinct-permutation, value_of-permutation}
-use Rattle.nc_command.proofs.Spellings.{spelled_splits}
-use Rattle.nc_command.specs.Laws.{are_names}
-use Rattle.nc_command.specs.Pieces.{Text}
-use Rattle.nc_command.specs.Spellings.{AreSpelled}
-use Rattle.nc_command.specs.Uses.{Use, if_distinct, is_distinct, uses_of, value_of}
+use Rattle.nc_options.proofs.Orders.{distinct-permutation, value_of-permutation}
+use Rattle.nc_options.proofs.Spellings.{spelled_splits}
+use Rattle.nc_options.specs.CommandLine.{are_names}
+use Rattle.nc_options.specs.Pieces.{Text}
+use Rattle.nc_options.specs.Spellings.{AreSpelled}
+use Rattle.nc_options.specs.Uses.{Use, if_distinct, is_distinct, uses_of, value_of}
 use Rattle.nc_options.specs.Laws.{OptionsInAnyOrder, names_of, takes_number}
 use Rattle.nc_options.specs.Options.{basis_names, basis_of, check_after, demo_names, demo_of, member_names, member_of, options_of}
 use Rattle.nc_options.specs.declared.options.Options.TheVariants.{Basis, Check, Demo, Member}

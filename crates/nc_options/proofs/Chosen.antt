@@ -3,8 +3,8 @@
 -- as the uses (`chosen`).
 use Rattle.std.proofs.Common.{◌≡◌, ◌∙◌, ap, sym, List, Bool, Option, Some}
 use Rattle.std.specs.Prelude.{option_map, option_and_then}
-use Rattle.nc_command.specs.Pieces.{Text}
-use Rattle.nc_command.specs.Uses.{Use, uses_of, value_of}
+use Rattle.nc_options.specs.Pieces.{Text}
+use Rattle.nc_options.specs.Uses.{Use, uses_of, value_of}
 use Rattle.clap.specs.Words.{first_value, found_of}
 use Rattle.clap.specs.declared.ArgMatches.{ArgMatches}
 use Rattle.nc_options.specs.Answers.{HoldsUses}

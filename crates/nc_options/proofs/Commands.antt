@@ -3,7 +3,7 @@ use Rattle.std.proofs.Common.{◌≡◌, false, List, ◌∷◌, None, codes}
 use Rattle.std.proofs.lemmas.Bool.{false_from_ne_true}
 use Rattle.std.proofs.lemmas.Slice.Eq.{bytes_eq-Decides}
 use Rattle.std.specs.Str.{bytes_eq}
-use Rattle.nc_command.specs.Pieces.{Text}
+use Rattle.nc_options.specs.Pieces.{Text}
 use Rattle.nc_options.specs.Options.{options_of}
 
 differs : (text other : Text) → (text ≡ other → ⊥) → bytes_eq text other ≡ false

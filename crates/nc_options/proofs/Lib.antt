@@ -1,3 +1,15 @@
+pub mod Tables
+pub mod Rows
+pub mod Distinct
+pub mod Pieces
+pub mod Turns
+pub mod Walks
+pub mod Parses
+pub mod Fit
+pub mod Growing
+pub mod Caller
+pub mod Orders
+pub mod Spellings
 pub mod AnyOrder
 pub mod Chosen
 pub mod Commands

@@ -3,9 +3,9 @@ use Rattle.std.proofs.Common.{◌≡◌, ◌≤◌, ◌&&◌, ℕ, Bool, true, f
 use Rattle.std.specs.Prelude.{if◌then◌else◌, nat_le, option_and_then, option_map}
 use Rattle.std.specs.Str.{bytes_eq}
 use Rattle.std.proofs.lemmas.Bool.{leb-true}
-use Rattle.nc_command.proofs.Turns.{none_of_some}
-use Rattle.nc_command.specs.Pieces.{Text}
-use Rattle.nc_command.specs.Uses.{Use, number_id, uses_of, value_of}
+use Rattle.nc_options.proofs.Turns.{none_of_some}
+use Rattle.nc_options.specs.Pieces.{Text}
+use Rattle.nc_options.specs.Uses.{Use, number_id, uses_of, value_of}
 use Rattle.nc_options.specs.Laws.{AreInRange, IsWithin, OptionsAreInRange}
 use Rattle.nc_options.specs.Options.{basis_after, basis_names, basis_of, basis_with, check_after, demo_after, demo_names, demo_of, demo_with, member_after, member_names, member_of, member_with}
 use Rattle.nc_options.specs.Values.{cofactors_of, degree_of, digits_of, form_of, limit_of, number_in, number_of, number_or, window_of, within, workers_of}

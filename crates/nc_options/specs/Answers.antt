@@ -8,8 +8,8 @@ use Rattle.clap.specs.Words.{first_value, found_of, kind_of}
 use Rattle.clap.specs.declared.ArgMatches.{ArgMatches}
 use Rattle.clap.specs.declared.Error.{Error}
 use Rattle.clap.specs.declared.error.ErrorKind.TheVariants.{OutOfMemory}
-use Rattle.nc_command.specs.Pieces.{Text}
-use Rattle.nc_command.specs.Uses.{Use, value_of}
+use Rattle.nc_options.specs.Pieces.{Text}
+use Rattle.nc_options.specs.Uses.{Use, value_of}
 use Rattle.nc_options.specs.declared.error.OptionsError.{OptionsError}
 use Rattle.nc_options.specs.declared.error.OptionsError.TheVariants.{Usage, Memory}
 

@@ -3,9 +3,9 @@
 -- Each law is the contract of a public function with an empty body.
 use Rattle.std.specs.Prelude.{◌≡◌, ◌≤◌, ℕ, Bool, List, [], ◌∷◌, Some, codes, if◌then◌else◌, IsPermutation}
 use Rattle.std.specs.Str.{bytes_eq}
-use Rattle.nc_command.specs.Pieces.{Text}
-use Rattle.nc_command.specs.Uses.{Use}
-use Rattle.nc_command.specs.Spellings.{AreSpelled}
+use Rattle.nc_options.specs.Pieces.{Text}
+use Rattle.nc_options.specs.Uses.{Use}
+use Rattle.nc_options.specs.Spellings.{AreSpelled}
 use Rattle.nc_options.specs.Options.{basis_names, demo_names, member_names, options_of}
 use Rattle.nc_options.specs.declared.options.Options.{Options}
 use Rattle.nc_options.specs.declared.options.Options.TheVariants.{Basis, Check, Demo, Member}

@@ -1,3 +1,9 @@
+pub mod Pieces
+pub mod Uses
+pub mod Fit
+pub mod Commands
+pub mod Spellings
+pub mod CommandLine
 pub mod Answers
 pub mod Values
 pub mod Options

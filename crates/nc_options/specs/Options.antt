@@ -1,13 +1,13 @@
 -- The options that the words of a command line give, the command word first.
 --
--- The words behind the command word are uses (`Uses.antt` of nc_command), and each option takes its
+-- The words behind the command word are uses (`Uses.antt`), and each option takes its
 -- value from them by its name. If the text of one option is no value of it, there are no options at
 -- all. `basis` and `member` take no number, `check` takes nothing at all, and `demo` takes a
 -- number. Ranges and defaults stand in `Values.antt`.
 use Rattle.std.specs.Prelude.{ℕ, true, false, List, [], ◌∷◌, Option, Some, None, codes, if◌then◌else◌, option_and_then, option_map}
 use Rattle.std.specs.Str.{bytes_eq}
-use Rattle.nc_command.specs.Pieces.{Text}
-use Rattle.nc_command.specs.Uses.{uses_of, value_of}
+use Rattle.nc_options.specs.Pieces.{Text}
+use Rattle.nc_options.specs.Uses.{uses_of, value_of}
 use Rattle.nc_options.specs.Values.{workers_of, window_of, limit_of, cofactors_of, form_of, number_of, degree_of}
 use Rattle.nc_options.specs.declared.options.Cofactors.{Cofactors}
 use Rattle.nc_options.specs.declared.options.BasisOptions.{BasisOptions}

@@ -1,8 +1,8 @@
 //! What is asked of the words before `clap` sees them: `--`, `--help`, `--version`, shortened names, short options and
 //! repeated options are refused here.
 
-ghost use Rattle.nc_command.specs.Fit.{are_fit, are_fit_and_single, are_single, is_fit, names_option};
-ghost use Rattle.nc_command.specs.Pieces.{is_among, name_in};
+ghost use Rattle.nc_options.specs.Fit.{are_fit, are_fit_and_single, are_single, is_fit, names_option};
+ghost use Rattle.nc_options.specs.Pieces.{is_among, name_in};
 ghost use Rattle.std.specs.List.{count_by};
 ghost use Rattle.std.specs.Prelude.{◌≡◌, map, nat_le, string_bytes};
 

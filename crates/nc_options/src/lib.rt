@@ -2,6 +2,7 @@
 //! that there is. `clap` splits the words; they are tested before it, and their values are read behind it.
 #![tactic(auto)]
 
+ghost use Rattle.nc_options.specs.CommandLine.{OrderIsFree, UsesAreSpelled};
 ghost use Rattle.nc_options.specs.Laws.{OptionsAreInRange, OptionsInAnyOrder};
 
 mod error;
@@ -14,6 +15,16 @@ mod values;
 pub use error::OptionsError;
 pub use options::{BasisOptions, Cofactors, DemoOptions, Form, MemberOptions, Options};
 pub use read::read_options;
+
+/// The words behind a command word are uses exactly where the uses are written in them, one behind another.
+pub fn uses_are_spelled()
+    ensures { UsesAreSpelled }
+{}
+
+/// The order of the uses is free.
+pub fn order_is_free()
+    ensures { OrderIsFree }
+{}
 
 /// The order of the options is free, and so is the place of the number among them.
 pub fn options_in_any_order()

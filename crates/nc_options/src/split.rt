@@ -1,9 +1,9 @@
 //! The words behind the command word, split by `clap`.
 
 ghost use Rattle.clap.specs.Words.{app_of, rule_of};
-ghost use Rattle.nc_command.specs.Commands.{command_for, number_arg, option_arg};
-ghost use Rattle.nc_command.specs.Pieces.{is_among};
-ghost use Rattle.nc_command.specs.Uses.{number_id, uses_of};
+ghost use Rattle.nc_options.specs.Commands.{command_for, number_arg, option_arg};
+ghost use Rattle.nc_options.specs.Pieces.{is_among};
+ghost use Rattle.nc_options.specs.Uses.{number_id, uses_of};
 ghost use Rattle.nc_options.specs.Answers.{AnswersUses, IsCause};
 ghost use Rattle.std.specs.Prelude.{◌<◌, ◌≡◌, [], IfOk, drop, false, length, map, string_bytes};
 

@@ -3,7 +3,7 @@ use Rattle.std.proofs.lemmas.List.Folds.{list_all-map}
 use Rattle.std.proofs.lemmas.Iterator.{YieldsList-from_slice}
 use Rattle.std.proofs.lemmas.Iterator.Search.{all_from_yields_List}
 use borrow.Author.Tests.{tests}
-use Rattle.nc_command.specs.Fit.{is_fit}
+use Rattle.nc_options.specs.Fit.{is_fit}
 use Rattle.nc_options.proofs.fit.are_fit.Goals as goal
 
 pub returns : goal.returns

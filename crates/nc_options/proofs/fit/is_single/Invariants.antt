@@ -1,6 +1,6 @@
 use Rattle.std.proofs.Common.{◌≡◌, ◌≤◌, take, string_bytes}
 use Rattle.std.specs.List.{count_by}
-use Rattle.nc_command.specs.Fit.{names_option}
+use Rattle.nc_options.specs.Fit.{names_option}
 use Rattle.nc_options.proofs.fit.is_single.Given as goal
 
 abbrev pub invariant-loop-word : goal.invariant-loop-word

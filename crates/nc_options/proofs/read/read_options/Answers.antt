@@ -1,6 +1,6 @@
 use Rattle.std.proofs.Common.{◌≡◌, ◌∙◌, ap, map, sym, List, [], ◌∷◌, Some, None, codes}
 use Rattle.std.specs.Prelude.{slice_get}
-use Rattle.nc_command.specs.Pieces.{Text}
+use Rattle.nc_options.specs.Pieces.{Text}
 use Rattle.nc_options.specs.Options.{options_of}
 use Rattle.nc_options.proofs.Commands.{no_command}
 use Rattle.nc_options.proofs.read.read_options.Goals as goal

@@ -1,7 +1,7 @@
 use Rattle.std.proofs.Common.{◌≡◌, ◌∙◌, ap, ap₂, sym, false, [], map, take, List, ℕ, Bor, arith}
 use Rattle.std.proofs.lemmas.List.{map_more, take_all}
-use Rattle.nc_command.specs.Commands.{command_for}
-use Rattle.nc_command.proofs.Commands.{option_added, number_added}
+use Rattle.nc_options.specs.Commands.{command_for}
+use Rattle.nc_options.proofs.Growing.{option_added, number_added}
 use Rattle.clap.specs.Words.{app_of, with_rule}
 use Rattle.nc_options.proofs.split.command.Goals as goal
 use Rattle.nc_options.proofs.split.command.Goals.{then-takes_number+in_ok-command-2, else-takes_number}

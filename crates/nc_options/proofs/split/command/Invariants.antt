@@ -1,5 +1,5 @@
 use Rattle.std.proofs.Common.{◌≡◌, false, map, take}
-use Rattle.nc_command.specs.Commands.{command_for}
+use Rattle.nc_options.specs.Commands.{command_for}
 use Rattle.clap.specs.Words.{app_of}
 use Rattle.nc_options.proofs.split.command.Given as goal
 

@@ -1,12 +1,12 @@
 use Rattle.std.proofs.Common.{rules, ◌≡◌, ◌∙◌, ap, subst, sym, true, [], map, drop, List, ℕ, Bor, Option, None, Err, string_bytes, inl, inr, arith}
 use Rattle.std.specs.List.{list_all}
 use Rattle.std.proofs.lemmas.List.{length-map}
-use Rattle.nc_command.specs.Uses.{Use}
-use Rattle.nc_command.specs.Fit.{is_fit, are_fit_and_single}
-use Rattle.nc_command.specs.Commands.{command_for}
+use Rattle.nc_options.specs.Uses.{Use}
+use Rattle.nc_options.specs.Fit.{is_fit, are_fit_and_single}
+use Rattle.nc_options.specs.Commands.{command_for}
 use Rattle.clap.specs.declared.error.ErrorKind.TheVariants.{OutOfMemory}
-use Rattle.nc_command.proofs.Fit.{not_plain, plain_fit}
-use Rattle.nc_command.proofs.Caller.{after_first_word, taken, refused}
+use Rattle.nc_options.proofs.Fit.{not_plain, plain_fit}
+use Rattle.nc_options.proofs.Caller.{after_first_word, taken, refused}
 use Rattle.clap.specs.Words.{app_of, found_of, kind_of, HasKind}
 use Rattle.clap.specs.Kinds.{Kinds, IsAmong}
 use Rattle.clap.specs.declared.Error.{Error}

@@ -8,8 +8,8 @@ use Rattle.clap.specs.Simple.{Shape, new_rule, new_shape}
 use Rattle.clap.specs.declared.builder.action.ArgAction.TheVariants.{Set}
 use Rattle.clap.specs.declared.builder.value_parser.ValueParser.TheVariants as vp
 use Rattle.std.proofs.lemmas.Bool.{or_parts}
-use Rattle.nc_command.specs.Pieces.{Text, is_among}
-use Rattle.nc_command.specs.Uses.{number_id}
+use Rattle.nc_options.specs.Pieces.{Text, is_among}
+use Rattle.nc_options.specs.Uses.{number_id}
 
 -- an argument that takes one value, as text
 abbrev pub usual_rule : Text → Option Text → Option ℕ → Rule

@@ -4,8 +4,8 @@
 -- `UsesAreSpelled` shows that they agree. A value that begins with a hyphen can only be written as
 -- `--name=value`.
 use Rattle.std.specs.Prelude.{◌≡◌, ◌++◌, ◌⊎◌, Bool, true, List, [], ◌∷◌, None, codes}
-use Rattle.nc_command.specs.Pieces.{Text, after_hyphen, is_among}
-use Rattle.nc_command.specs.Uses.{Use, number_id}
+use Rattle.nc_options.specs.Pieces.{Text, after_hyphen, is_among}
+use Rattle.nc_options.specs.Uses.{Use, number_id}
 
 -- the word does not begin with a hyphen
 abbrev pub IsPlain : Text → Type 0

@@ -8,9 +8,9 @@ use Rattle.std.specs.Str.{bytes_eq}
 use Rattle.std.proofs.lemmas.Bool.{not-true, and_parts}
 use Rattle.std.proofs.lemmas.List.Sorted.{IsPermutation-sym, list_any-IsPermutation, sum_by-IsPermutation}
 use Rattle.std.proofs.lemmas.Slice.Eq.{bytes_eq-Decides}
-use Rattle.nc_command.specs.Pieces.{Text}
-use Rattle.nc_command.specs.Uses.{Use, is_distinct, value_of}
-use Rattle.nc_command.proofs.Distinct.{at_most_one, distinct_by_counts, has_name, same_self, uses_named}
+use Rattle.nc_options.specs.Pieces.{Text}
+use Rattle.nc_options.specs.Uses.{Use, is_distinct, value_of}
+use Rattle.nc_options.proofs.Distinct.{at_most_one, distinct_by_counts, has_name, same_self, uses_named}
 
 -- the uses stay distinct
 pub distinct-permutation : (us vs : List Use) → IsPermutation us vs → is_distinct us ≡ true → is_distinct vs ≡ true

@@ -7,12 +7,12 @@ use Rattle.std.proofs.Common.{◌≡◌, ◌∙◌, ◌⊎◌, ℕ, Bool, true, 
 use Rattle.std.specs.Prelude.{find, fold, option_map, option_and_then, if◌then◌else◌}
 use Rattle.std.specs.List.{list_all, list_any}
 use Rattle.std.specs.Str.{bytes_eq}
-use Rattle.nc_command.specs.Pieces.{Text, joined, named, plain, is_among}
-use Rattle.nc_command.specs.Uses.{Use, with_use, is_distinct}
-use Rattle.nc_command.proofs.Tables.{usual_rule, option_rule, table, shape_for, long_found}
-use Rattle.nc_command.proofs.Rows.{rows_for, used_new, use_fault_new, use_fault_again}
-use Rattle.nc_command.proofs.Distinct.{has_name, distinct_push, not_distinct}
-use Rattle.nc_command.proofs.Pieces.{Reads, dashes}
+use Rattle.nc_options.specs.Pieces.{Text, joined, named, plain, is_among}
+use Rattle.nc_options.specs.Uses.{Use, with_use, is_distinct}
+use Rattle.nc_options.proofs.Tables.{usual_rule, option_rule, table, shape_for, long_found}
+use Rattle.nc_options.proofs.Rows.{rows_for, used_new, use_fault_new, use_fault_again}
+use Rattle.nc_options.proofs.Distinct.{has_name, distinct_push, not_distinct}
+use Rattle.nc_options.proofs.Pieces.{Reads, dashes}
 use Rattle.clap.specs.Lexer.{long_of}
 use Rattle.clap.specs.Walk.{Held, Row, Rule, Walk, Waiting, idle, option, Step, next, trailing, value, walked, word_met, long_or_other, short_or_plain, long_met, after_flag, option_met, plain_word, option_word, after_step, to_positional, used, used_by_id, settled, reacted, arg_by_id, arg_by_index, pushed, positional_held, is_pending, takes_several}
 use Rattle.clap.specs.Kinds.{Kinds, or_else}

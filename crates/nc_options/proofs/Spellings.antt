@@ -9,12 +9,12 @@ use Rattle.std.specs.Str.{bytes_eq}
 use Rattle.std.proofs.lemmas.Bool.{and_parts, eqb-true, not-true, or_parts, or_right}
 use Rattle.std.proofs.lemmas.List.Sums.{take_while-cons}
 use Rattle.std.proofs.lemmas.Slice.Eq.{bytes_eq-Decides}
-use Rattle.nc_command.specs.Laws.{OrderIsFree, UsesAreSpelled, are_names}
-use Rattle.nc_command.specs.Pieces.{Piece, Text, has_equals, hyphen_piece, is_among, joined, long_piece, name_in, named, piece_of, plain, stray, value_in}
-use Rattle.nc_command.specs.Spellings.{AreSpelled, IsPlain, IsSpelled, joined_word, option_word}
-use Rattle.nc_command.specs.Uses.{Use, if_distinct, is_distinct, number_id, split, split_piece, uses_of, with_use}
-use Rattle.nc_command.proofs.Orders.{distinct-permutation, value_of-permutation}
-use Rattle.nc_command.proofs.Turns.{none_of_some}
+use Rattle.nc_options.specs.CommandLine.{OrderIsFree, UsesAreSpelled, are_names}
+use Rattle.nc_options.specs.Pieces.{Piece, Text, has_equals, hyphen_piece, is_among, joined, long_piece, name_in, named, piece_of, plain, stray, value_in}
+use Rattle.nc_options.specs.Spellings.{AreSpelled, IsPlain, IsSpelled, joined_word, option_word}
+use Rattle.nc_options.specs.Uses.{Use, if_distinct, is_distinct, number_id, split, split_piece, uses_of, with_use}
+use Rattle.nc_options.proofs.Orders.{distinct-permutation, value_of-permutation}
+use Rattle.nc_options.proofs.Turns.{none_of_some}
 
 -- ---- texts with an `=`
 

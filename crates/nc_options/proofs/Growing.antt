@@ -2,8 +2,8 @@
 -- `option_added` and `number_added`: for any list of names, adding an argument gives the command of
 -- the longer list.
 use Rattle.std.proofs.Common.{◌≡◌, true, false, refl, ap, List, [], ◌∷◌, ◌++◌}
-use Rattle.nc_command.specs.Pieces.{Text}
-use Rattle.nc_command.specs.Commands.{args_for, command_for, option_arg, number_arg}
+use Rattle.nc_options.specs.Pieces.{Text}
+use Rattle.nc_options.specs.Commands.{args_for, command_for, option_arg, number_arg}
 use Rattle.clap.specs.Simple.{with_rule, new_shape}
 
 option_joins : (ns : List Text) (n : Text) → args_for ns false ++ option_arg n ∷ [] ≡ args_for (ns ++ n ∷ []) false

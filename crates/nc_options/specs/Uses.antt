@@ -10,7 +10,7 @@
 use Rattle.std.specs.Prelude.{◌&&◌, Bool, true, not, List, [], ◌∷◌, Option, Some, None, codes, if◌then◌else◌, find, option_map, option_and_then}
 use Rattle.std.specs.List.{list_any}
 use Rattle.std.specs.Str.{bytes_eq}
-use Rattle.nc_command.specs.Pieces.{Text, Piece, joined, named, plain, piece_of}
+use Rattle.nc_options.specs.Pieces.{Text, Piece, joined, named, plain, piece_of}
 
 -- a name and its value
 abbrev pub Use : Type 0

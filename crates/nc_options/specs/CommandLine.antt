@@ -5,9 +5,9 @@
 -- function with an empty body.
 use Rattle.std.specs.Prelude.{◌≡◌, ◌↔◌, Bool, true, not, List, Some, IsPermutation}
 use Rattle.std.specs.List.{list_all}
-use Rattle.nc_command.specs.Pieces.{Text, has_equals}
-use Rattle.nc_command.specs.Uses.{Use, is_distinct, uses_of, value_of}
-use Rattle.nc_command.specs.Spellings.{AreSpelled}
+use Rattle.nc_options.specs.Pieces.{Text, has_equals}
+use Rattle.nc_options.specs.Uses.{Use, is_distinct, uses_of, value_of}
+use Rattle.nc_options.specs.Spellings.{AreSpelled}
 
 -- the names have no `=`
 abbrev pub are_names : List Text → Bool

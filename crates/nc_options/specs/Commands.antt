@@ -3,8 +3,8 @@
 -- Each option takes a value, and so does the number. The flag `--help`, which `clap` adds to
 -- commands, is switched off.
 use Rattle.std.specs.Prelude.{Bool, true, false, List, [], ◌∷◌, Some}
-use Rattle.nc_command.specs.Pieces.{Text}
-use Rattle.nc_command.specs.Uses.{number_id}
+use Rattle.nc_options.specs.Pieces.{Text}
+use Rattle.nc_options.specs.Uses.{number_id}
 use Rattle.clap.specs.Walk.{Rule}
 use Rattle.clap.specs.Simple.{App, new_rule, new_shape}
 use Rattle.clap.specs.declared.builder.action.ArgAction.TheVariants.{Set}

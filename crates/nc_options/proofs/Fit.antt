@@ -8,11 +8,11 @@ use Rattle.std.specs.Prelude.{if◌then◌else◌, option_and_then, nat_le}
 use Rattle.std.specs.List.{count_by, list_all}
 use Rattle.std.specs.Option.{option_map_or}
 use Rattle.std.specs.Str.{bytes_eq}
-use Rattle.nc_command.specs.Pieces.{Text, Piece, joined, named, plain, stray, piece_of, hyphen_piece, long_piece, after_hyphen, name_in, value_in, has_equals, is_among}
-use Rattle.nc_command.specs.Uses.{Use, number_id, with_use, split, split_piece, is_distinct, if_distinct, uses_of}
-use Rattle.nc_command.specs.Fit.{is_stray, names_option, is_fit, are_single, are_fit_and_single}
-use Rattle.nc_command.proofs.Distinct.{one_if, uses_named, one_more, at_most_one}
-use Rattle.nc_command.proofs.Turns.{none_of_some}
+use Rattle.nc_options.specs.Pieces.{Text, Piece, joined, named, plain, stray, piece_of, hyphen_piece, long_piece, after_hyphen, name_in, value_in, has_equals, is_among}
+use Rattle.nc_options.specs.Uses.{Use, number_id, with_use, split, split_piece, is_distinct, if_distinct, uses_of}
+use Rattle.nc_options.specs.Fit.{is_stray, names_option, is_fit, are_single, are_fit_and_single}
+use Rattle.nc_options.proofs.Distinct.{one_if, uses_named, one_more, at_most_one}
+use Rattle.nc_options.proofs.Turns.{none_of_some}
 
 -- ---- words that are not fit
 

@@ -8,7 +8,7 @@ use Rattle.std.specs.Prelude.{◌&&◌, Bool, true, false, not, List, nat_le, op
 use Rattle.std.specs.List.{count_by, list_all}
 use Rattle.std.specs.Option.{option_map_or}
 use Rattle.std.specs.Str.{bytes_eq}
-use Rattle.nc_command.specs.Pieces.{Text, Piece, stray, after_hyphen, name_in, piece_of}
+use Rattle.nc_options.specs.Pieces.{Text, Piece, stray, after_hyphen, name_in, piece_of}
 
 -- a piece is a stray word
 abbrev pub is_stray : Piece → Bool

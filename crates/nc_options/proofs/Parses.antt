@@ -5,14 +5,14 @@ use Rattle.std.proofs.lemmas.Bool.{or_right}
 use Rattle.std.proofs.Common.{◌≡◌, ◌∙◌, ◌⊎◌, ◌&&◌, ℕ, Bool, true, false, not, refl, sym, ap, ap₂, List, [], ◌∷◌, Option, Some, None, inl, inr, is_some}
 use Rattle.std.specs.Prelude.{fold, option_and_then, if◌then◌else◌}
 use Rattle.std.specs.List.{list_all, list_any}
-use Rattle.nc_command.specs.Pieces.{Text, is_among}
-use Rattle.nc_command.specs.Fit.{is_fit}
-use Rattle.nc_command.specs.Uses.{Use, number_id, split, is_distinct, if_distinct, uses_of}
-use Rattle.nc_command.specs.Commands.{args_for, command_for}
-use Rattle.nc_command.proofs.Tables.{option_rule, number_rule, table, shape_for}
-use Rattle.nc_command.proofs.Rows.{rows_for}
-use Rattle.nc_command.proofs.Turns.{nothing, walk_at, end_of, rest_fault, first_none, or_else_then, kind_not_none}
-use Rattle.nc_command.proofs.Walks.{follow}
+use Rattle.nc_options.specs.Pieces.{Text, is_among}
+use Rattle.nc_options.specs.Fit.{is_fit}
+use Rattle.nc_options.specs.Uses.{Use, number_id, split, is_distinct, if_distinct, uses_of}
+use Rattle.nc_options.specs.Commands.{args_for, command_for}
+use Rattle.nc_options.proofs.Tables.{option_rule, number_rule, table, shape_for}
+use Rattle.nc_options.proofs.Rows.{rows_for}
+use Rattle.nc_options.proofs.Turns.{nothing, walk_at, end_of, rest_fault, first_none, or_else_then, kind_not_none}
+use Rattle.nc_options.proofs.Walks.{follow}
 use Rattle.clap.specs.Walk.{Row, Rule, Walk, Held, with_default, finished, settled, has_row, nothing_held, walk, walk_from, is_empty, is_early_multiple}
 use Rattle.clap.specs.Simple.{App, Shape, built, filled_from, matches_of, is_simple, entered, names_of, argument_words, has_simple_rules, is_in_order}
 use Rattle.clap.specs.Kinds.{Kinds, or_else, check_kinds}

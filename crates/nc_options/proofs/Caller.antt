@@ -2,12 +2,12 @@
 use Rattle.std.proofs.Common.{◌≡◌, ◌∙◌, ◌<◌, Bool, true, false, refl, sym, ap, arith, List, [], ◌∷◌, Some, None, map, take, drop, length, ◌-◌, inl, inr}
 use Rattle.std.specs.List.{list_all}
 use Rattle.std.proofs.lemmas.List.{take_all}
-use Rattle.nc_command.specs.Pieces.{Text, is_among}
-use Rattle.nc_command.specs.Fit.{is_fit}
-use Rattle.nc_command.specs.Uses.{Use, number_id, uses_of, value_of}
-use Rattle.nc_command.specs.Commands.{command_for}
-use Rattle.nc_command.proofs.Rows.{first_of_for}
-use Rattle.nc_command.proofs.Parses.{decided, simple, simple_and_free}
+use Rattle.nc_options.specs.Pieces.{Text, is_among}
+use Rattle.nc_options.specs.Fit.{is_fit}
+use Rattle.nc_options.specs.Uses.{Use, number_id, uses_of, value_of}
+use Rattle.nc_options.specs.Commands.{command_for}
+use Rattle.nc_options.proofs.Rows.{first_of_for}
+use Rattle.nc_options.proofs.Parses.{decided, simple, simple_and_free}
 use Rattle.clap.specs.Walk.{Row, rows_of}
 use Rattle.clap.specs.Simple.{App, is_simple, matches_of}
 use Rattle.clap.specs.Matches.{first_value}

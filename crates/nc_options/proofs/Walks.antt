@@ -9,14 +9,14 @@ use Rattle.std.specs.List.{list_all}
 use Rattle.std.specs.Str.{bytes_eq}
 use Rattle.std.specs.Option.{option_map_or}
 use Rattle.std.proofs.lemmas.Slice.Eq.{bytes_eq-Decides}
-use Rattle.nc_command.specs.Pieces.{Text, Piece, joined, named, plain, stray, piece_of, is_among}
-use Rattle.nc_command.specs.Fit.{is_stray, is_fit}
-use Rattle.nc_command.specs.Uses.{Use, number_id, with_use, split, split_piece, split_end, is_distinct}
-use Rattle.nc_command.proofs.Tables.{option_rule, number_rule, table, shape_for, id_found, number_found, place_one, place_two}
-use Rattle.nc_command.proofs.Rows.{rows_for, used_new, use_fault_new, use_fault_again}
-use Rattle.nc_command.proofs.Distinct.{distinct_push, has_name, same_self, not_distinct, has_append}
-use Rattle.nc_command.proofs.Pieces.{Reads, reads}
-use Rattle.nc_command.proofs.Turns.{Hold, nothing, kept, wants, all_of, waiting_by, held_for, walk_at, Verdict, Settles, Clashes, IsKnown, settles, rest_fault, carry, pass_on, halt, none_of_some, kind_not_none, first_none, or_else_then, turn_of, walked_to, joined_met, named_met, plain_met, plain_refused, long_refused}
+use Rattle.nc_options.specs.Pieces.{Text, Piece, joined, named, plain, stray, piece_of, is_among}
+use Rattle.nc_options.specs.Fit.{is_stray, is_fit}
+use Rattle.nc_options.specs.Uses.{Use, number_id, with_use, split, split_piece, split_end, is_distinct}
+use Rattle.nc_options.proofs.Tables.{option_rule, number_rule, table, shape_for, id_found, number_found, place_one, place_two}
+use Rattle.nc_options.proofs.Rows.{rows_for, used_new, use_fault_new, use_fault_again}
+use Rattle.nc_options.proofs.Distinct.{distinct_push, has_name, same_self, not_distinct, has_append}
+use Rattle.nc_options.proofs.Pieces.{Reads, reads}
+use Rattle.nc_options.proofs.Turns.{Hold, nothing, kept, wants, all_of, waiting_by, held_for, walk_at, Verdict, Settles, Clashes, IsKnown, settles, rest_fault, carry, pass_on, halt, none_of_some, kind_not_none, first_none, or_else_then, turn_of, walked_to, joined_met, named_met, plain_met, plain_refused, long_refused}
 use Rattle.clap.specs.Walk.{Held, idle, option, next, value, walked, word_met, option_word, after_step, to_positional, used, settled, reacted, arg_by_index, pushed, is_pending, next_position}
 use Rattle.clap.specs.Kinds.{or_else}
 use Rattle.clap.specs.Faults.{use_fault, settle_fault, walk_fault, turn_fault, word_fault, long_fault, step_fault, positional_fault, stray_fault}

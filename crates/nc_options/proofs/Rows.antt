@@ -9,10 +9,10 @@ use Rattle.clap.specs.declared.builder.value_parser.Reading.TheVariants.{AsWritt
 use Rattle.clap.specs.declared.parser.matches.ValueSource.TheVariants.{CommandLine}
 use Rattle.clap.specs.declared.error.kind.ErrorKind.TheVariants as kind
 use Rattle.std.proofs.lemmas.Bool.{or_parts}
-use Rattle.nc_command.specs.Pieces.{Text}
-use Rattle.nc_command.specs.Uses.{Use, value_of}
-use Rattle.nc_command.proofs.Tables.{usual_rule}
-use Rattle.nc_command.proofs.Distinct.{has_name}
+use Rattle.nc_options.specs.Pieces.{Text}
+use Rattle.nc_options.specs.Uses.{Use, value_of}
+use Rattle.nc_options.proofs.Tables.{usual_rule}
+use Rattle.nc_options.proofs.Distinct.{has_name}
 
 abbrev pub row_for : Use → Row
 row_for u = record { id = u.0; values = u.1 ∷ []; count = None; source = Some CommandLine; reading = AsWritten }

@@ -4,7 +4,7 @@ use Rattle.std.proofs.lemmas.Bool.{and_right}
 use Rattle.std.proofs.Common.{◌≡◌, ◌∙◌, ◌&&◌, ◌==◌, ℕ, Bool, true, false, refl, sym, ap, subst, List, [], ◌∷◌, Some, None}
 use Rattle.std.specs.Prelude.{option_and_then, if◌then◌else◌}
 use Rattle.std.specs.Str.{bytes_eq}
-use Rattle.nc_command.specs.Pieces.{Text, Piece, joined, named, plain, stray, piece_of, hyphen_piece, long_piece, name_in, value_in, has_equals, is_among}
+use Rattle.nc_options.specs.Pieces.{Text, Piece, joined, named, plain, stray, piece_of, hyphen_piece, long_piece, name_in, value_in, has_equals, is_among}
 use Rattle.clap.specs.Lexer.{long_of, long_of_rest, short_of, short_of_rest, strip_byte}
 
 abbrev pub dashes : Text

@@ -1,5 +1,0 @@
-use Rattle.nc_command.proofs.Spellings.{uses_are_spelled}
-use Rattle.nc_command.proofs.uses_are_spelled.Goals as goal
-
-pub returns : goal.returns
-returns c = uses_are_spelled
