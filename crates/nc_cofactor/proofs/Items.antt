@@ -16,13 +16,13 @@ use Rattle.nc_cofactor.specs.Claims.{AreSubtracted}
 use Rattle.nc_cofactor.specs.Rebuilding.{AreLesser, HasStart}
 use Rattle.nc_cofactor.specs.Traces.{HasTrace, IsListedSignature}
 use Rattle.nc_field.proofs.Primes.{listed_is_prime}
-use Rattle.nc_search.proofs.Snapshots.{facts as facts_of}
-use Rattle.nc_search.proofs.Untraced.{in_place, in_place_alike, in_place_listed, moved_reduction, moved_start}
-use Rattle.nc_search.proofs.UntracedRuns.{same_run}
-use Rattle.nc_search.proofs.UntracedStates.{same_entries, same_syzygies}
-use Rattle.nc_search.specs.Laws.{SnapshotFacts}
-use Rattle.nc_search.specs.Untraced.{SameEntries, SameSyzygies, untraced_entry, untraced_syzygy}
-use Rattle.nc_search.specs.Usable.{IsUsableSignature}
+use Rattle.nc_theory.proofs.Snapshots.{facts as facts_of}
+use Rattle.nc_theory.proofs.Untraced.{in_place, in_place_alike, in_place_listed, moved_reduction, moved_start}
+use Rattle.nc_theory.proofs.UntracedRuns.{same_run}
+use Rattle.nc_theory.proofs.UntracedStates.{same_entries, same_syzygies}
+use Rattle.nc_theory.specs.UntracedLaws.{SnapshotFacts}
+use Rattle.nc_theory.specs.Untraced.{SameEntries, SameSyzygies, untraced_entry, untraced_syzygy}
+use Rattle.nc_theory.specs.Usable.{IsUsableSignature}
 use Rattle.nc_snapshot.specs.Snapshots.{IsSnapshot, Snapshot}
 use Rattle.nc_snapshot.specs.declared.outcome.Listed.TheVariants.{Entry as EntryOf, Syzygy as SyzygyOf}
 use Rattle.nc_theory.proofs.Completeness.{invariant}

@@ -16,8 +16,8 @@ use Rattle.nc_cofactor.specs.Labels.{IsLabelIn, IsLabelOf}
 use Rattle.nc_cofactor.specs.Letters.{CofactorsAreOver, IsStartIn, IsTraceOver}
 use Rattle.nc_cofactor.specs.Sums.{IsSum}
 use Rattle.nc_cofactor.specs.Traces.{IsTraceIn}
-use Rattle.nc_search.proofs.Letters.{generator_over, word_in}
-use Rattle.nc_search.specs.Named.{letters_of}
+use Rattle.nc_theory.proofs.OverAlphabet.{generator_over, word_in}
+use Rattle.nc_theory.specs.Named.{letters_of}
 use Rattle.nc_snapshot.specs.declared.outcome.Listed.{Listed}
 use Rattle.nc_snapshot.specs.declared.outcome.Listed.TheVariants.{Claim, Entry as EntryOf, Syzygy as SyzygyOf}
 use Rattle.nc_theory.proofs.Letters.{KeysOver, StartOver, StepOver, TraceOver, entry_over, keys_at, keys_found, keys_trace, labels_over, syzygy_over}

@@ -12,7 +12,7 @@ use Rattle.nc_cofactor.proofs.Runs.{entries_kept, one_run}
 use Rattle.nc_cofactor.specs.Needed.{AreFound, IsFound, IsMarked, IsReached, IsSlot}
 use Rattle.nc_cofactor.specs.Terms.{Names, Needs}
 use Rattle.nc_cofactor.specs.Traces.{HasTrace, IsTraceIn}
-use Rattle.nc_search.specs.Untraced.{IsRunOf}
+use Rattle.nc_theory.specs.Untraced.{IsRunOf}
 use Rattle.nc_snapshot.specs.declared.outcome.Listed.{Listed}
 use Rattle.nc_snapshot.specs.declared.outcome.Listed.TheVariants.{Entry as EntryOf}
 use Rattle.nc_theory.specs.Runs.{SequentialRun}

@@ -15,7 +15,7 @@ use Rattle.nc_cofactor.specs.Terms.{EntryTerms, HasTerms, Names}
 use Rattle.nc_cofactor.specs.Traces.{HasTrace, IsTraceIn}
 use Rattle.nc_cofactor.specs.declared.fault.CofactorFault.{CofactorFault}
 use Rattle.nc_cofactor.specs.declared.fault.CofactorFault.TheVariants.{OutOfMemory, TooMany}
-use Rattle.nc_search.specs.Untraced.{IsRunOf, untraced_entry}
+use Rattle.nc_theory.specs.Untraced.{IsRunOf, untraced_entry}
 use Rattle.nc_snapshot.specs.declared.outcome.Listed.{Listed}
 use Rattle.nc_snapshot.specs.declared.outcome.Listed.TheVariants.{Entry as EntryOf, Syzygy as SyzygyOf}
 use Rattle.nc_theory.proofs.Determinism.{run_unique}

@@ -8,9 +8,9 @@ use Rattle.nc_criteria.specs.Multiples.{BestMultipleLaw, IsBestWithin, IsMultipl
 use Rattle.nc_criteria.specs.Searches.{IsBestBetween}
 use Rattle.nc_criteria.specs.declared.lead.Lead.{Lead}
 use Rattle.nc_criteria.specs.declared.multiple.Multiple.{Multiple}
-use Rattle.nc_search.proofs.Quotients.{IsWithNext, at_found, better_step}
-use Rattle.nc_search.specs.Best.{IsAt, best_of}
-use Rattle.nc_search.specs.Found.{Best}
+use Rattle.nc_theory.proofs.Quotients.{IsWithNext, at_found, better_step}
+use Rattle.nc_theory.specs.Best.{IsAt, best_of}
+use Rattle.nc_theory.specs.Found.{Best}
 use Rattle.nc_theory.specs.Divisors.{Divisor, signature_at}
 use Rattle.nc_theory.specs.States.{Entry}
 use Rattle.std.proofs.Common.{List, None, Option, Some, ap, arith, drop, inl, inr, length, length-append, min, sym, take, ℕ, ◌+◌, ◌++◌, ◌-◌, ◌<◌, ◌∙◌, ◌≡◌, ◌≤◌, ◌⊎◌}

@@ -1,8 +1,8 @@
 -- What a division of signatures tells, at an index that is read by its number.
 use Rattle.nc_algebra.specs.Monomials.{Divides, Monomial, Sig, monomial_of}
 use Rattle.nc_algebra.specs.Words.{Letter}
-use Rattle.nc_search.proofs.Covers.{NoneListed, none_listed_further}
-use Rattle.nc_search.specs.Covers.{IsListedBelow}
+use Rattle.nc_theory.proofs.Covers.{NoneListed, none_listed_further}
+use Rattle.nc_theory.specs.Covers.{IsListedBelow}
 use Rattle.nc_criteria.specs.Pairs.{IsTrivialBelow}
 use Rattle.nc_algebra.specs.Elements.{Setting}
 use Rattle.nc_sig.specs.Sigs.{IsQuotient}

@@ -6,8 +6,8 @@ use Rattle.nc_algebra.specs.Elements.{Setting}
 use Rattle.nc_algebra.specs.Monomials.{Monomial}
 use Rattle.nc_criteria.specs.Multiples.{IsMultipleWithin}
 use Rattle.nc_criteria.specs.declared.multiple.Found.{Found}
-use Rattle.nc_search.specs.Best.{IsBestIn}
-use Rattle.nc_search.specs.Found.{Best}
+use Rattle.nc_theory.specs.Best.{IsBestIn}
+use Rattle.nc_theory.specs.Found.{Best}
 use Rattle.nc_theory.specs.States.{Entry}
 use Rattle.nc_words.specs.Products.{joined_word}
 use Rattle.std.specs.Prelude.{List, Option, ℕ}

@@ -3,7 +3,7 @@
 ghost use Rattle.nc_algebra.specs.Monomials.{monomial_of};
 ghost use Rattle.nc_criteria.specs.Multiples.{BestMultipleLaw, IsBestWithin};
 ghost use Rattle.nc_criteria.specs.Searches.{IsBestBetween, found_of};
-ghost use Rattle.nc_search.specs.Best.{IsAt, best_of};
+ghost use Rattle.nc_theory.specs.Best.{IsAt, best_of};
 ghost use Rattle.std.specs.Prelude.{length, option_map, ◌-◌, ◌<◌, ◌≡◌, ◌≤◌};
 
 use crate::lead::Lead;

@@ -2,7 +2,7 @@
 
 ghost use Rattle.nc_algebra.specs.Monomials.{monomial_of};
 ghost use Rattle.nc_criteria.specs.Pairs.{IsTrivialAt, IsTrivialBelow};
-ghost use Rattle.nc_search.specs.Covers.{IsListedBelow};
+ghost use Rattle.nc_theory.specs.Covers.{IsListedBelow};
 ghost use Rattle.nc_theory.specs.Syzygies.{Covered};
 ghost use Rattle.std.specs.Prelude.{IsTrue, length, ◌-◌, ◌↔◌, ◌≤◌};
 

@@ -1,8 +1,8 @@
 -- What holds of a candidate of a snapshot.
 use Rattle.nc_algebra.specs.Monomials.{Monomial, unit_monomial}
 use Rattle.nc_algebra.specs.Words.{Word}
-use Rattle.nc_search.proofs.Candidates.{candidate_facts}
-use Rattle.nc_search.specs.Laws.{CandidateFacts}
+use Rattle.nc_theory.proofs.Candidates.{candidate_facts}
+use Rattle.nc_theory.specs.UntracedLaws.{CandidateFacts}
 use Rattle.nc_snapshot.proofs.Snapshots.{snapshot_prime}
 use Rattle.nc_snapshot.specs.Snapshots.{IsSnapshot, Snapshot}
 use Rattle.nc_theory.specs.Divisors.{Multiple}

@@ -7,10 +7,10 @@ use Rattle.nc_desk.proofs.Steps.{least_next, next_of_run}
 use Rattle.nc_desk.specs.Desks.{AreLeft, Waits}
 use Rattle.nc_desk.specs.Ends.{IsEndAt}
 use Rattle.nc_queue.specs.Queues.{IsAscending}
-use Rattle.nc_search.proofs.UntracedEnds.{end_facts}
-use Rattle.nc_search.proofs.UntracedRuns.{same_run}
-use Rattle.nc_search.proofs.UntracedStates.{moved_next, moved_none}
-use Rattle.nc_search.specs.Bases.{HasBasesAt}
+use Rattle.nc_theory.proofs.UntracedEnds.{end_facts}
+use Rattle.nc_theory.proofs.UntracedRuns.{same_run}
+use Rattle.nc_theory.proofs.UntracedStates.{moved_next, moved_none}
+use Rattle.nc_theory.specs.EndBases.{HasBasesAt}
 use Rattle.nc_snapshot.proofs.Snapshots.{snapshot_prime}
 use Rattle.nc_snapshot.specs.Snapshots.{IsSnapshot, Snapshot}
 use Rattle.nc_theory.specs.Runs.{End as Ending, IsEnd}

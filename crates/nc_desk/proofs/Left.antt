@@ -10,11 +10,11 @@ use Rattle.nc_desk.proofs.Lists.{first_less, not_both, other_others, others_othe
 use Rattle.nc_desk.specs.Steps.{IsBrought}
 use Rattle.nc_module.proofs.Bounds.{less_from_sigs, sigs_from_less}
 use Rattle.nc_queue.specs.Queues.{IsAscending, IsUnitWithin}
-use Rattle.nc_search.proofs.UntracedRuns.{same_run}
-use Rattle.nc_search.proofs.UntracedStates.{moved_candidate}
-use Rattle.nc_search.proofs.UntracedSteps.{goes_on}
-use Rattle.nc_search.specs.Laws.{GoesOn}
-use Rattle.nc_search.specs.Untraced.{IsNextOfRun, IsRunTo, untraced}
+use Rattle.nc_theory.proofs.UntracedRuns.{same_run}
+use Rattle.nc_theory.proofs.UntracedStates.{moved_candidate}
+use Rattle.nc_theory.proofs.UntracedSteps.{goes_on}
+use Rattle.nc_theory.specs.UntracedLaws.{GoesOn}
+use Rattle.nc_theory.specs.Untraced.{IsNextOfRun, IsRunTo, untraced}
 use Rattle.nc_theory.proofs.Determinism.{run_unique}
 use Rattle.nc_theory.specs.Ambiguities.{Ambiguity}
 use Rattle.nc_theory.specs.Runs.{BringsAmbiguity, Handles, IsAfter, IsCandidate, IsNext, IsWaiting, NoneWaits, Outcome, opening, state_after}

@@ -8,11 +8,11 @@ use Rattle.nc_algebra.specs.Words.{Word}
 use Rattle.nc_criteria.specs.Multiples.{BestMultipleLaw, IsBestWithin}
 use Rattle.nc_criteria.specs.declared.multiple.Multiple.{Multiple}
 use Rattle.nc_reduce.proofs.Starts.{polynomial_at}
-use Rattle.nc_search.proofs.Small.{usable_at}
+use Rattle.nc_theory.proofs.Small.{usable_at}
 use Rattle.nc_reduce.specs.Starts.{IsReadable, IsStartAt, polynomial_of, start_polynomial}
-use Rattle.nc_search.proofs.Handling.{handled}
-use Rattle.nc_search.specs.Outcomes.{outcome_after}
-use Rattle.nc_search.specs.Usable.{IsUsable}
+use Rattle.nc_theory.proofs.Handling.{handled}
+use Rattle.nc_theory.specs.Outcomes.{outcome_after}
+use Rattle.nc_theory.specs.Usable.{IsUsable}
 use Rattle.nc_theory.specs.Divisors.{IsBestMultiple, RegularDivisor, multiple_at, number_of}
 use Rattle.nc_theory.specs.Reductions.{ReductionAt}
 use Rattle.nc_theory.specs.Runs.{Handles, Outcome, Starts}

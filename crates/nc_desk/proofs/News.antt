@@ -12,11 +12,11 @@ use Rattle.nc_index.specs.Pairs.{Lead}
 use Rattle.nc_overlap.proofs.Lists.{image, preimage}
 use Rattle.nc_overlap.specs.Overlaps.{AreNewSignatures}
 use Rattle.nc_reduce.specs.Leads.{LeadsOf}
-use Rattle.nc_search.proofs.Snapshots.{facts}
-use Rattle.nc_search.proofs.UntracedSteps.{goes_on}
-use Rattle.nc_search.specs.Laws.{GoesOn}
-use Rattle.nc_search.specs.Untraced.{IsRunOf, IsRunTo, untraced, untraced_entry}
-use Rattle.nc_search.specs.Usable.{IsUsable}
+use Rattle.nc_theory.proofs.Snapshots.{facts}
+use Rattle.nc_theory.proofs.UntracedSteps.{goes_on}
+use Rattle.nc_theory.specs.UntracedLaws.{GoesOn}
+use Rattle.nc_theory.specs.Untraced.{IsRunOf, IsRunTo, untraced, untraced_entry}
+use Rattle.nc_theory.specs.Usable.{IsUsable}
 use Rattle.nc_snapshot.proofs.Snapshots.{snapshot_prime}
 use Rattle.nc_snapshot.specs.Snapshots.{IsSnapshot, Snapshot}
 use Rattle.nc_theory.specs.Runs.{Handles, Outcome, state_after}

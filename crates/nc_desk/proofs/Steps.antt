@@ -10,8 +10,8 @@ use Rattle.nc_index.specs.Chosen.{lead_of, leads_of}
 use Rattle.nc_index.specs.Pairs.{Lead}
 use Rattle.nc_queue.specs.Queues.{IsAscending, IsUnion}
 use Rattle.nc_reduce.specs.Leads.{LeadsOf}
-use Rattle.nc_search.proofs.UntracedSteps.{goes_on}
-use Rattle.nc_search.specs.Untraced.{IsNextOfRun, untraced, untraced_entry}
+use Rattle.nc_theory.proofs.UntracedSteps.{goes_on}
+use Rattle.nc_theory.specs.Untraced.{IsNextOfRun, untraced, untraced_entry}
 use Rattle.nc_snapshot.proofs.Snapshots.{snapshot_prime}
 use Rattle.nc_snapshot.specs.Snapshots.{IsSnapshot, Snapshot}
 use Rattle.nc_theory.specs.Runs.{Handles, Outcome, state_after}

@@ -10,7 +10,7 @@ use Rattle.nc_algebra.specs.Elements.{HasDegree}
 use Rattle.nc_algebra.specs.Monomials.{Monomial, Sig, monomial_of}
 use Rattle.nc_index.specs.Pairs.{Lead}
 use Rattle.nc_reduce.specs.Leads.{LeadsOf}
-use Rattle.nc_search.specs.Untraced.{IsNextOfRun, IsRunTo}
+use Rattle.nc_theory.specs.Untraced.{IsNextOfRun, IsRunTo}
 use Rattle.nc_snapshot.specs.Snapshots.{Snapshot}
 use Rattle.nc_theory.specs.Runs.{IsNext, IsWaiting}
 use Rattle.std.specs.Prelude.{Contains, List, Option, ℕ, ◌<◌, ◌↔◌, ◌≤◌}

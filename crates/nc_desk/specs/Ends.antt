@@ -8,7 +8,7 @@ use Rattle.nc_desk.specs.declared.finished.End.{End}
 use Rattle.nc_desk.specs.declared.finished.End.TheVariants.{Budget, Complete}
 use Rattle.nc_index.specs.Pairs.{Lead}
 use Rattle.nc_reduce.specs.Leads.{LeadsOf}
-use Rattle.nc_search.specs.Untraced.{IsEndOf}
+use Rattle.nc_theory.specs.Untraced.{IsEndOf}
 use Rattle.nc_snapshot.specs.Snapshots.{Snapshot}
 use Rattle.nc_theory.specs.Runs.{End as Ending}
 use Rattle.std.specs.Prelude.{List, None, Option, Some, ℕ}

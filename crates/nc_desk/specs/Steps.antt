@@ -10,7 +10,7 @@ use Rattle.nc_index.specs.Chosen.{leads_of}
 use Rattle.nc_index.specs.Pairs.{Lead}
 use Rattle.nc_queue.specs.Queues.{IsAscending}
 use Rattle.nc_reduce.specs.Leads.{LeadsOf}
-use Rattle.nc_search.specs.Untraced.{IsNextOfRun, untraced}
+use Rattle.nc_theory.specs.Untraced.{IsNextOfRun, untraced}
 use Rattle.nc_snapshot.specs.Snapshots.{Snapshot}
 use Rattle.nc_theory.specs.Runs.{BringsAmbiguity, Handles, Outcome, state_after}
 use Rattle.nc_theory.specs.States.{State}

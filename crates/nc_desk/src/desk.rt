@@ -4,7 +4,7 @@ ghost use Rattle.nc_desk.specs.Desks.{IsLater, MayStep, Waits};
 ghost use Rattle.nc_desk.specs.Ends.{IsEndAt, IsEndIfAny};
 ghost use Rattle.nc_desk.specs.Steps.{IsStep};
 ghost use Rattle.nc_reduce.specs.Leads.{LeadsOf};
-ghost use Rattle.nc_search.specs.Bases.{AreCanonical, HasBasesAt};
+ghost use Rattle.nc_theory.specs.EndBases.{AreCanonical, HasBasesAt};
 ghost use Rattle.nc_theory.specs.Runs.{opening};
 ghost use Rattle.std.specs.Prelude.{IfErr, IfOk, IsTrue, OnErr, OnOk, ◌+◌, ◌<◌, ◌↔◌, ◌≡◌, ◌≤◌};
 

@@ -13,10 +13,10 @@ use Rattle.nc_cofactor.proofs.Labelled.{problem_field}
 use Rattle.nc_cofactor.specs.Claims.{IsRepresentation}
 use Rattle.nc_member.specs.Members.{IsOpen, IsRepresented, IsRestOf, IsUnrepresented}
 use Rattle.nc_module.specs.Modules.{element_of}
-use Rattle.nc_search.proofs.Untraced.{moved_reduction}
-use Rattle.nc_search.proofs.UntracedRuns.{same_run}
-use Rattle.nc_search.proofs.UntracedStates.{same_entries}
-use Rattle.nc_search.specs.Untraced.{IsEndOf, IsRunOf}
+use Rattle.nc_theory.proofs.Untraced.{moved_reduction}
+use Rattle.nc_theory.proofs.UntracedRuns.{same_run}
+use Rattle.nc_theory.proofs.UntracedStates.{same_entries}
+use Rattle.nc_theory.specs.Untraced.{IsEndOf, IsRunOf}
 use Rattle.nc_theory.proofs.Completeness.{enough_at_end, invariant, within_down}
 use Rattle.nc_theory.proofs.Determinism.{run_unique}
 use Rattle.nc_theory.proofs.Membership.{none_kept, represents}

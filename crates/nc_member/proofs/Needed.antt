@@ -10,7 +10,7 @@ use Rattle.nc_cofactor.specs.Claims.{AreNeededTraces, AreSubtracted, IsNeededFor
 use Rattle.nc_cofactor.specs.Traces.{IsTraceIn}
 use Rattle.nc_member.proofs.Places.{Ascends, ascends}
 use Rattle.nc_member.specs.Found.{AreProofLines, AreUsable, HasResidues, entries_of}
-use Rattle.nc_search.specs.Untraced.{IsRunOf}
+use Rattle.nc_theory.specs.Untraced.{IsRunOf}
 use Rattle.nc_snapshot.specs.declared.outcome.Listed.TheVariants.{Entry as EntryOf}
 use Rattle.nc_theory.proofs.Counting.{counts}
 use Rattle.nc_theory.specs.Reductions.{Reduction}

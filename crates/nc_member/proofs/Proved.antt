@@ -24,8 +24,8 @@ use Rattle.nc_member.proofs.Places.{Ascends, ascends, item_before, item_last, li
 use Rattle.nc_member.proofs.Reaches.{IsLight, IsReached, IsShort, generator_part, line_part, line_short}
 use Rattle.nc_member.proofs.Values.{IsStartValued, IsValued, claim_value, trace_value}
 use Rattle.nc_member.specs.Lines.{claim_line, line_of, start_part, step_part, trace_line}
-use Rattle.nc_search.proofs.Letters.{generator_over, polynomial_over, word_in}
-use Rattle.nc_search.specs.Named.{letters_of}
+use Rattle.nc_theory.proofs.OverAlphabet.{generator_over, polynomial_over, word_in}
+use Rattle.nc_theory.specs.Named.{letters_of}
 use Rattle.nc_snapshot.specs.declared.outcome.Listed.TheVariants.{Entry as EntryOf}
 use Rattle.nc_theory.proofs.Completeness.{invariant}
 use Rattle.nc_theory.proofs.Letters.{StepOver, subtracted_over}

@@ -10,8 +10,8 @@ use Rattle.nc_algebra.specs.Monomials.{Monomial, Sig, monomial_of, times}
 use Rattle.nc_algebra.specs.Polynomials.{leading}
 use Rattle.nc_algebra.specs.Problems.{IsWithin, Problem, bound_degree}
 use Rattle.nc_overlap.specs.Overlaps.{Adds, IsEnough, MeetsEither}
-use Rattle.nc_search.proofs.Indexed.{Before, OfEntry}
-use Rattle.nc_search.specs.Meetings.{IsGreaterOf, IsOnly, MeetAt, MeetSomewhere}
+use Rattle.nc_theory.proofs.Indexed.{Before, OfEntry}
+use Rattle.nc_theory.specs.Meetings.{IsGreaterOf, IsOnly, MeetAt, MeetSomewhere}
 use Rattle.nc_theory.proofs.Determinism.{listed_same}
 use Rattle.nc_theory.specs.States.{Entry}
 use Rattle.std.proofs.Common.{Contains, List, Some, [], ap, arith, get_or, inl, inr, length, map, refl, subst, sym, ℕ, ◌+◌, ◌++◌, ◌<◌, ◌∷◌, ◌≡◌, ◌≤◌, ◌⊎◌}

@@ -2,9 +2,9 @@
 use Rattle.nc_algebra.specs.Elements.{Setting}
 use Rattle.nc_algebra.specs.Monomials.{Monomial}
 use Rattle.nc_overlap.specs.Overlaps.{MeetsEither}
-use Rattle.nc_search.proofs.Ambiguities.{from_meeting, to_meeting}
-use Rattle.nc_search.proofs.Meetings.{swap}
-use Rattle.nc_search.specs.Meetings.{MeetSomewhere}
+use Rattle.nc_theory.proofs.Ambiguities.{from_meeting, to_meeting}
+use Rattle.nc_theory.proofs.Meetings.{swap}
+use Rattle.nc_theory.specs.Meetings.{MeetSomewhere}
 use Rattle.nc_algebra.specs.Words.{Word}
 use Rattle.nc_theory.specs.Ambiguities.{Ambiguity, NewAmbiguity}
 use Rattle.nc_theory.specs.States.{Entry}

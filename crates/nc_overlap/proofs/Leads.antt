@@ -5,8 +5,8 @@ use Rattle.nc_algebra.specs.Monomials.{Monomial}
 use Rattle.nc_algebra.specs.Polynomials.{IsNormal, Polynomial, leading}
 use Rattle.nc_algebra.specs.Sums.{Term}
 use Rattle.nc_algebra.specs.Words.{Word}
-use Rattle.nc_search.proofs.Snapshots.{facts}
-use Rattle.nc_search.specs.Untraced.{no_trace}
+use Rattle.nc_theory.proofs.Snapshots.{facts}
+use Rattle.nc_theory.specs.Untraced.{no_trace}
 use Rattle.nc_snapshot.proofs.Snapshots.{entry_usable, snapshot_prime}
 use Rattle.nc_snapshot.specs.Snapshots.{IsSnapshot, Snapshot}
 use Rattle.nc_theory.specs.States.{Entry}

@@ -3,8 +3,8 @@ use Rattle.nc_algebra.specs.Elements.{Setting}
 use Rattle.nc_algebra.specs.Monomials.{Monomial, Sig, monomial_of, sig_times, times}
 use Rattle.nc_algebra.specs.Polynomials.{leading}
 use Rattle.nc_algebra.specs.Words.{Word}
-use Rattle.nc_search.proofs.Meetings.{around_made, around_parts, met, unmet}
-use Rattle.nc_search.specs.Meetings.{AreAround, IsGreaterOf, IsOnly, MeetAt}
+use Rattle.nc_theory.proofs.Meetings.{around_made, around_parts, met, unmet}
+use Rattle.nc_theory.specs.Meetings.{AreAround, IsGreaterOf, IsOnly, MeetAt}
 use Rattle.nc_theory.specs.States.{Entry}
 use Rattle.nc_words.proofs.Letters.{letters_decide, same_letter}
 use Rattle.std.proofs.Common.{Bool, None, Option, [], ap, arith, drop, false, length, min, not, refl, subst, sym, take, true, ℕ, ◌+◌, ◌<◌, ◌∙◌, ◌≡◌}

@@ -5,7 +5,7 @@ use Rattle.nc_algebra.specs.Problems.{IsWithin, Problem}
 use Rattle.nc_overlap.proofs.Additions.{adds_both, adds_same}
 use Rattle.nc_overlap.proofs.Ambiguities.{meets_new, new_meets}
 use Rattle.nc_overlap.specs.Overlaps.{Adds, MeetsEither}
-use Rattle.nc_search.specs.Meetings.{MeetSomewhere}
+use Rattle.nc_theory.specs.Meetings.{MeetSomewhere}
 use Rattle.nc_theory.specs.Ambiguities.{NewAmbiguity}
 use Rattle.nc_theory.specs.States.{Entry}
 use Rattle.std.proofs.Common.{Contains, List, [], arith, inl, inr, map, ◌∷◌, ◌≡◌, ◌↔◌, ◌⊎◌}

@@ -6,8 +6,8 @@ use Rattle.nc_algebra.specs.Elements.{HasDegree, IsGenerator, Setting, degree, g
 use Rattle.nc_algebra.specs.Monomials.{Monomial, Sig, compare_monomials, compare_sigs, monomial_of, sig_times, times}
 use Rattle.nc_algebra.specs.Problems.{Bound, IsProblem, IsWithin, IsWithinBound, NamedProblem}
 use Rattle.nc_algebra.specs.Words.{Word, word_weight}
-use Rattle.nc_search.proofs.Meetings.{equal_only, greater_only, less_only}
-use Rattle.nc_search.specs.Meetings.{IsGreaterOf, IsOnly}
+use Rattle.nc_theory.proofs.Meetings.{equal_only, greater_only, less_only}
+use Rattle.nc_theory.specs.Meetings.{IsGreaterOf, IsOnly}
 use Rattle.std.proofs.Common.{Equal, Greater, IsTrue, Less, None, Option, Ordering, Some, ap, ap₂, arith, length, subst, sym, ℕ, ◌+◌, ◌++◌, ◌∙◌, ◌↔◌, ◌≡◌, ◌≤◌}
 use Rattle.std.proofs.Math.Dec.{leb}
 use Rattle.std.proofs.lemmas.Bool.{le-leb, leb-true}

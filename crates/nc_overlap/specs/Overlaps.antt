@@ -11,7 +11,7 @@ use Rattle.nc_algebra.specs.Polynomials.{leading}
 use Rattle.nc_algebra.specs.Problems.{IsWithin, Problem, bound_degree}
 use Rattle.nc_algebra.specs.Words.{Word}
 use Rattle.nc_overlap.specs.declared.meeting.Lead.{Lead}
-use Rattle.nc_search.specs.Meetings.{MeetSomewhere}
+use Rattle.nc_theory.specs.Meetings.{MeetSomewhere}
 use Rattle.nc_theory.specs.Ambiguities.{NewAmbiguity}
 use Rattle.nc_theory.specs.States.{Entry}
 use Rattle.std.specs.Prelude.{All, Contains, List, map, ℕ, ◌+◌, ◌<◌, ◌↔◌, ◌≡◌, ◌≤◌, ◌⊎◌}

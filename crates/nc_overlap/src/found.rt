@@ -5,7 +5,7 @@ ghost use Rattle.nc_algebra.specs.Monomials.{compare_sigs, monomial_of};
 ghost use Rattle.nc_algebra.specs.Problems.{IsWithin};
 ghost use Rattle.nc_overlap.specs.Overlaps.{Adds, AddsMeetings, AreNewSignatures, IsEnough, IsLedBy, IsSignatureOver, MeetsEither};
 ghost use Rattle.nc_overlap.specs.Sides.{side_sig};
-ghost use Rattle.nc_search.specs.Meetings.{MeetAt};
+ghost use Rattle.nc_theory.specs.Meetings.{MeetAt};
 ghost use Rattle.nc_theory.specs.States.{Entry};
 ghost use Rattle.std.specs.Arc.{arc_value};
 ghost use Rattle.std.specs.List.Sorted.{IsStrictlySortedBy};

@@ -4,7 +4,7 @@ ghost use Rattle.nc_algebra.specs.Elements.{HasDegree, Setting};
 ghost use Rattle.nc_algebra.specs.Monomials.{monomial_of};
 ghost use Rattle.nc_overlap.specs.Overlaps.{IsLedBy};
 ghost use Rattle.nc_overlap.specs.Sides.{side_sig};
-ghost use Rattle.nc_search.specs.Meetings.{IsOnly, MeetAt};
+ghost use Rattle.nc_theory.specs.Meetings.{IsOnly, MeetAt};
 ghost use Rattle.nc_theory.specs.States.{Entry};
 ghost use Rattle.std.specs.Prelude.{IfSome, length, option_map, ◌<◌, ◌≡◌, ◌⊎◌};
 

@@ -4,7 +4,7 @@ ghost use Rattle.nc_algebra.specs.Elements.{HasDegree, IsGenerator, Setting};
 ghost use Rattle.nc_algebra.specs.Monomials.{compare_sigs, monomial_of};
 ghost use Rattle.nc_algebra.specs.Problems.{IsWithin};
 ghost use Rattle.nc_overlap.specs.Sides.{side_sig};
-ghost use Rattle.nc_search.specs.Meetings.{IsGreaterOf, IsOnly};
+ghost use Rattle.nc_theory.specs.Meetings.{IsGreaterOf, IsOnly};
 ghost use Rattle.std.specs.Prelude.{IfOk, IfSome, IsTrue, option_map, ◌↔◌, ◌≡◌, ◌⊎◌};
 
 use nc_module::{Bound, Problem};

@@ -5,8 +5,8 @@ use Rattle.nc_algebra.specs.Polynomials.{leading}
 use Rattle.nc_algebra.specs.Words.{OccursAt, Word}
 use Rattle.nc_index.specs.Chosen.{IsBelowSig, IsChosen}
 use Rattle.nc_index.specs.declared.hit.Hit.{Hit}
-use Rattle.nc_search.proofs.Places.{one_place}
-use Rattle.nc_search.specs.Places.{IsChoiceOf}
+use Rattle.nc_theory.proofs.OnePlace.{one_place}
+use Rattle.nc_theory.specs.Places.{IsChoiceOf}
 use Rattle.nc_theory.proofs.Determinism.{listed_same}
 use Rattle.nc_theory.specs.States.{Entry}
 use Rattle.std.proofs.Common.{List, Some, ap, arith, length, sym, ℕ, ◌++◌, ◌-◌, ◌∙◌, ◌≡◌, ◌≤◌}

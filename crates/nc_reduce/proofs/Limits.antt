@@ -10,7 +10,7 @@ use Rattle.nc_algebra.specs.Problems.{Bound, IsWithin, IsWithinBound, Problem}
 use Rattle.nc_index.specs.Chosen.{IsBelowSig}
 use Rattle.nc_module.proofs.Bounds.{less_from_sigs, sigs_from_less}
 use Rattle.nc_reduce.specs.Limits.{IsLimitOf}
-use Rattle.nc_search.proofs.Turns.{reduction_by}
+use Rattle.nc_theory.proofs.Turns.{reduction_by}
 use Rattle.nc_theory.specs.Reductions.{Reduction, ReductionAt}
 use Rattle.nc_theory.specs.States.{Entry, Step}
 use Rattle.std.specs.declared.alloc.AllocError.{AllocError}

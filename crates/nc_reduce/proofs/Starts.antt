@@ -8,10 +8,10 @@ use Rattle.nc_algebra.specs.Words.{Word}
 use Rattle.nc_module.proofs.Settings.{generator_is_text}
 use Rattle.nc_poly.proofs.Shifts.{shifted_descends}
 use Rattle.nc_reduce.specs.Starts.{IsReadable, IsStartAt, polynomial_of, start_polynomial}
-use Rattle.nc_search.proofs.Handling.{text_words}
-use Rattle.nc_search.proofs.Multiples.{shifted_few, shifted_small}
-use Rattle.nc_search.proofs.Small.{usable_at}
-use Rattle.nc_search.specs.Usable.{HasSmallWords, IsUsable, IsUsableSignature}
+use Rattle.nc_theory.proofs.Handling.{text_words}
+use Rattle.nc_theory.proofs.Multiples.{shifted_few, shifted_small}
+use Rattle.nc_theory.proofs.Small.{usable_at}
+use Rattle.nc_theory.specs.Usable.{HasSmallWords, IsUsable, IsUsableSignature}
 use Rattle.nc_theory.specs.States.{Entry, Start}
 use Rattle.std.proofs.Common.{List, Some, [], ap, arith, length, map, subst, sym, suc, zero, ℕ, ◌+◌, ◌-◌, ◌<◌, ◌∙◌, ◌∷◌, ◌≡◌, ◌≤◌}
 use Rattle.std.proofs.lemmas.List.Elements.{All-from_recursion, recursion_from_All}

@@ -1,5 +1,5 @@
 -- What a turn of a reduction does and leaves.
--- The lemmas of `nc_search` on turns, with the leading term taken out of the tree where it is kept
+-- The lemmas of `nc_theory` on turns, with the leading term taken out of the tree where it is kept
 -- (`rest_is`), and the chosen divisor by the law of `nc_index` (`none_turn`, `hit_within`).
 use Rattle.nc_algebra.proofs.NormalForms.{normal_form_only}
 use Rattle.nc_algebra.proofs.Sums.{coefficient-minus}
@@ -14,16 +14,16 @@ use Rattle.nc_index.specs.Chosen.{IsBelowSig, IsChosen, LeadsLaw, leads_of}
 use Rattle.nc_index.specs.Pairs.{IsFirstRegular, Lead}
 use Rattle.nc_index.specs.declared.hit.Hit.{Hit}
 use Rattle.nc_reduce.proofs.Choices.{hit_choice, hit_stands, number_within}
-use Rattle.nc_search.proofs.Small.{usable_at}
+use Rattle.nc_theory.proofs.Small.{usable_at}
 use Rattle.nc_reduce.specs.Turns.{IsTurn}
 use Rattle.nc_reduce.specs.declared.turn.Turn.{Turn}
 use Rattle.nc_reduce.specs.declared.turn.Turn.TheVariants.{Kept, Subtracted}
-use Rattle.nc_search.proofs.Choices.{chosen_few, kept_turn, lead_residue, subtracted_turn}
-use Rattle.nc_search.proofs.Turns.{IsLeft, kept_leaves, subtracted_leaves}
-use Rattle.nc_search.specs.Found.{Chosen}
-use Rattle.nc_search.specs.Places.{IsChoiceOf}
-use Rattle.nc_search.specs.Turns.{IsKept, IsSubtracted}
-use Rattle.nc_search.specs.Usable.{HasSmallWords, IsUsable}
+use Rattle.nc_theory.proofs.Choices.{chosen_few, kept_turn, lead_residue, subtracted_turn}
+use Rattle.nc_theory.proofs.Turns.{IsLeft, kept_leaves, subtracted_leaves}
+use Rattle.nc_theory.specs.Found.{Chosen}
+use Rattle.nc_theory.specs.Places.{IsChoiceOf}
+use Rattle.nc_theory.specs.Turns.{IsKept, IsSubtracted}
+use Rattle.nc_theory.specs.Usable.{HasSmallWords, IsUsable}
 use Rattle.nc_theory.specs.States.{Entry, Step}
 use Rattle.std.proofs.Common.{List, None, Option, Some, [], ap, arith, get_or, length, refl, subst, sym, ℕ, ◌%◌, ◌*◌, ◌+◌, ◌++◌, ◌-◌, ◌<◌, ◌∙◌, ◌∷◌, ◌≡◌, ◌≢◌, ◌≤◌}
 use Rattle.std.proofs.Math.Nat.{add-mul-mod_self_left}

@@ -1,6 +1,6 @@
 -- One turn of a reduction in code, where the bound is a signature with its degree.
 --
--- The turn is one of the two that `Turns.antt` of nc_search defines: a term was kept, or a multiple
+-- The turn is one of the two that `Turns.antt` of nc_theory defines: a term was kept, or a multiple
 -- was subtracted.
 use Rattle.nc_algebra.specs.Elements.{Setting}
 use Rattle.nc_algebra.specs.Monomials.{Sig}
@@ -8,7 +8,7 @@ use Rattle.nc_algebra.specs.Polynomials.{Polynomial}
 use Rattle.nc_index.specs.Chosen.{IsBelowSig}
 use Rattle.nc_reduce.specs.declared.turn.Turn.{Turn}
 use Rattle.nc_reduce.specs.declared.turn.Turn.TheVariants.{Kept, Subtracted}
-use Rattle.nc_search.specs.Turns.{IsKept, IsSubtracted}
+use Rattle.nc_theory.specs.Turns.{IsKept, IsSubtracted}
 use Rattle.nc_theory.specs.States.{Entry}
 use Rattle.std.specs.Prelude.{List}
 

@@ -7,7 +7,7 @@ ghost use Rattle.nc_algebra.specs.Problems.{IsWithin};
 ghost use Rattle.nc_index.specs.Chosen.{IsBelowSig};
 ghost use Rattle.nc_reduce.specs.Leads.{LeadsOf};
 ghost use Rattle.nc_reduce.specs.Starts.{IsStartAt, start_polynomial};
-ghost use Rattle.nc_search.specs.Usable.{HasSmallWords, IsUsableSignature};
+ghost use Rattle.nc_theory.specs.Usable.{HasSmallWords, IsUsableSignature};
 ghost use Rattle.nc_snapshot.specs.Traces.{start_of};
 ghost use Rattle.nc_theory.specs.Reductions.{Reduction, ReductionAt};
 ghost use Rattle.std.specs.Prelude.{IfOk, ◌≡◌};

@@ -3,7 +3,7 @@
 ghost use Rattle.nc_algebra.specs.Polynomials.{IsNormal, Polynomial};
 ghost use Rattle.nc_reduce.specs.Leads.{LeadsOf};
 ghost use Rattle.nc_reduce.specs.Turns.{IsTurn};
-ghost use Rattle.nc_search.specs.Usable.{HasSmallWords};
+ghost use Rattle.nc_theory.specs.Usable.{HasSmallWords};
 ghost use Rattle.nc_snapshot.specs.Snapshots.{IsSnapshot};
 ghost use Rattle.std.specs.Prelude.{IfOk, [], ◌∷◌, ◌≡◌, ◌≢◌};
 

@@ -2,7 +2,7 @@
 -- What is found after an outcome is the state after it, without traces (`found_state`).
 use Rattle.nc_algebra.specs.Elements.{HasDegree, Setting}
 use Rattle.nc_algebra.specs.Monomials.{Sig, monomial_of}
-use Rattle.nc_search.specs.Untraced.{untraced, untraced_entry, untraced_syzygy}
+use Rattle.nc_theory.specs.Untraced.{untraced, untraced_entry, untraced_syzygy}
 use Rattle.nc_snapshot.specs.Outcomes.{found_after, outcome_of}
 use Rattle.nc_snapshot.specs.Snapshots.{Found, HasDegrees, Signed, entry_of, state_of, syzygy_of}
 use Rattle.nc_snapshot.specs.declared.outcome.Outcome.{Outcome}

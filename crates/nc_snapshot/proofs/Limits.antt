@@ -1,7 +1,7 @@
 -- What is counted in a snapshot.
 -- The counts are those of the run (`snapshot_counts`), and a problem has at most 1,000,000,000
 -- steps, so they fit.
-use Rattle.nc_search.specs.Untraced.{untraced_entry, untraced_syzygy}
+use Rattle.nc_theory.specs.Untraced.{untraced_entry, untraced_syzygy}
 use Rattle.nc_snapshot.specs.Snapshots.{Found, IsSnapshot, Snapshot, entry_of, state_of, syzygy_of}
 use Rattle.nc_theory.proofs.Counting.{counts}
 use Rattle.std.proofs.Common.{ap, arith, length, ◌+◌, ◌∙◌, ◌≡◌, ◌≤◌}

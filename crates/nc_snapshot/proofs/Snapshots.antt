@@ -1,5 +1,5 @@
 -- What holds of a snapshot: its prime, its entries, and what an outcome brings.
--- These are the laws of `nc_search` on runs without traces: entries can be used (`snapshot_usable`)
+-- These are the laws of `nc_theory` on runs without traces: entries can be used (`snapshot_usable`)
 -- and are canonical (`snapshot_canonical`), and what the next outcome brings is greater
 -- (`snapshot_ascends`).
 use Rattle.nc_algebra.proofs.Primes.{field_from_prime}
@@ -7,15 +7,15 @@ use Rattle.nc_algebra.specs.Elements.{IsLess}
 use Rattle.nc_algebra.specs.Monomials.{Monomial}
 use Rattle.nc_algebra.specs.Primes.{IsField, IsPrime}
 use Rattle.nc_field.proofs.Primes.{listed_is_prime}
-use Rattle.nc_search.proofs.Small.{usable_at}
-use Rattle.nc_search.proofs.Snapshots.{facts}
-use Rattle.nc_search.proofs.UntracedEnds.{canonical}
-use Rattle.nc_search.proofs.UntracedRuns.{same_run}
-use Rattle.nc_search.proofs.UntracedStates.{moved_next}
-use Rattle.nc_search.proofs.UntracedSteps.{goes_on}
-use Rattle.nc_search.specs.Bases.{AreCanonical}
-use Rattle.nc_search.specs.Untraced.{IsNextOfRun}
-use Rattle.nc_search.specs.Usable.{IsUsable}
+use Rattle.nc_theory.proofs.Small.{usable_at}
+use Rattle.nc_theory.proofs.Snapshots.{facts}
+use Rattle.nc_theory.proofs.UntracedEnds.{canonical}
+use Rattle.nc_theory.proofs.UntracedRuns.{same_run}
+use Rattle.nc_theory.proofs.UntracedStates.{moved_next}
+use Rattle.nc_theory.proofs.UntracedSteps.{goes_on}
+use Rattle.nc_theory.specs.EndBases.{AreCanonical}
+use Rattle.nc_theory.specs.Untraced.{IsNextOfRun}
+use Rattle.nc_theory.specs.Usable.{IsUsable}
 use Rattle.nc_snapshot.specs.Snapshots.{IsSnapshot, Snapshot}
 use Rattle.nc_theory.specs.Runs.{BringsAmbiguity, Handles, Outcome}
 use Rattle.nc_theory.specs.States.{Entry}

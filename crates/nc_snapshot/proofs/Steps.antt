@@ -4,8 +4,8 @@
 use Rattle.nc_algebra.specs.Elements.{HasDegree}
 use Rattle.nc_algebra.specs.Monomials.{Sig, monomial_of}
 use Rattle.nc_algebra.specs.Problems.{IsProblem, NamedProblem}
-use Rattle.nc_search.proofs.UntracedRuns.{steps}
-use Rattle.nc_search.specs.Untraced.{IsNextOfRun, IsRunOf, untraced}
+use Rattle.nc_theory.proofs.UntracedRuns.{steps}
+use Rattle.nc_theory.specs.Untraced.{IsNextOfRun, IsRunOf, untraced}
 use Rattle.nc_snapshot.proofs.Founds.{found_degrees, found_state}
 use Rattle.nc_snapshot.specs.Outcomes.{found_after, outcome_of}
 use Rattle.nc_snapshot.specs.Snapshots.{Found, HasDegrees, IsSnapshot, Snapshot, state_of}

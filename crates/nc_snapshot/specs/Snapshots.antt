@@ -10,7 +10,7 @@ use Rattle.nc_algebra.specs.Elements.{HasDegree, Setting}
 use Rattle.nc_algebra.specs.Monomials.{Sig, monomial_of}
 use Rattle.nc_algebra.specs.Polynomials.{Polynomial}
 use Rattle.nc_algebra.specs.Problems.{IsProblem, NamedProblem}
-use Rattle.nc_search.specs.Untraced.{IsRunOf, no_trace}
+use Rattle.nc_theory.specs.Untraced.{IsRunOf, no_trace}
 use Rattle.nc_theory.specs.States.{Entry, State, Syzygy}
 use Rattle.std.specs.Prelude.{All, List, map, ℕ, ◌≤◌}
 

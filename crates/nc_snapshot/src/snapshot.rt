@@ -3,8 +3,8 @@
 ghost use Rattle.nc_algebra.specs.Elements.{HasDegree, IsLess};
 ghost use Rattle.nc_algebra.specs.Monomials.{Monomial, monomial_of};
 ghost use Rattle.nc_algebra.specs.Problems.{IsProblem};
-ghost use Rattle.nc_search.specs.Bases.{AreCanonical};
-ghost use Rattle.nc_search.specs.Untraced.{IsNextOfRun, untraced};
+ghost use Rattle.nc_theory.specs.EndBases.{AreCanonical};
+ghost use Rattle.nc_theory.specs.Untraced.{IsNextOfRun, untraced};
 ghost use Rattle.nc_snapshot.specs.Outcomes.{outcome_of};
 ghost use Rattle.nc_snapshot.specs.Snapshots.{IsSnapshot, entry_of, syzygy_of};
 ghost use Rattle.nc_theory.specs.Runs.{BringsAmbiguity, Handles, opening, state_after};

@@ -1,38 +1,33 @@
--- The theorems on runs, bases and desks.
+-- The theorems on runs, bases and labels.
 --
 -- What a run has found comes first: a closed state is a basis, runs are sound and closed, an end
--- has enough within its bound, and entries are canonical. `StaleLaw` says which older outcomes
--- stand. A run is unique, a complete end decides membership, and each problem has one end.
+-- has enough within its bound, and entries are canonical. A run is unique, a complete end decides
+-- membership, and each problem has one end.
 --
 -- From `AscentLaw` to `StepLimit` the laws tell how a run moves: new ambiguities lie above, what
 -- waits after a step, the degree limit, how a trace is made again, the order of items, counts,
 -- letters, and a limit on the number of steps.
 --
--- From `SnapshotLaw` to `OwnWorkStands` they are on desks: a desk stays on the sequential run, does
--- each list of events in one way, and keeps its window and counts.
---
 -- The last ones are on representations, outcomes, trivial syzygies and reductions. Most laws ask
--- for a prime. Each is the contract of a public function with an empty body.
+-- for a prime. Each is the contract of a public function with an empty body. `UntracedLaws.antt`
+-- has those on runs without traces, `DeskLaws.antt` those on desks.
 use Rattle.nc_algebra.specs.Elements.{degree, IsIn, IsLabelled, IsLeadingWord, IsLess, SamePolynomial, Setting, evaluation, WeighsAtMost, WordsAre, generator}
 use Rattle.nc_algebra.specs.Monomials.{Divides, Monomial, Sig}
 use Rattle.nc_algebra.specs.Polynomials.{IsNormal, Polynomial, leading}
-use Rattle.nc_algebra.specs.Problems.{Bound, IsUnder, IsWithin, IsWithinBelow, IsWithinBound, NamedProblem, Problem}
+use Rattle.nc_algebra.specs.Problems.{Bound, IsUnder, IsWithin, IsWithinBelow, IsWithinBound, Problem}
 use Rattle.nc_algebra.specs.Sums.{minus}
 use Rattle.nc_algebra.specs.Finite.{IsOver, monomials_within}
 use Rattle.nc_algebra.specs.Primes.{IsPrime}
 use Rattle.nc_algebra.specs.Words.{Letter, Word}
 use Rattle.nc_theory.specs.Bases.{HasRepresentation, IsBasisBelow, IsCanonical, IsClosed, IsSound, IsSyzygyBasisBelow}
-use Rattle.nc_theory.specs.Desk.{Abandoned, Abandons, Advances, Claimed, Claims, Desk, Event, IsCounted, IsFinished, IsReady, Node, Plays, Submits, Submitted, Ticket, Work, after_committed, open_desk}
 use Rattle.nc_theory.specs.Divisors.{Divisor, IsChosenDivisor, RegularDivisor, multiple_at, number_of, signature_at}
 use Rattle.nc_theory.specs.Labels.{label_at, labels_of, step_multiples, trace_label}
 use Rattle.nc_theory.specs.Letters.{AreOver}
 use Rattle.nc_theory.specs.Rebuilding.{IsAtLeast, Rebuilds}
 use Rattle.nc_theory.specs.Reductions.{Reduction, ReductionAt}
 use Rattle.nc_theory.specs.Runs.{End, BringsAmbiguity, Handles, IsAfter, IsCandidate, IsEnd, IsNext, IsWaiting, NoneWaits, Outcome, SequentialRun, Starts, state_after}
-use Rattle.nc_theory.specs.Stale.{Extension, Unaffected}
 use Rattle.nc_theory.specs.States.{Entry, Start, State, Step, Syzygy, Trace}
 use Rattle.nc_theory.specs.Syzygies.{ApartAt, TrivialSyzygy}
-use Rattle.nc_theory.specs.Windows.{WindowLaw}
 use Rattle.std.specs.Prelude.{Contains, List, Option, Some, [], length, ℕ, ◌++◌, ◌+◌, ◌<◌, ◌∷◌, ◌↔◌, ◌≡◌, ◌≢◌, ◌≤◌, ◌⊎◌}
 
 -- something that holds of each state that a run reaches, over a prime
@@ -73,11 +68,6 @@ CompletenessTheorem = (P : Problem) → IsPrime P.setting.prime → (n : ℕ) (s
 abbrev pub UniquenessTheorem : Type 0
 UniquenessTheorem = OfEachRun (λ P n state last. (e : Entry) → Contains state.entries e →
     IsCanonical P.setting state.entries e.signature e.polynomial × ((f : Polynomial) → IsCanonical P.setting state.entries e.signature f → SamePolynomial P.setting f e.polynomial))
-
--- what was found over an earlier state stands over a later one exactly where it is covered or nothing newer bears on it
-abbrev pub StaleLaw : Type 0
-StaleLaw = (P : Problem) → IsPrime P.setting.prime → (k n : ℕ) (state later : State) (before last : Option Monomial) → SequentialRun P k state before → SequentialRun P n later last → k ≤ n →
-    (x : Extension state later) × ((τ : Monomial) (o : Outcome) → Handles P.setting state τ o → Handles P.setting later τ o ↔ ((o ≡ Outcome.covered) ⊎ Unaffected P.setting state x.es x.hs τ o))
 
 -- a run has one state and one last signature at each number, and a signature one outcome over the state
 abbrev pub RunsAreDetermined : Type 0
@@ -170,47 +160,6 @@ abbrev pub StepLimit : Type 0
 StepLimit = (P : Problem) → IsPrime P.setting.prime → (letters : List Letter) → ((i : ℕ) → WordsAre P.setting (IsOver letters) (generator P.setting i)) →
     ((n : ℕ) (state : State) (last : Option Monomial) → SequentialRun P n state last → n ≤ length (monomials_within P.setting P.bound letters))
     × (length (monomials_within P.setting P.bound letters) ≤ P.steps → (n : ℕ) (state : State) (end : End) → IsEnd P n state end → end ≡ End.complete)
-
--- a play leads from a desk at a state of the run, within the steps, to one that is so too; an open desk is one
-abbrev pub SnapshotLaw : Type 0
-SnapshotLaw = (P : NamedProblem) →
-    ((events : List Event) (d d' : Desk) → Plays P events d d' → (SequentialRun P.problem d.handled d.state d.last → SequentialRun P.problem d'.handled d'.state d'.last) × (d.handled ≤ P.problem.steps → d'.handled ≤ P.problem.steps))
-    × ((capacity : ℕ) (events : List Event) (d : Desk) → Plays P events (open_desk capacity) d → SequentialRun P.problem d.handled d.state d.last × (d.handled ≤ P.problem.steps))
-
--- a desk within the steps is finished exactly where its state is an end of the run
-abbrev pub FinishedLaw : Type 0
-FinishedLaw = (P : Problem) → IsPrime P.setting.prime → (d : Desk) → SequentialRun P d.handled d.state d.last → d.handled ≤ P.steps → IsFinished P d ↔ ((end : End) × IsEnd P d.handled d.state end)
-
--- each list of events has a play
-abbrev pub PlaysExist : Type 0
-PlaysExist = (P : NamedProblem) → IsPrime P.problem.setting.prime → (capacity : ℕ) (events : List Event) → (d : Desk) × Plays P events (open_desk capacity) d
-
--- a list of events leaves one desk
-abbrev pub PlaysAreDetermined : Type 0
-PlaysAreDetermined = (P : NamedProblem) (events : List Event) (d a b : Desk) → Plays P events d a → Plays P events d b → a ≡ b
-
--- a claim, a work that comes in and a ticket that is given back have one answer each, and leave one desk
-abbrev pub AnswersAreDetermined : Type 0
-AnswersAreDetermined = (P : NamedProblem) (d : Desk) →
-    ((a b : Claimed) (x y : Desk) → Claims P.problem d a x → Claims P.problem d b y → (a ≡ b) × (x ≡ y))
-    × ((t : Ticket) (w : Work) (a b : Submitted) (x y : Desk) → Submits P d t w a x → Submits P d t w b y → (a ≡ b) × (x ≡ y))
-    × ((t : Ticket) (a b : Abandoned) (x y : Desk) → Abandons d t a x → Abandons d t b y → (a ≡ b) × (x ≡ y))
-
--- for every list of events the window is as it should be
-abbrev pub WindowsAreKept : Type 0
-WindowsAreKept = (P : NamedProblem) → IsPrime P.problem.setting.prime → (capacity : ℕ) (events : List Event) (d : Desk) → Plays P events (open_desk capacity) d → WindowLaw P capacity d
-
--- a play keeps the counts of a desk right and handles no signature alone; those of an open desk are right
-abbrev pub DeskCounts : Type 0
-DeskCounts = (P : NamedProblem) →
-    ((events : List Event) (d d' : Desk) → Plays P events d d' → (IsCounted d → IsCounted d') × (d'.alone ≡ d.alone))
-    × ((capacity : ℕ) (events : List Event) (d : Desk) → Plays P events (open_desk capacity) d → IsCounted d × (d.alone ≡ 0))
-
--- a work over the desk's own state that is ready is what handling gives there: each advance that is not at the end commits it, and none drops it
-abbrev pub OwnWorkStands : Type 0
-OwnWorkStands = (P : NamedProblem) → IsPrime P.problem.setting.prime → (capacity : ℕ) (events : List Event) (d : Desk) → Plays P events (open_desk capacity) d → (τ : Monomial) (n : Node) (w : Work) → IsReady P.problem d τ n w → w.number ≡ d.handled →
-    Handles P.problem.setting d.state τ w.outcome
-    × (¬ IsFinished P.problem d → (d' : Desk) → Advances P.problem d d' → Advances P.problem (after_committed d τ n w.outcome) d')
 
 -- what is left of a claim is the claim less a module element within the bound, which the labels of the subtracted multiples sum up to
 abbrev pub RepresentationLaw : Type 0

@@ -16,9 +16,9 @@ use Rattle.nc_options.specs.declared.options.BasisOptions.{BasisOptions}
 use Rattle.nc_options.specs.declared.options.MemberOptions.{MemberOptions}
 use Rattle.nc_options.specs.declared.options.Options.{Options}
 use Rattle.nc_options.specs.declared.options.Options.TheVariants.{Basis, Check, Demo, Member}
-use Rattle.nc_search.proofs.Named.{complete}
-use Rattle.nc_search.specs.Named.{letters_of}
-use Rattle.nc_search.specs.Untraced.{untraced}
+use Rattle.nc_theory.proofs.Named.{complete}
+use Rattle.nc_theory.specs.Named.{letters_of}
+use Rattle.nc_theory.specs.Untraced.{untraced}
 use Rattle.nc_theory.specs.Bases.{HasRepresentation}
 use Rattle.nc_theory.specs.Runs.{End, IsEnd}
 use Rattle.nc_top.proofs.BasisAnswers.{Known, basis_answer, known, one_basis, prime_of, problem_of_text, same_problem}

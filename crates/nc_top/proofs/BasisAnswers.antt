@@ -22,11 +22,11 @@ use Rattle.nc_options.specs.declared.options.Cofactors.{Cofactors}
 use Rattle.nc_options.specs.declared.options.Cofactors.TheVariants.{Full, Omitted, Trace as TraceOf}
 use Rattle.nc_print.specs.Printing.{ended}
 use Rattle.nc_report.specs.Reports.{counts_line, end_line, entry_line, numbered, syzygy_line}
-use Rattle.nc_search.proofs.UntracedBases.{moved_bases_at}
-use Rattle.nc_search.proofs.UntracedEnds.{end_facts}
-use Rattle.nc_search.proofs.UntracedStates.{untraced_twice}
-use Rattle.nc_search.specs.Bases.{AreCanonical}
-use Rattle.nc_search.specs.Untraced.{untraced}
+use Rattle.nc_theory.proofs.UntracedBases.{moved_bases_at}
+use Rattle.nc_theory.proofs.UntracedEnds.{end_facts}
+use Rattle.nc_theory.proofs.UntracedStates.{untraced_twice}
+use Rattle.nc_theory.specs.EndBases.{AreCanonical}
+use Rattle.nc_theory.specs.Untraced.{untraced}
 use Rattle.nc_snapshot.specs.declared.outcome.Listed.{Listed}
 use Rattle.nc_snapshot.specs.declared.outcome.Listed.TheVariants.{Claim, Entry as EntryOf, Syzygy as SyzygyOf}
 use Rattle.nc_text.proofs.ReadProblems.{reads_problems}

@@ -12,8 +12,8 @@ use Rattle.nc_algebra.specs.Words.{Letter, word_weight}
 use Rattle.nc_cofactor.proofs.Letters.{sum_over}
 use Rattle.nc_cofactor.specs.Sums.{IsSum}
 use Rattle.nc_theory.proofs.Normal.{kept_normal}
-use Rattle.nc_search.proofs.Letters.{generator_over, polynomial_in, polynomial_over}
-use Rattle.nc_search.specs.Named.{letters_of}
+use Rattle.nc_theory.proofs.OverAlphabet.{generator_over, polynomial_in, polynomial_over}
+use Rattle.nc_theory.specs.Named.{letters_of}
 use Rattle.nc_text.proofs.ReadCertificates.{claim_line_reads, setting_lines_read}
 use Rattle.nc_text.specs.Certificates.{claim_line}
 use Rattle.nc_text.specs.Problems.{ProblemText, bound_line, problem_at, steps_line, wanted_claim}

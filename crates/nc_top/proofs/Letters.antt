@@ -4,10 +4,10 @@ use Rattle.nc_algebra.specs.Monomials.{Monomial, Sig, monomial_of}
 use Rattle.nc_algebra.specs.Polynomials.{Polynomial}
 use Rattle.nc_algebra.specs.Words.{Word}
 use Rattle.nc_desk.specs.Ends.{IsEndAt}
-use Rattle.nc_search.proofs.Named.{over_alphabet}
-use Rattle.nc_search.proofs.UntracedRuns.{same_run}
-use Rattle.nc_search.proofs.UntracedStates.{moved_candidate}
-use Rattle.nc_search.specs.Named.{IsMonomialIn, IsOverAlphabet}
+use Rattle.nc_theory.proofs.Named.{over_alphabet}
+use Rattle.nc_theory.proofs.UntracedRuns.{same_run}
+use Rattle.nc_theory.proofs.UntracedStates.{moved_candidate}
+use Rattle.nc_theory.specs.Named.{IsMonomialIn, IsOverAlphabet}
 use Rattle.nc_snapshot.specs.Snapshots.{IsSnapshot, Snapshot}
 use Rattle.nc_theory.specs.Runs.{End, IsEnd}
 use Rattle.nc_theory.specs.States.{Entry, Syzygy}

@@ -16,7 +16,7 @@ use Rattle.nc_options.specs.declared.options.Cofactors.TheVariants.{Trace as Tra
 use Rattle.nc_print.specs.Printing.{ended}
 use Rattle.nc_report.specs.Reports.{counts_line}
 use Rattle.nc_report.specs.Traces.{StartIsNamed, trace_text}
-use Rattle.nc_search.specs.Untraced.{untraced, untraced_entry, untraced_syzygy}
+use Rattle.nc_theory.specs.Untraced.{untraced, untraced_entry, untraced_syzygy}
 use Rattle.nc_snapshot.specs.Snapshots.{IsSnapshot, Snapshot}
 use Rattle.nc_snapshot.specs.declared.outcome.Listed.{Listed}
 use Rattle.nc_snapshot.specs.declared.outcome.Listed.TheVariants.{Entry as EntryOf, Syzygy as SyzygyOf}

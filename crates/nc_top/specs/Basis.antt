@@ -22,7 +22,7 @@ use Rattle.nc_options.specs.declared.options.BasisOptions.{BasisOptions}
 use Rattle.nc_options.specs.declared.options.Cofactors.{Cofactors}
 use Rattle.nc_options.specs.declared.options.Cofactors.TheVariants.{Full, Omitted, Trace as TraceOf}
 use Rattle.nc_snapshot.specs.declared.outcome.Listed.{Listed}
-use Rattle.nc_search.specs.Bases.{AreCanonical, HasBasesAt}
+use Rattle.nc_theory.specs.EndBases.{AreCanonical, HasBasesAt}
 use Rattle.nc_text.specs.Problems.{ProblemText, reads_problem}
 use Rattle.nc_theory.specs.Labels.{label_at, labels_of, trace_label}
 use Rattle.nc_theory.specs.Runs.{End, IsEnd}

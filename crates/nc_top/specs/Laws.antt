@@ -14,7 +14,7 @@ use Rattle.nc_options.specs.declared.options.BasisOptions.{BasisOptions}
 use Rattle.nc_options.specs.declared.options.MemberOptions.{MemberOptions}
 use Rattle.nc_options.specs.declared.options.Options.{Options}
 use Rattle.nc_options.specs.declared.options.Options.TheVariants.{Basis, Member}
-use Rattle.nc_search.specs.Named.{letters_of}
+use Rattle.nc_theory.specs.Named.{letters_of}
 use Rattle.nc_snapshot.specs.declared.outcome.Listed.{Listed}
 use Rattle.nc_top.specs.Basis.{IsComplete, IsProblemText, IsTooManyTerms}
 use Rattle.nc_theory.specs.Bases.{HasRepresentation}

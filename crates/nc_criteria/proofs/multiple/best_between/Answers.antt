@@ -1,7 +1,7 @@
 use Rattle.nc_algebra.specs.Monomials.{monomial_of}
 use Rattle.nc_criteria.proofs.Best.{best_further}
 use Rattle.nc_criteria.specs.Searches.{IsBestBetween, found_of}
-use Rattle.nc_search.specs.Best.{IsAt}
+use Rattle.nc_theory.specs.Best.{IsAt}
 use Rattle.std.proofs.Common.{arith, option_map, subst, sym, ◌+◌, ◌-◌, ◌≡◌}
 use Rattle.nc_criteria.proofs.multiple.best_between.Goals as goal
 

@@ -1,6 +1,6 @@
 use Rattle.nc_algebra.specs.Monomials.{monomial_of}
 use Rattle.nc_criteria.proofs.Best.{lead_found}
-use Rattle.nc_search.specs.Found.{Best}
+use Rattle.nc_theory.specs.Found.{Best}
 use Rattle.std.proofs.Common.{ap, arith, ◌++◌, ◌-◌}
 use Rattle.nc_criteria.proofs.multiple.multiple_of.Goals as goal
 

@@ -1,6 +1,6 @@
 use Rattle.nc_algebra.specs.Monomials.{Divides, monomial_of}
 use Rattle.nc_criteria.proofs.Divisors.{listed_found, listed_further, quotient_divides}
-use Rattle.nc_search.proofs.Covers.{none_listed}
+use Rattle.nc_theory.proofs.Covers.{none_listed}
 use Rattle.std.proofs.Common.{arith, refl, subst, sym, ◌∙◌}
 use Rattle.std.proofs.lemmas.Bool.{false≢true}
 use Rattle.nc_criteria.proofs.syzygy.is_listed.Goals as goal

@@ -1,5 +1,5 @@
 use Rattle.nc_algebra.specs.Monomials.{monomial_of}
-use Rattle.nc_search.proofs.Covers.{NoneListed}
+use Rattle.nc_theory.proofs.Covers.{NoneListed}
 use Rattle.nc_criteria.proofs.syzygy.is_listed.Given as goal
 
 abbrev pub invariant-loop-index : goal.invariant-loop-index

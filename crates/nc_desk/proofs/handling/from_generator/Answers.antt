@@ -1,7 +1,7 @@
 use Rattle.nc_algebra.specs.Elements.{generator}
 use Rattle.nc_algebra.specs.Monomials.{Sig, monomial_of, unit_monomial}
-use Rattle.nc_search.proofs.Handling.{generator_handled}
-use Rattle.nc_search.specs.Outcomes.{outcome_after}
+use Rattle.nc_theory.proofs.Handling.{generator_handled}
+use Rattle.nc_theory.specs.Outcomes.{outcome_after}
 use Rattle.std.proofs.Common.{ap, refl, sym, ◌∙◌}
 use Rattle.nc_desk.proofs.handling.from_generator.Goals as goal
 

@@ -4,7 +4,7 @@ use Rattle.nc_desk.proofs.Multiples.{best_reduced, best_settled, best_start}
 use Rattle.nc_snapshot.proofs.Snapshots.{snapshot_usable}
 use Rattle.nc_reduce.proofs.Starts.{start_readable}
 use Rattle.nc_reduce.specs.Starts.{IsStartAt}
-use Rattle.nc_search.specs.Outcomes.{outcome_after}
+use Rattle.nc_theory.specs.Outcomes.{outcome_after}
 use Rattle.nc_snapshot.specs.Traces.{start_of}
 use Rattle.nc_theory.specs.States.{Start}
 use Rattle.std.proofs.Common.{ap, subst, sym, ◌∙◌}

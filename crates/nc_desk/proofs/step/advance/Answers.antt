@@ -1,6 +1,6 @@
 use Rattle.nc_algebra.specs.Monomials.{Sig, monomial_of}
 use Rattle.nc_desk.proofs.Steps.{advances, next_of_run}
-use Rattle.nc_search.specs.Untraced.{IsNextOfRun, untraced}
+use Rattle.nc_theory.specs.Untraced.{IsNextOfRun, untraced}
 use Rattle.nc_snapshot.specs.Outcomes.{outcome_of}
 use Rattle.nc_snapshot.specs.Snapshots.{Snapshot}
 use Rattle.nc_theory.specs.Runs.{Handles, Outcome, state_after}

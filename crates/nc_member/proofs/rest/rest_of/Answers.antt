@@ -2,8 +2,8 @@ use Rattle.nc_algebra.specs.Problems.{IsWithin}
 use Rattle.nc_member.proofs.Ends.{rest_at}
 use Rattle.nc_member.specs.Members.{IsRestOf}
 use Rattle.nc_reduce.specs.declared.reduction.Rest.{Rest}
-use Rattle.nc_search.proofs.Handling.{words_small}
-use Rattle.nc_search.specs.Usable.{HasSmallWords}
+use Rattle.nc_theory.proofs.Handling.{words_small}
+use Rattle.nc_theory.specs.Usable.{HasSmallWords}
 use Rattle.nc_snapshot.specs.Snapshots.{IsSnapshot, Snapshot}
 use Rattle.nc_theory.specs.Reductions.{Reduction}
 use Rattle.std.proofs.Common.{subst, sym}

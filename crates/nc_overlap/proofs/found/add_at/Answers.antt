@@ -2,7 +2,7 @@ use Rattle.nc_algebra.specs.Monomials.{monomial_of}
 use Rattle.nc_algebra.specs.Problems.{Problem}
 use Rattle.nc_overlap.proofs.Additions.{adds_none, adds_only}
 use Rattle.nc_overlap.specs.Sides.{side_sig}
-use Rattle.nc_search.specs.Meetings.{MeetAt}
+use Rattle.nc_theory.specs.Meetings.{MeetAt}
 use Rattle.std.proofs.Common.{map}
 use Rattle.std.proofs.lemmas.Result.{on_ok_weaker}
 use Rattle.std.specs.Arc.{arc_value}

@@ -2,8 +2,8 @@ use Rattle.nc_algebra.specs.Monomials.{Sig}
 use Rattle.nc_algebra.specs.Problems.{NamedProblem, Problem}
 use Rattle.nc_overlap.proofs.Additions.{adds_entries, adds_entry, adds_step}
 use Rattle.nc_overlap.specs.Overlaps.{AddsMeetings, IsLedBy}
-use Rattle.nc_search.proofs.Indexed.{OfEntry}
-use Rattle.nc_search.specs.Meetings.{MeetSomewhere}
+use Rattle.nc_theory.proofs.Indexed.{OfEntry}
+use Rattle.nc_theory.specs.Meetings.{MeetSomewhere}
 use Rattle.nc_theory.specs.States.{Entry}
 use Rattle.std.proofs.Common.{List, arith, get_or, map, subst, ℕ, ◌∙◌, ◌≡◌, ◌⊎◌}
 use Rattle.std.specs.Arc.{arc_value}

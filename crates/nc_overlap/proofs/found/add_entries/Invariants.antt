@@ -1,6 +1,6 @@
 use Rattle.nc_overlap.specs.Overlaps.{Adds, IsLedBy}
-use Rattle.nc_search.proofs.Indexed.{Before, OfEntry}
-use Rattle.nc_search.specs.Meetings.{MeetSomewhere}
+use Rattle.nc_theory.proofs.Indexed.{Before, OfEntry}
+use Rattle.nc_theory.specs.Meetings.{MeetSomewhere}
 use Rattle.nc_theory.specs.States.{Entry}
 use Rattle.std.proofs.Common.{map, ◌⊎◌}
 use Rattle.std.specs.Arc.{arc_value}

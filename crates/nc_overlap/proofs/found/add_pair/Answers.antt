@@ -3,7 +3,7 @@ use Rattle.nc_algebra.specs.Monomials.{Sig}
 use Rattle.nc_algebra.specs.Polynomials.{leading}
 use Rattle.nc_algebra.specs.Problems.{Problem}
 use Rattle.nc_overlap.proofs.Additions.{adds_places, adds_start, adds_step, enough_more}
-use Rattle.nc_search.specs.Meetings.{MeetAt}
+use Rattle.nc_theory.specs.Meetings.{MeetAt}
 use Rattle.std.proofs.Common.{ap, arith, length, map, sym, ◌∙◌}
 use Rattle.std.specs.Arc.{arc_value}
 use Rattle.nc_overlap.proofs.found.add_pair.Goals as goal

@@ -2,7 +2,7 @@ use Rattle.nc_algebra.specs.Words.{Word}
 use Rattle.nc_overlap.proofs.Meetings.{apart, meets, words_differ, words_same}
 use Rattle.nc_overlap.proofs.Sides.{multiple_degree}
 use Rattle.nc_overlap.specs.Sides.{side_sig}
-use Rattle.nc_search.proofs.Meetings.{not_empty}
+use Rattle.nc_theory.proofs.Meetings.{not_empty}
 use Rattle.std.proofs.Common.{[], arith, length, option_map, ◌+◌, ◌<◌}
 use Rattle.nc_algebra.specs.Monomials.{monomial_of}
 use Rattle.nc_overlap.proofs.meeting.greater_side.Goals.{else-at-eq0-via-then-at-eq0+else-is_empty, else-at-eq0-via-else-at-eq0}

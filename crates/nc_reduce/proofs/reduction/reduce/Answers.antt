@@ -4,7 +4,7 @@ use Rattle.nc_algebra.specs.Problems.{setting_of}
 use Rattle.nc_snapshot.proofs.Snapshots.{snapshot_usable}
 use Rattle.nc_reduce.proofs.Limits.{reduced_at}
 use Rattle.nc_reduce.proofs.Starts.{start_normal, start_readable, start_small}
-use Rattle.nc_search.specs.Usable.{HasSmallWords}
+use Rattle.nc_theory.specs.Usable.{HasSmallWords}
 use Rattle.nc_snapshot.specs.Traces.{start_of}
 use Rattle.nc_theory.specs.Reductions.{ReductionAt}
 use Rattle.std.proofs.Common.{subst, sym}

@@ -1,6 +1,6 @@
 use Rattle.nc_algebra.specs.Problems.{IsWithin}
 use Rattle.nc_reduce.proofs.Limits.{reduced_within}
-use Rattle.nc_search.proofs.Snapshots.{facts}
+use Rattle.nc_theory.proofs.Snapshots.{facts}
 use Rattle.nc_snapshot.proofs.Snapshots.{snapshot_prime}
 use Rattle.nc_theory.specs.Reductions.{Reduction}
 use Rattle.std.proofs.Common.{subst}

@@ -1,6 +1,6 @@
 use Rattle.nc_algebra.proofs.Leading.{leading-normal}
 use Rattle.nc_algebra.specs.Polynomials.{IsNormal, leading}
-use Rattle.nc_search.proofs.Products.{lead_coefficient}
+use Rattle.nc_theory.proofs.Products.{lead_coefficient}
 use Rattle.std.proofs.Common.{ap, subst, sym, ◌∙◌}
 use Rattle.nc_reduce.proofs.step.lead_of.Goals as goal
 

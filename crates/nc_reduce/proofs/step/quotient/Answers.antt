@@ -1,4 +1,4 @@
-use Rattle.nc_search.proofs.Products.{quotient_is}
+use Rattle.nc_theory.proofs.Products.{quotient_is}
 use Rattle.nc_reduce.proofs.step.quotient.Goals as goal
 
 pub returns-clause-quotient : goal.returns-clause-quotient

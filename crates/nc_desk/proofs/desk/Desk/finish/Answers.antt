@@ -2,7 +2,7 @@ use Rattle.nc_desk.proofs.Endings.{budget_bases, budget_end, complete_bases, com
 use Rattle.nc_desk.proofs.Steps.{least_degree}
 use Rattle.nc_desk.specs.Desks.{Desk, MayStep}
 use Rattle.nc_desk.specs.Ends.{Finished}
-use Rattle.nc_search.specs.Bases.{AreCanonical, HasBasesAt}
+use Rattle.nc_theory.specs.EndBases.{AreCanonical, HasBasesAt}
 use Rattle.nc_snapshot.proofs.Snapshots.{snapshot_canonical}
 use Rattle.std.proofs.Common.{refl, subst, sym}
 use Rattle.nc_desk.proofs.desk.Desk.finish.Goals as goal

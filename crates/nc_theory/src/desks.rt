@@ -1,0 +1,48 @@
+//! The theorems on working ahead: which outcomes stand later, and desks.
+
+ghost use Rattle.nc_theory.specs.DeskLaws.{AnswersAreDetermined, DeskCounts, FinishedLaw, OwnWorkStands, PlaysAreDetermined, PlaysExist, SnapshotLaw, StaleLaw, WindowsAreKept};
+
+/// When an outcome stands over a later state.
+pub fn stale_law()
+    ensures { StaleLaw }
+{}
+
+/// Every play of events leaves the desk at a state of the run, within the steps.
+pub fn snapshot_law()
+    ensures { SnapshotLaw }
+{}
+
+/// A desk is finished exactly where its run has an end.
+pub fn finished_law()
+    ensures { FinishedLaw }
+{}
+
+/// The counts of a desk add up.
+pub fn desk_counts()
+    ensures { DeskCounts }
+{}
+
+/// A work over the desk's own state is never dropped.
+pub fn own_work_stands()
+    ensures { OwnWorkStands }
+{}
+
+/// A desk's window ascends, waits, uses each index once, and holds the next signature where it is full.
+pub fn window_law()
+    ensures { WindowsAreKept }
+{}
+
+/// Each list of events has a play.
+pub fn plays_exist()
+    ensures { PlaysExist }
+{}
+
+/// A list of events leaves one desk.
+pub fn plays_are_determined()
+    ensures { PlaysAreDetermined }
+{}
+
+/// A claim, a work that comes in, and a ticket that is given back have one answer each.
+pub fn answers_are_determined()
+    ensures { AnswersAreDetermined }
+{}
