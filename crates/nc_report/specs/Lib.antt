@@ -1,2 +1,3 @@
-pub mod Reports
 pub mod Traces
+pub mod Reports
+pub mod Shown

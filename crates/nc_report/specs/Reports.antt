@@ -4,10 +4,16 @@
 -- syzygies, each behind its number. The lines of an item are a parameter, so that a caller can put
 -- the cofactors behind them. Entries and syzygies are numbered separately, each from 1.
 -- docs/FORMATS.md shows reports to users.
+use Rattle.nc_algebra.specs.Elements.{Element}
 use Rattle.nc_algebra.specs.Monomials.{Monomial}
-use Rattle.nc_print.specs.Printing.{ended, poly_text, sig_text}
+use Rattle.nc_options.specs.declared.options.Cofactors.{Cofactors}
+use Rattle.nc_options.specs.declared.options.Cofactors.TheVariants.{Full, Omitted, Trace as TraceOf}
+use Rattle.nc_print.specs.Printing.{ended, module_text, poly_text, sig_text}
+use Rattle.nc_report.specs.Traces.{trace_text}
+use Rattle.nc_snapshot.specs.declared.outcome.Listed.{Listed}
+use Rattle.nc_snapshot.specs.declared.outcome.Listed.TheVariants.{Entry as EntryOf, Syzygy as SyzygyOf}
 use Rattle.nc_theory.specs.Runs.{End}
-use Rattle.nc_theory.specs.States.{Entry, State, Syzygy}
+use Rattle.nc_theory.specs.States.{Entry, State, Syzygy, Trace}
 use Rattle.std.specs.Prelude.{List, [], codes, decimal, length, ℕ, ◌++◌, ◌+◌, ◌∷◌}
 
 -- the next signature where the steps were used up
@@ -52,3 +58,23 @@ run_lines names of_entry of_syzygy handled state ending =
 -- each line is ended by a line feed
 abbrev pub run_report : List (List ℕ) → (ℕ → Entry → List (List ℕ)) → (ℕ → Syzygy → List (List ℕ)) → ℕ → State → End → List ℕ
 run_report names of_entry of_syzygy handled state ending = ended (run_lines names of_entry of_syzygy handled state ending)
+
+-- ---- with cofactors
+
+-- what is shown behind an item: nothing, the trace, or the label
+abbrev pub cofactor_lines : Cofactors → List (List ℕ) → Trace → Element → List (List ℕ)
+cofactor_lines Omitted names t label = []
+cofactor_lines TraceOf names t label = (codes "trace " ++ trace_text names t) ∷ []
+cofactor_lines Full names t label = (codes "label " ++ module_text names label) ∷ []
+
+-- an entry, and what is shown behind it
+abbrev pub entry_lines : Cofactors → List (List ℕ) → (Listed → Element) → ℕ → Entry → List (List ℕ)
+entry_lines cofactors names labels k e = entry_line names k e ∷ cofactor_lines cofactors names e.trace (labels (EntryOf k))
+
+-- a syzygy, and what is shown behind it
+abbrev pub syzygy_lines : Cofactors → List (List ℕ) → (Listed → Element) → ℕ → Syzygy → List (List ℕ)
+syzygy_lines cofactors names labels k h = syzygy_line names k h ∷ cofactor_lines cofactors names h.trace (labels (SyzygyOf k))
+
+-- the end line, the counts line, and the lines of each entry and of each syzygy
+abbrev pub basis_report : Cofactors → List (List ℕ) → (Listed → Element) → ℕ → State → End → List ℕ
+basis_report cofactors names labels handled run ending = run_report names (entry_lines cofactors names labels) (syzygy_lines cofactors names labels) handled run ending

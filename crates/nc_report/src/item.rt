@@ -11,7 +11,7 @@ use std::alloc::AllocError;
 
 /// Appends the line of an entry behind its number. Each letter needs a name. After `Err` the text in `out` may be part of
 /// it.
-pub fn write_entry(
+pub(crate) fn write_entry(
     out: &mut Vec<u8>,
     names: &[Name],
     number: u32,
@@ -33,7 +33,7 @@ pub fn write_entry(
 
 /// Appends the line of a syzygy behind its number. Each letter needs a name. After `Err` the text in `out` may be part of
 /// it.
-pub fn write_syzygy(
+pub(crate) fn write_syzygy(
     out: &mut Vec<u8>,
     names: &[Name],
     number: u32,

@@ -1,10 +1,13 @@
-//! What is printed of a run: how it ended, its counts, its entries and syzygies, and their traces.
+//! The report on a run: how it ended, its counts, its entries and syzygies, and what is shown of their cofactors.
 #![tactic(auto)]
 
 mod item;
+mod listing;
+mod named;
+mod shown;
 mod summary;
 mod trace;
 
-pub use item::{write_entry, write_syzygy};
-pub use summary::{write_budget, write_complete, write_counts};
-pub use trace::write_trace;
+pub use listing::report_on;
+pub use named::names_of;
+pub use shown::Shown;

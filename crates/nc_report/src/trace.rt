@@ -73,7 +73,7 @@ fn write_steps(out: &mut Vec<u8>, names: &[Name], steps: &[Step]) -> Result<(), 
 }
 
 /// Appends a trace. Each letter needs a name. After `Err` the text in `out` may be part of it.
-pub fn write_trace(out: &mut Vec<u8>, names: &[Name], trace: &Trace) -> Result<(), AllocError>
+pub(crate) fn write_trace(out: &mut Vec<u8>, names: &[Name], trace: &Trace) -> Result<(), AllocError>
     requires start { StartIsNamed (length names.now) trace.now.start }
     requires left { All (λ t. All (λ x. x.index < length names.now) t.left) trace.now.steps }
     requires right { All (λ t. All (λ x. x.index < length names.now) t.right) trace.now.steps }

@@ -1,6 +1,6 @@
 -- What a state of a run has enough of, in the form in which programs promise it.
 --
--- The notions are those of `Bases.antt` of nc_theory, put together: for a set of monomials, and for
+-- The notions are those of `Bases.antt`, put together: for a set of monomials, and for
 -- how a run ended.
 use Rattle.nc_algebra.specs.Elements.{SamePolynomial, Setting}
 use Rattle.nc_algebra.specs.Monomials.{Monomial}

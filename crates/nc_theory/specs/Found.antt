@@ -1,8 +1,8 @@
 -- What searches find, as words and numbers.
 --
 -- The theory speaks of divisors, which are values with proofs. A program hands on the number of an
--- entry and the words around a place. These records are what it hands on; the other files of this
--- crate say for each search when such a record is the right answer. Where a search may find
+-- entry and the words around a place. These records are what it hands on; the other
+-- files say for each search when such a record is the right answer. Where a search may find
 -- nothing, they also say what `None` means. Numbers of entries count from 1.
 use Rattle.nc_algebra.specs.Words.{Word}
 use Rattle.std.specs.Prelude.{ℕ}

@@ -42,7 +42,8 @@ use Rattle.nc_tokens.specs.declared.fault.TextFault.{TextFault}
 use Rattle.nc_top.proofs.Inputs.{err_or_ok, same_fault}
 use Rattle.nc_top.specs.Basis.{AreLabelled, AreShort, AreShown, IsBasis, IsBasisAnswer, IsProblemText, IsTooManyTerms, reads_relations, status_at}
 use Rattle.nc_top.specs.Inputs.{IsBadText, IsTooLarge}
-use Rattle.nc_top.specs.Reports.{bad_text_report, basis_report, cofactor_lines, entry_lines, syzygy_lines, too_many_report}
+use Rattle.nc_report.specs.Reports.{basis_report, cofactor_lines, entry_lines, syzygy_lines}
+use Rattle.nc_top.specs.Reports.{bad_text_report, too_many_report}
 use Rattle.nc_top.specs.declared.status.Status.{Status}
 use Rattle.nc_top.specs.declared.status.Status.TheVariants.{BadText, Budget, Done, Invalid, NotBelow, OutOfMemory, ReadFault, TooLarge, TooMany, TooMuch, Usage, WriteFault}
 use Rattle.std.proofs.Common.{Err, List, None, Ok, Option, Some, [], ap, ap₂, arith, codes, false, get_or, inl, inr, length, refl, slice_get, subst, subst₂, suc, sym, ℕ, ◌+◌, ◌++◌, ◌-◌, ◌∙◌, ◌∷◌, ◌<◌, ◌≡◌, ◌≤◌, ◌⊎◌}

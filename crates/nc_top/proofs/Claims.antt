@@ -30,7 +30,7 @@ use Rattle.nc_tokens.specs.Lines.{Written, lines, the_end, written}
 use Rattle.nc_tokens.specs.declared.fault.TextFault.{TextFault}
 use Rattle.nc_field.proofs.Primes.{listed_is_prime}
 use Rattle.nc_top.proofs.BasisAnswers.{field_of}
-use Rattle.nc_top.proofs.Letters.{IsNamed, named, words_named}
+use Rattle.nc_report.proofs.Letters.{IsNamed, named, words_named}
 use Rattle.nc_top.specs.Member.{IsClaimText, reads_claim}
 use Rattle.nc_text.proofs.ReadProblems.{reads_problems}
 use Rattle.std.proofs.Common.{All, Contains, IfOk, List, None, Ok, Option, Result, Some, arith, length, refl, subst, sym, true, ℕ, ◌<◌, ◌∙◌, ◌≡◌, ◌≤◌}

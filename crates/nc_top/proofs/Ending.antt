@@ -19,12 +19,13 @@ use Rattle.nc_snapshot.specs.declared.outcome.Listed.TheVariants.{Claim, Entry a
 use Rattle.nc_theory.specs.Runs.{End}
 use Rattle.nc_theory.specs.States.{State}
 use Rattle.nc_top.proofs.BasisAnswers.{answered, basis_from, ended_run}
-use Rattle.nc_top.proofs.Showing.{entries_count, one_run, syzygies_count}
+use Rattle.nc_report.proofs.Showing.{entries_count, one_run, syzygies_count}
 use Rattle.nc_top.specs.Basis.{AreShort, AreShown, IsBasisAnswer, IsProblemText, IsTooManyTerms, status_at}
-use Rattle.nc_top.specs.Reports.{basis_report, too_many_report}
-use Rattle.nc_top.specs.Shown.{AreAllLabels, IsRunAt, IsShownOf, kind_of, label_among, labels_in}
-use Rattle.nc_top.specs.declared.shown.Shown.{Shown}
-use Rattle.nc_top.specs.declared.shown.Shown.TheVariants.{Labelled, Nothing, Traces}
+use Rattle.nc_report.specs.Reports.{basis_report}
+use Rattle.nc_top.specs.Reports.{too_many_report}
+use Rattle.nc_report.specs.Shown.{AreAllLabels, IsRunAt, IsShownOf, kind_of, label_among, labels_in}
+use Rattle.nc_report.specs.declared.shown.Shown.{Shown}
+use Rattle.nc_report.specs.declared.shown.Shown.TheVariants.{Labelled, Nothing, Traces}
 use Rattle.nc_top.specs.declared.status.Status.{Status}
 use Rattle.std.proofs.Common.{List, None, Some, [], ap, arith, get_or, inl, inr, length, refl, slice_get, subst, sym, ℕ, ◌-◌, ◌<◌, ◌∙◌, ◌≡◌, ◌≤◌, ◌⊎◌}
 use Rattle.std.proofs.lemmas.Option.{get_or_from_slice_get, slice_get_cases}

@@ -2,9 +2,6 @@ pub mod Inputs
 pub mod CheckAnswers
 pub mod BasisAnswers
 pub mod Answers
-pub mod Letters
-pub mod Numbered
-pub mod Showing
 pub mod Limits
 pub mod Ending
 pub mod Claims

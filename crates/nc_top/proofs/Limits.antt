@@ -14,8 +14,8 @@ use Rattle.nc_snapshot.specs.declared.outcome.Listed.TheVariants.{Claim, Entry a
 use Rattle.nc_theory.specs.Labels.{label_at, labels_of}
 use Rattle.nc_theory.specs.States.{State}
 use Rattle.nc_top.proofs.BasisAnswers.{prime_of}
-use Rattle.nc_top.proofs.Showing.{entries_count, one_run, syzygies_count}
-use Rattle.nc_top.specs.Shown.{FailsToShow, IsRunAt}
+use Rattle.nc_report.proofs.Showing.{entries_count, one_run, syzygies_count}
+use Rattle.nc_report.specs.Shown.{FailsToShow, IsRunAt}
 use Rattle.std.proofs.Common.{All, List, None, Some, arith, get_or, inl, inr, length, refl, slice_get, subst, sym, ℕ, ◌-◌, ◌<◌, ◌≡◌, ◌≤◌, ◌⊎◌}
 use Rattle.std.proofs.lemmas.Option.{slice_get_cases, slice_get_within}
 

@@ -17,7 +17,7 @@ use Rattle.nc_theory.specs.Labels.{labels_of, step_multiples}
 use Rattle.nc_theory.specs.Runs.{End}
 use Rattle.nc_theory.specs.States.{State, Step}
 use Rattle.nc_top.proofs.Claims.{claim_in, claim_named, rest_named, terms_left, terms_right}
-use Rattle.nc_top.proofs.Showing.{one_run}
+use Rattle.nc_report.proofs.Showing.{one_run}
 use Rattle.nc_top.specs.Member.{Ended, IsClaimText, IsEnded, IsLines, IsNotBelow, IsTerms, IsTooManyInSum, IsUndecided}
 use Rattle.nc_top.specs.Reports.{not_below_report, too_many_report, undecided_report}
 use Rattle.std.proofs.Common.{All, List, [], ap, length, refl, subst, sym, ℕ, ◌++◌, ◌<◌, ◌∙◌, ◌≡◌}

@@ -29,7 +29,8 @@ use Rattle.nc_theory.specs.Runs.{End, IsEnd}
 use Rattle.nc_theory.specs.States.{Entry, State, Syzygy}
 use Rattle.nc_tokens.specs.declared.fault.TextFault.{TextFault}
 use Rattle.nc_top.specs.Inputs.{IsBadText, IsTooLarge}
-use Rattle.nc_top.specs.Reports.{basis_report, too_many_report}
+use Rattle.nc_report.specs.Reports.{basis_report}
+use Rattle.nc_top.specs.Reports.{too_many_report}
 use Rattle.nc_top.specs.declared.status.Status.{Status}
 use Rattle.nc_top.specs.declared.status.Status.TheVariants.{BadText, Budget, Done, Invalid, NotBelow, OutOfMemory, ReadFault, TooLarge, TooMany, TooMuch, Usage, WriteFault}
 use Rattle.std.specs.Prelude.{Contains, List, Ok, Option, [], false, length, ℕ, ◌+◌, ◌≡◌, ◌≤◌}

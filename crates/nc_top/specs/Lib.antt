@@ -4,6 +4,5 @@ pub mod Inputs
 pub mod Check
 pub mod Basis
 pub mod Member
-pub mod Shown
 pub mod Run
 pub mod Laws

@@ -54,21 +54,3 @@ item_text Claim terms = codes "claim has " ++ decimal terms
 -- the item whose label has more terms than the limit, and how many
 abbrev pub too_many_report : Listed → ℕ → List ℕ
 too_many_report listed terms = codes "too many terms: " ++ (item_text listed terms ++ codes "\n")
-
--- what is shown behind an item: nothing, the trace, or the label
-abbrev pub cofactor_lines : Cofactors → List (List ℕ) → Trace → Element → List (List ℕ)
-cofactor_lines Omitted names t label = []
-cofactor_lines TraceOf names t label = (codes "trace " ++ trace_text names t) ∷ []
-cofactor_lines Full names t label = (codes "label " ++ module_text names label) ∷ []
-
--- an entry, and what is shown behind it
-abbrev pub entry_lines : Cofactors → List (List ℕ) → (Listed → Element) → ℕ → Entry → List (List ℕ)
-entry_lines cofactors names labels k e = entry_line names k e ∷ cofactor_lines cofactors names e.trace (labels (EntryOf k))
-
--- a syzygy, and what is shown behind it
-abbrev pub syzygy_lines : Cofactors → List (List ℕ) → (Listed → Element) → ℕ → Syzygy → List (List ℕ)
-syzygy_lines cofactors names labels k h = syzygy_line names k h ∷ cofactor_lines cofactors names h.trace (labels (SyzygyOf k))
-
--- the end line, the counts line, and the lines of each entry and of each syzygy
-abbrev pub basis_report : Cofactors → List (List ℕ) → (Listed → Element) → ℕ → State → End → List ℕ
-basis_report cofactors names labels handled run ending = run_report names (entry_lines cofactors names labels) (syzygy_lines cofactors names labels) handled run ending

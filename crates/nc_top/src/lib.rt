@@ -7,11 +7,8 @@ ghost use Rattle.nc_top.specs.Laws.{CompleteMembers, CompleteRuns, FaultlessRuns
 mod basis;
 mod check;
 mod input;
-mod item;
-mod listing;
 mod member;
 mod run;
-mod shown;
 mod status;
 
 pub use run::run_alone;

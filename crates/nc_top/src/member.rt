@@ -9,7 +9,6 @@ ghost use Rattle.std.specs.Prelude.{All, IfOk, Ok, OnOk, length, ◌++◌, ◌<�
 
 use crate::basis::{run_problem, too_many_report};
 use crate::input::bad_text_report;
-use crate::item::names_of;
 use crate::status::Status;
 use nc_cofactor::CofactorFault;
 use nc_desk::{End, Finished};
@@ -18,6 +17,7 @@ use nc_module::{Lines, Module, Name, Problem};
 use nc_options::{Form, MemberOptions};
 use nc_poly::Poly;
 use nc_print::{write_poly, write_proof, write_sig, write_terms};
+use nc_report::names_of;
 use nc_sig::Sig;
 use nc_text::{ProblemText, ReadFault, read_problem};
 use std::alloc::{AllocError, Global};

@@ -3,7 +3,7 @@ use Rattle.nc_snapshot.specs.Snapshots.{IsSnapshot, Snapshot}
 use Rattle.nc_theory.specs.States.{State}
 use Rattle.nc_top.proofs.Ending.{answer_at, many_at}
 use Rattle.nc_top.specs.Basis.{AreShort}
-use Rattle.nc_top.specs.Shown.{FailsToShow, IsRunAt, IsShownOf}
+use Rattle.nc_report.specs.Shown.{FailsToShow, IsRunAt, IsShownOf}
 use Rattle.std.proofs.Common.{subst}
 use Rattle.std.proofs.lemmas.Result.{IfOk-weaker}
 use Rattle.nc_top.proofs.basis.answer_problem.Goals as goal

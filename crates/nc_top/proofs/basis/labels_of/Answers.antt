@@ -1,7 +1,7 @@
 use Rattle.nc_cofactor.specs.Terms.{AllWithin}
 use Rattle.nc_theory.specs.States.{State}
 use Rattle.nc_top.proofs.Limits.{all_short, entry_fault, syzygy_fault}
-use Rattle.nc_top.specs.Shown.{FailsToShow, IsRunAt}
+use Rattle.nc_report.specs.Shown.{FailsToShow, IsRunAt}
 use Rattle.std.proofs.Common.{subst, ℕ}
 use Rattle.nc_top.proofs.basis.labels_of.Goals as goal
 

@@ -2,7 +2,7 @@ use Rattle.nc_algebra.specs.Monomials.{Sig, monomial_of}
 use Rattle.nc_desk.specs.Ends.{end_of}
 use Rattle.nc_snapshot.specs.Snapshots.{IsSnapshot, Snapshot}
 use Rattle.nc_theory.specs.Runs.{End}
-use Rattle.nc_top.proofs.Letters.{budget_left, budget_right}
+use Rattle.nc_report.proofs.Letters.{budget_left, budget_right}
 use Rattle.nc_top.proofs.MemberEnds.{open_names, undecided_at}
 use Rattle.std.proofs.Common.{All, ap, length, subst, sym, ◌<◌, ◌∙◌}
 use Rattle.nc_top.proofs.member.answer_undecided.Goals as goal

@@ -1,0 +1,125 @@
+//! What is shown behind the items of a run.
+
+ghost use Rattle.nc_algebra.specs.Elements.{Element};
+ghost use Rattle.nc_cofactor.specs.Traces.{IsListed, IsTraceIn};
+ghost use Rattle.nc_module.specs.Modules.{element_of};
+ghost use Rattle.nc_options.specs.declared.options.Cofactors.TheVariants.{Full, Trace as TraceOf};
+ghost use Rattle.nc_print.specs.Printing.{ended};
+ghost use Rattle.nc_reduce.specs.Leads.{LeadsOf};
+ghost use Rattle.nc_theory.specs.States.{State, Trace as Proof};
+ghost use Rattle.nc_report.specs.Reports.{cofactor_lines};
+ghost use Rattle.nc_report.specs.Shown.{AreAllLabels, IsRunAt, IsShownOf, IsTraceNamed, kind_of, label_among, labels_in};
+ghost use Rattle.std.specs.Prelude.{All, IfOk, OnOk, length, ◌++◌, ◌<◌, ◌≡◌};
+
+use crate::named::names_of;
+use crate::trace::write_trace;
+use nc_cofactor::{Labels, trace_of};
+use nc_index::Leads;
+use nc_module::{Module, Name};
+use nc_print::write_module;
+use nc_snapshot::{Listed, Snapshot, Trace};
+use std::alloc::{AllocError, Global};
+
+/// What is shown behind each entry and each syzygy.
+#[derive(Drop)]
+pub enum Shown {
+    /// Nothing.
+    Nothing,
+    /// Their traces, each made again where it is written.
+    Traces,
+    /// Their labels, those of the entries and those of the syzygies.
+    Labelled {
+        entries: Labels,
+        syzygies: Vec<Module>,
+    },
+}
+
+/// The trace of an item, whose letters have names.
+fn named_trace(
+    alloc: Global,
+    snapshot: &Snapshot,
+    leads: &Leads,
+    listed: Listed,
+) -> Result<Trace, AllocError>
+    requires leads { LeadsOf snapshot.now leads.now }
+    requires listed { IsListed snapshot.now.state listed }
+    ensures trace { IfOk result (λ t. (run : State) → IsRunAt snapshot.now run → IsTraceIn run listed t) }
+    ensures named { IfOk result (IsTraceNamed (length snapshot.now.problem.alphabet.names)) }
+{
+    snapshot.recall_rule();
+    trace_of(alloc, snapshot, leads, listed)
+}
+
+/// Appends the line of an item's trace.
+fn write_trace_line(
+    alloc: Global,
+    out: &mut Vec<u8>,
+    snapshot: &Snapshot,
+    leads: &Leads,
+    listed: Listed,
+) -> Result<(), AllocError>
+    requires leads { LeadsOf snapshot.now leads.now }
+    requires listed { IsListed snapshot.now.state listed }
+    ensures { OnOk result ((run : State) (t : Proof) (label : Element) → IsRunAt snapshot.now run → IsTraceIn run listed t → out.new.items ≡ out.old.items ++ ended (cofactor_lines TraceOf snapshot.now.problem.alphabet.names t label)) }
+{
+    let trace = named_trace(alloc, snapshot, leads, listed)?;
+    out.extend_from_slice(b"trace ")?;
+    write_trace(out, names_of(snapshot), &trace)?;
+    out.extend_from_slice(b"\n")
+}
+
+/// Appends the line of a label.
+fn write_label_line(out: &mut Vec<u8>, names: &[Name], label: &Module) -> Result<(), AllocError>
+    requires left { All (λ t. All (λ x. x.index < length names.now) t.key.left) label.now }
+    requires right { All (λ t. All (λ x. x.index < length names.now) t.key.right) label.now }
+    ensures { OnOk result ((t : Proof) → out.new.items ≡ out.old.items ++ ended (cofactor_lines Full names.now t (element_of label.now))) }
+{
+    out.extend_from_slice(b"label ")?;
+    write_module(out, names, label)?;
+    out.extend_from_slice(b"\n")
+}
+
+/// The label of an item, whose letters have names.
+fn label_in<'a>(
+    snapshot: &Snapshot,
+    entries: &'a Labels,
+    syzygies: &'a [Module],
+    listed: Listed,
+) -> &'a Module
+    requires labels { AreAllLabels snapshot.now entries.now syzygies.now }
+    requires listed { IsListed snapshot.now.state listed }
+    ensures label { element_of result.now ≡ label_among entries.now syzygies.now listed }
+    ensures left { All (λ t. All (λ x. x.index < length snapshot.now.problem.alphabet.names) t.key.left) result.now }
+    ensures right { All (λ t. All (λ x. x.index < length snapshot.now.problem.alphabet.names) t.key.right) result.now }
+{
+    snapshot.recall_rule();
+    match listed {
+        Listed::Entry(k) => entries.entry(k),
+        Listed::Syzygy(k) => &syzygies[k as usize - 1],
+        Listed::Claim => unreachable!(),
+    }
+}
+
+/// Appends what is shown behind an item.
+pub(crate) fn write_shown(
+    alloc: Global,
+    out: &mut Vec<u8>,
+    snapshot: &Snapshot,
+    leads: &Leads,
+    shown: &Shown,
+    listed: Listed,
+) -> Result<(), AllocError>
+    requires leads { LeadsOf snapshot.now leads.now }
+    requires shown { IsShownOf snapshot.now shown.now }
+    requires listed { IsListed snapshot.now.state listed }
+    ensures { OnOk result ((run : State) (t : Proof) → IsRunAt snapshot.now run → IsTraceIn run listed t → out.new.items ≡ out.old.items ++ ended (cofactor_lines (kind_of shown.now) snapshot.now.problem.alphabet.names t (labels_in shown.now listed))) }
+{
+    match shown {
+        Shown::Nothing => Ok(()),
+        Shown::Traces => write_trace_line(alloc, out, snapshot, leads, listed),
+        Shown::Labelled { entries, syzygies } => {
+            let label = label_in(snapshot, entries, syzygies, listed);
+            write_label_line(out, names_of(snapshot), label)
+        }
+    }
+}
