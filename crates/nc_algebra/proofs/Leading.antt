@@ -6,7 +6,7 @@ use Rattle.nc_algebra.proofs.Sums.{at_other, key_dec, lead_unique, top, zero_num
 use Rattle.nc_algebra.proofs.Words.{not_below_empty, word_laws, word_less_complete, word_less_sound, word_total, word_trans}
 use Rattle.nc_algebra.specs.Polynomials.{IsNormal, Polynomial, coefficient, leading, leading_among}
 use Rattle.nc_algebra.specs.Primes.{IsZero}
-use Rattle.nc_algebra.specs.Sums.{Leads, Term}
+use Rattle.nc_algebra.specs.Sums.{IsLeadingKey, Term}
 use Rattle.nc_algebra.specs.Words.{IsWordLess, Word, compare_words, same_word}
 use Rattle.std.proofs.Common.{◌≡◌, ℕ, ◌*◌, ◌%◌, ◌<◌, ◌⊎◌, ◌≢◌, Bool, true, false, is_lt, nat_eq, [], ◌∷◌, refl, sym, ap, ◌∙◌, subst, inl, inr, arith}
 use Rattle.std.proofs.lemmas.List.Elements.{recursion_from_All}
@@ -59,16 +59,16 @@ among_counts p f (t ∷ g) = go (nat_eq (coefficient f t.key % p) 0) refl (is_lt
     go false e true d h = rw (e, d) h
     go false e false d h = rw (e, d) (inr (λ z. false≢true (sym e ∙ eq-eqb (coefficient f t.key % p) 0 z)))
 
-pub lead_leads : (p : ℕ) (f : Polynomial) → ¬ ((w : Word) → IsZero p (coefficient f w)) → Leads same_word IsWordLess p f (leading p f)
+pub lead_leads : (p : ℕ) (f : Polynomial) → ¬ ((w : Word) → IsZero p (coefficient f w)) → IsLeadingKey same_word IsWordLess p f (leading p f)
 unfolding leading
 lead_leads p f n = go (top same_word IsWordLess word_laws p f)
   where
-    place : (k : Word) → Leads same_word IsWordLess p f k → IsAtMost k (leading_among p f f) → (leading_among p f f ≡ []) ⊎ ¬ IsZero p (coefficient f (leading_among p f f)) → Leads same_word IsWordLess p f (leading_among p f f)
-    place k d (inl e) o = subst (Leads same_word IsWordLess p f) e d
+    place : (k : Word) → IsLeadingKey same_word IsWordLess p f k → IsAtMost k (leading_among p f f) → (leading_among p f f ≡ []) ⊎ ¬ IsZero p (coefficient f (leading_among p f f)) → IsLeadingKey same_word IsWordLess p f (leading_among p f f)
+    place k d (inl e) o = subst (IsLeadingKey same_word IsWordLess p f) e d
     place k d (inr h) (inl e) = absurd (not_below_empty k (subst (IsWordLess k) e h))
     place k d (inr h) (inr m) = absurd (m (d.above (leading_among p f f) h))
 
-    go : ((w : Word) → IsZero p (coefficient f w)) ⊎ ((k : Word) × Leads same_word IsWordLess p f k) → Leads same_word IsWordLess p f (leading_among p f f)
+    go : ((w : Word) → IsZero p (coefficient f w)) ⊎ ((k : Word) × IsLeadingKey same_word IsWordLess p f k) → IsLeadingKey same_word IsWordLess p f (leading_among p f f)
     go (inl z) = absurd (n z)
     go (inr (k, d)) = place k d (among_most p f f k d.nonzero (occurs p f k d.nonzero)) (among_counts p f f)
 
@@ -76,5 +76,5 @@ lead_leads p f n = go (top same_word IsWordLess word_laws p f)
 pub leading-normal : (p : ℕ) (t : Term Word) (f : Polynomial) → IsNormal p (t ∷ f) → leading p (t ∷ f) ≡ t.key
 leading-normal p t f n = lead_unique same_word IsWordLess word_laws p (t ∷ f) (leading p (t ∷ f)) t.key (lead_leads p (t ∷ f) (λ z. first.nonzero (z t.key))) first
   where
-    first : Leads same_word IsWordLess p (t ∷ f) t.key
+    first : IsLeadingKey same_word IsWordLess p (t ∷ f) t.key
     first = normal_leads p t f n.0 (recursion_from_All (λ u. u.coefficient < p) (t ∷ f) n.1).0

@@ -10,7 +10,7 @@ use Rattle.nc_algebra.proofs.Monomials.{monomial_laws}
 use Rattle.nc_algebra.proofs.Sums.{at_other, zero_number}
 use Rattle.nc_algebra.specs.Certificates.{AreLines, Certificate, Factor, IsCertificate, IsPart, Line, Part, element_lines, elements_after, factor_element, factor_value, item, line_element, line_reach, line_value, lines_element, lines_value, part_element, part_value, term_part, values_after, values_of}
 use Rattle.nc_algebra.specs.Elements.{Element, IsGenerator, IsIn, IsLess, Setting, element_times, evaluation, generator, generator_weight}
-use Rattle.nc_algebra.specs.Laws.{Cofactors, ElementLines}
+use Rattle.nc_algebra.specs.Laws.{CofactorLaw, ElementLines}
 use Rattle.nc_algebra.specs.Monomials.{Monomial, same_monomial}
 use Rattle.nc_algebra.specs.Polynomials.{Polynomial, polynomial_times}
 use Rattle.nc_algebra.specs.Primes.{IsZero}
@@ -169,7 +169,7 @@ module _ (s : NamedSetting) where
       lines_generated (elements ++ line_element elements line ∷ []) (reaches ++ line_reach s.setting reaches line ∷ []) lines
       (all_pushed elements (line_element elements line) a (line_generated elements reaches line a (recursion_from_All (IsPart s reaches) line h.0))) h.1
 
-pub cofactors : Cofactors
+pub cofactors : CofactorLaw
 cofactors c h =
     let s = c.setting in
     (generated_is_in s.setting (lines_element c.lines) (generated_item s.setting (elements_after [] c.lines) (length c.lines) (lines_generated s [] [] c.lines tt h.lines)), value_evaluates s.setting c.lines)

@@ -7,7 +7,7 @@ use Rattle.nc_algebra.proofs.Sums.{at_other, at_self, key_dec, lead_unique, zero
 use Rattle.nc_algebra.proofs.Words.{word_irrefl, word_laws, word_trans, words_compare}
 use Rattle.nc_algebra.specs.Polynomials.{AllLess, IsDescending, IsNormal, Polynomial, coefficient, led_by, normal_form, placed, with_term}
 use Rattle.nc_algebra.specs.Primes.{IsZero}
-use Rattle.nc_algebra.specs.Sums.{Leads, SameSum, Term, is_at}
+use Rattle.nc_algebra.specs.Sums.{IsLeadingKey, SameSum, Term, is_at}
 use Rattle.nc_algebra.specs.Words.{IsWordLess, Word, compare_words, same_word}
 use Rattle.std.proofs.Common.{Bool, Equal, Greater, Less, Ordering, [], ap, ap₂, arith, cond, false, inl, inr, nat_eq, refl, subst, suc, sym, true, zero, ℕ, ◌%◌, ◌*◌, ◌+◌, ◌<◌, ◌∙◌, ◌∷◌, ◌≡◌, ◌≢◌, ◌⊎◌}
 use Rattle.std.proofs.Math.Nat.{add-mod, mod-eq_of_lt, mod-lt}
@@ -46,7 +46,7 @@ module _ (p : ℕ) where
   residue_not_zero c a b z = let e : c % p ≡ c = mod-eq_of_lt a in omega (arith, e, z)
 
   -- the first word of a normal form is its leading word
-  pub normal_leads : (t : Term Word) (f : Polynomial) → IsDescending (t ∷ f) → t.coefficient < p → Leads same_word IsWordLess p (t ∷ f) t.key
+  pub normal_leads : (t : Term Word) (f : Polynomial) → IsDescending (t ∷ f) → t.coefficient < p → IsLeadingKey same_word IsWordLess p (t ∷ f) t.key
   normal_leads t f n small = record {
     nonzero = λ z. residue_not_zero t.coefficient small n.0 (subst (IsZero p) (first_coefficient t f n.1) z);
     above = λ x l. subst (IsZero p) (sym (other_coefficient t f x (λ e. word_irrefl t.key (subst (IsWordLess t.key) e l)) ∙ nothing_above t.key f n.1 x (inr l))) (zero_number p);
@@ -58,7 +58,7 @@ module _ (p : ℕ) where
   unique_up (t ∷ f) [] n a m b e = absurd ((normal_leads t f n a.0).nonzero (e.at t.key ∙ zero_number p))
   unique_up (t ∷ f) (u ∷ g) n a m b e = ap₂ (λ x y. x ∷ y) term (unique_up f g n.2 a.1 m.2 b.1 tails)
     where
-      moved : Leads same_word IsWordLess p (u ∷ g) t.key
+      moved : IsLeadingKey same_word IsWordLess p (u ∷ g) t.key
       moved = record { nonzero = λ z. (normal_leads t f n a.0).nonzero (e.at t.key ∙ z); above = λ x l. sym (e.at x) ∙ (normal_leads t f n a.0).above x l }
 
       keys : t.key ≡ u.key

@@ -6,7 +6,7 @@
 -- map that preserves the order; the second one needs a prime (`domain`).
 use Rattle.nc_algebra.proofs.Orders.{KeyLaws}
 use Rattle.nc_algebra.specs.Primes.{IsField, IsZero}
-use Rattle.nc_algebra.specs.Sums.{Leads, SameSum, Term, coefficient_by, is_at, linear_sum, map_keys, minus, scale, substitute}
+use Rattle.nc_algebra.specs.Sums.{IsLeadingKey, SameSum, Term, coefficient_by, is_at, linear_sum, map_keys, minus, scale, substitute}
 use Rattle.std.proofs.Common.{◌≡◌, ℕ, ◌+◌, ◌-◌, ◌*◌, ◌%◌, ◌<◌, ◌≤◌, ◌⊎◌, ◌≢◌, Bool, true, false, cond, List, [], ◌∷◌, ◌++◌, length, refl, sym, ap, ◌∙◌, subst, ap₂, inl, inr, ◌/◌, arith, suc, zero}
 use Rattle.std.proofs.Math.Nat.{dvd-add, dvd-add_iff_right, dvd-mul_right_of_dvd, dvd-mul_left_of_dvd, dvd_of_mod-eq-zero, mod-eq-zero_of_dvd, dvd-mul_right, div-add-mod, add-mul-mod_self_left, add-mod, add-zero, mod-mod, mul-zero, mul-one}
 use Rattle.std.proofs.lemmas.Bool.{false≢true}
@@ -196,7 +196,7 @@ module _ {K : Type 0} (same : K → K → Bool) (less : K → K → Type 0) (law
   linear_sum_cong p F G f h e = same_from_zero p (linear_sum F f) (linear_sum G f) h (subst (IsZero p) (linear_sum-add F G (p - 1) f) (linear_sum_zero p (λ x. F x + (p - 1) * G x) f (λ x. inr (zero_from_same p (F x) (G x) h (e x)))))
 
   -- a sum is zero or has a greatest key
-  top_up : (p : ℕ) (n : ℕ) (f : List (Term K)) → length f ≤ n → ((x : K) → IsZero p (coefficient_by same f x)) ⊎ ((k : K) × Leads same less p f k)
+  top_up : (p : ℕ) (n : ℕ) (f : List (Term K)) → length f ≤ n → ((x : K) → IsZero p (coefficient_by same f x)) ⊎ ((k : K) × IsLeadingKey same less p f k)
   top_up p n [] l = inl (λ x. zero_number p)
   top_up p zero (t ∷ f) l = absurd (omega arith)
   top_up p (suc n) (t ∷ f) l = go (zero_dec p (coefficient_by same (t ∷ f) t.key)) (top_up p n (without same t.key f) (omega (arith, length_without t.key f)))
@@ -209,35 +209,35 @@ module _ {K : Type 0} (same : K → K → Bool) (less : K → K → Type 0) (law
       all z h x (inl e) = subst (λ y. IsZero p (coefficient_by same (t ∷ f) y)) (sym e) z
       all z h x (inr n) = back x n (h x)
 
-      differs : (k : K) → Leads same less p (without same t.key f) k → k ≢ t.key
+      differs : (k : K) → IsLeadingKey same less p (without same t.key f) k → k ≢ t.key
       differs k d e = d.nonzero (subst (IsZero p) (sym (ap (λ y. coefficient_by same (without same t.key f) y) e ∙ rest_self t f)) (zero_number p))
 
-      above : (k : K) → Leads same less p (without same t.key f) k → IsZero p (coefficient_by same (t ∷ f) t.key) ⊎ less t.key k → (x : K) → less k x → (x ≡ t.key) ⊎ (x ≢ t.key) → IsZero p (coefficient_by same (t ∷ f) x)
+      above : (k : K) → IsLeadingKey same less p (without same t.key f) k → IsZero p (coefficient_by same (t ∷ f) t.key) ⊎ less t.key k → (x : K) → less k x → (x ≡ t.key) ⊎ (x ≢ t.key) → IsZero p (coefficient_by same (t ∷ f) x)
       above k d (inl z) x h (inl e) = subst (λ y. IsZero p (coefficient_by same (t ∷ f) y)) (sym e) z
       above k d (inr b) x h (inl e) = absurd (laws.irrefl k (laws.trans k t.key k (subst (less k) e h) b))
       above k d o x h (inr n) = back x n (d.above x h)
 
-      keep : (k : K) → Leads same less p (without same t.key f) k → IsZero p (coefficient_by same (t ∷ f) t.key) ⊎ less t.key k → Leads same less p (t ∷ f) k
+      keep : (k : K) → IsLeadingKey same less p (without same t.key f) k → IsZero p (coefficient_by same (t ∷ f) t.key) ⊎ less t.key k → IsLeadingKey same less p (t ∷ f) k
       keep k d o = record { nonzero = λ z. d.nonzero (subst (IsZero p) (sym (rest_other t f k (differs k d))) z); above = λ x h. above k d o x h (key_dec x t.key) }
 
-      self : ¬ IsZero p (coefficient_by same (t ∷ f) t.key) → ((x : K) → less t.key x → IsZero p (coefficient_by same (without same t.key f) x)) → Leads same less p (t ∷ f) t.key
+      self : ¬ IsZero p (coefficient_by same (t ∷ f) t.key) → ((x : K) → less t.key x → IsZero p (coefficient_by same (without same t.key f) x)) → IsLeadingKey same less p (t ∷ f) t.key
       self n h = record { nonzero = n; above = λ x b. back x (λ e. laws.irrefl t.key (subst (less t.key) e b)) (h x b) }
 
-      pick : ¬ IsZero p (coefficient_by same (t ∷ f) t.key) → (k : K) → Leads same less p (without same t.key f) k → less t.key k ⊎ ((t.key ≡ k) ⊎ less k t.key) → (k : K) × Leads same less p (t ∷ f) k
+      pick : ¬ IsZero p (coefficient_by same (t ∷ f) t.key) → (k : K) → IsLeadingKey same less p (without same t.key f) k → less t.key k ⊎ ((t.key ≡ k) ⊎ less k t.key) → (k : K) × IsLeadingKey same less p (t ∷ f) k
       pick n k d (inl b) = (k, keep k d (inr b))
       pick n k d (inr (inl e)) = absurd (differs k d (sym e))
       pick n k d (inr (inr b)) = (t.key, self n (λ x h. d.above x (laws.trans k t.key x b h)))
 
-      go : IsZero p (coefficient_by same (t ∷ f) t.key) ⊎ ¬ IsZero p (coefficient_by same (t ∷ f) t.key) → ((x : K) → IsZero p (coefficient_by same (without same t.key f) x)) ⊎ ((k : K) × Leads same less p (without same t.key f) k) → ((x : K) → IsZero p (coefficient_by same (t ∷ f) x)) ⊎ ((k : K) × Leads same less p (t ∷ f) k)
+      go : IsZero p (coefficient_by same (t ∷ f) t.key) ⊎ ¬ IsZero p (coefficient_by same (t ∷ f) t.key) → ((x : K) → IsZero p (coefficient_by same (without same t.key f) x)) ⊎ ((k : K) × IsLeadingKey same less p (without same t.key f) k) → ((x : K) → IsZero p (coefficient_by same (t ∷ f) x)) ⊎ ((k : K) × IsLeadingKey same less p (t ∷ f) k)
       go (inl z) (inl h) = inl (λ x. all z h x (key_dec x t.key))
       go (inl z) (inr (k, d)) = inr (k, keep k d (inl z))
       go (inr n) (inl h) = inr (t.key, self n (λ x b. h x))
       go (inr n) (inr (k, d)) = inr (pick n k d (laws.total t.key k))
 
-  pub top : (p : ℕ) (f : List (Term K)) → ((x : K) → IsZero p (coefficient_by same f x)) ⊎ ((k : K) × Leads same less p f k)
+  pub top : (p : ℕ) (f : List (Term K)) → ((x : K) → IsZero p (coefficient_by same f x)) ⊎ ((k : K) × IsLeadingKey same less p f k)
   top p f = top_up p (length f) f (omega arith)
 
-  pub lead_unique : (p : ℕ) (f : List (Term K)) (k l : K) → Leads same less p f k → Leads same less p f l → k ≡ l
+  pub lead_unique : (p : ℕ) (f : List (Term K)) (k l : K) → IsLeadingKey same less p f k → IsLeadingKey same less p f l → k ≡ l
   lead_unique p f k l d e = go (laws.total k l)
     where
       go : less k l ⊎ ((k ≡ l) ⊎ less l k) → k ≡ l
@@ -246,7 +246,7 @@ module _ {K : Type 0} (same : K → K → Bool) (less : K → K → Type 0) (law
       go (inr (inr h)) = absurd (d.nonzero (e.above k h))
 
   -- a key with a coefficient is at most the greatest
-  pub below_lead : (p : ℕ) (f : List (Term K)) (k x : K) → Leads same less p f k → ¬ IsZero p (coefficient_by same f x) → (x ≡ k) ⊎ less x k
+  pub below_lead : (p : ℕ) (f : List (Term K)) (k x : K) → IsLeadingKey same less p f k → ¬ IsZero p (coefficient_by same f x) → (x ≡ k) ⊎ less x k
   below_lead p f k x d n = go (laws.total k x)
     where
       go : less k x ⊎ ((k ≡ x) ⊎ less x k) → (x ≡ k) ⊎ less x k
@@ -272,7 +272,7 @@ module _ {K L : Type 0} (same : K → K → Bool) (less : K → K → Type 0) (l
   coefficient-substitute g φ y = linear_sum-substitute (is_at same' y) φ g
 
   -- what a sum of sums has at its greatest key
-  pub coefficient_substitute_leading : (p : ℕ) (g : List (Term K)) (k : K) (φ : K → List (Term L)) (ψ : K → L) → ((x y : K) → less x y → less' (ψ x) (ψ y)) → ((x : K) → Leads same' less' p (φ x) (ψ x)) → Leads same less p g k → coefficient_by same' (substitute g φ) (ψ k) % p ≡ coefficient_by same g k * coefficient_by same' (φ k) (ψ k) % p
+  pub coefficient_substitute_leading : (p : ℕ) (g : List (Term K)) (k : K) (φ : K → List (Term L)) (ψ : K → L) → ((x y : K) → less x y → less' (ψ x) (ψ y)) → ((x : K) → IsLeadingKey same' less' p (φ x) (ψ x)) → IsLeadingKey same less p g k → coefficient_by same' (substitute g φ) (ψ k) % p ≡ coefficient_by same g k * coefficient_by same' (φ k) (ψ k) % p
   coefficient_substitute_leading p g k φ ψ up leads d = go (linear_sum_one same less laws p (λ x. coefficient_by same' (φ x) (ψ k)) g k each)
     where
       below : (x : K) → x ≢ k → (x ≡ k) ⊎ less x k → IsZero p (coefficient_by same' (φ x) (ψ k))
@@ -285,7 +285,7 @@ module _ {K L : Type 0} (same : K → K → Bool) (less : K → K → Type 0) (l
       go : (r : ℕ) × (linear_sum (λ x. coefficient_by same' (φ x) (ψ k)) g ≡ coefficient_by same g k * coefficient_by same' (φ k) (ψ k) + r) × IsZero p r → coefficient_by same' (substitute g φ) (ψ k) % p ≡ coefficient_by same g k * coefficient_by same' (φ k) (ψ k) % p
       go (r, e, z) = same_plus_zero p _ _ r (coefficient-substitute g φ (ψ k) ∙ e) z
 
-  pub leads_substitute : (p : ℕ) → IsField p → (g : List (Term K)) (k : K) (φ : K → List (Term L)) (ψ : K → L) → ((x y : K) → less x y → less' (ψ x) (ψ y)) → ((x : K) → Leads same' less' p (φ x) (ψ x)) → Leads same less p g k → Leads same' less' p (substitute g φ) (ψ k)
+  pub leads_substitute : (p : ℕ) → IsField p → (g : List (Term K)) (k : K) (φ : K → List (Term L)) (ψ : K → L) → ((x y : K) → less x y → less' (ψ x) (ψ y)) → ((x : K) → IsLeadingKey same' less' p (φ x) (ψ x)) → IsLeadingKey same less p g k → IsLeadingKey same' less' p (substitute g φ) (ψ k)
   leads_substitute p field g k φ ψ up leads d = record {
     nonzero = λ z. (leads k).nonzero (domain p field (coefficient_by same g k) _ d.nonzero (sym (coefficient_substitute_leading p g k φ ψ up leads d) ∙ z));
     above = λ y h. subst (IsZero p) (sym (coefficient-substitute g φ y)) (linear_sum_zero same less laws p (λ x. coefficient_by same' (φ x) y) g (each y h));
@@ -310,7 +310,7 @@ module _ {K L : Type 0} (same : K → K → Bool) (less : K → K → Type 0) (l
       go : (r : ℕ) × (linear_sum (λ x. is_at same' (φ k) (φ x)) g ≡ coefficient_by same g k * is_at same' (φ k) (φ k) + r) × IsZero p r → coefficient_by same' (map_keys φ g) (φ k) % p ≡ coefficient_by same g k % p
       go (r, e, z) = same_plus_zero p _ _ r (linear_sum-map_keys (is_at same' (φ k)) φ g ∙ (e ∙ ap (λ n. n + r) (ap (λ n. coefficient_by same g k * n) (at_self same' less' laws' (φ k)) ∙ mul-one _))) z
 
-  pub leads_map_keys : (p : ℕ) (g : List (Term K)) (k : K) (φ : K → L) → ((x y : K) → less x y → less' (φ x) (φ y)) → Leads same less p g k → Leads same' less' p (map_keys φ g) (φ k)
+  pub leads_map_keys : (p : ℕ) (g : List (Term K)) (k : K) (φ : K → L) → ((x y : K) → less x y → less' (φ x) (φ y)) → IsLeadingKey same less p g k → IsLeadingKey same' less' p (map_keys φ g) (φ k)
   leads_map_keys p g k φ up d = record {
     nonzero = λ z. d.nonzero (sym (coefficient_map_keys p g k φ up) ∙ z);
     above = λ y h. subst (IsZero p) (sym (linear_sum-map_keys (is_at same' y) φ g)) (linear_sum_zero same less laws p (λ x. is_at same' y (φ x)) g (each y h));

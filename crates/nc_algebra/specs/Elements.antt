@@ -13,7 +13,7 @@
 use Rattle.nc_algebra.specs.Monomials.{IsMonomialLess, Monomial, Sig, degree_of, monomial_of, same_monomial, sig_of, times}
 use Rattle.nc_algebra.specs.Polynomials.{Polynomial, coefficient, leading, polynomial_times}
 use Rattle.nc_algebra.specs.Primes.{IsZero}
-use Rattle.nc_algebra.specs.Sums.{Leads, SameSum, Term, coefficient_by, map_keys, substitute}
+use Rattle.nc_algebra.specs.Sums.{IsLeadingKey, SameSum, Term, coefficient_by, map_keys, substitute}
 use Rattle.nc_algebra.specs.Words.{IsWordLess, Word, same_word, word_weight}
 use Rattle.std.specs.Prelude.{List, [], get_or, length, suc, zero, ℕ, ◌%◌, ◌≡◌, ◌≤◌}
 
@@ -61,7 +61,7 @@ evaluation s α = substitute α (λ σ. polynomial_times σ.left (generator s σ
 
 -- w is the greatest word of f
 abbrev pub IsLeadingWord : Setting → Polynomial → Word → Type 0
-IsLeadingWord s = Leads same_word IsWordLess s.prime
+IsLeadingWord s = IsLeadingKey same_word IsWordLess s.prime
 
 -- f is zero: each coefficient is 0
 abbrev pub IsZeroPolynomial : Setting → Polynomial → Type 0
@@ -69,7 +69,7 @@ IsZeroPolynomial s f = (w : Word) → IsZero s.prime (coefficient f w)
 
 -- σ is the signature of α
 abbrev pub IsSignatureOf : Setting → Element → Monomial → Type 0
-IsSignatureOf s = Leads same_monomial (IsLess s) s.prime
+IsSignatureOf s = IsLeadingKey same_monomial (IsLess s) s.prime
 
 -- the two lists are the same polynomial
 abbrev pub SamePolynomial : Setting → Polynomial → Polynomial → Type 0

@@ -79,8 +79,8 @@ abbrev pub Validity : Type 0
 Validity = (s : Setting) (claim : Polynomial) (lines : List Line) → 0 < s.prime → IsValid s claim lines ↔ (rest_of s claim lines ≡ [])
 
 -- what a certificate's lines stand for is an element over the generators, and their value is what it evaluates to: so a valid certificate has cofactors of its claim
-abbrev pub Cofactors : Type 0
-Cofactors = (c : Certificate) → IsCertificate c → IsIn c.setting.setting (lines_element c.lines) (λ σ. IsGenerator c.setting.setting σ.generator)
+abbrev pub CofactorLaw : Type 0
+CofactorLaw = (c : Certificate) → IsCertificate c → IsIn c.setting.setting (lines_element c.lines) (λ σ. IsGenerator c.setting.setting σ.generator)
     × (evaluation c.setting.setting (lines_element c.lines) ≡ lines_value c.setting.setting c.lines)
 
 -- the one line of an element's terms has the value that the element evaluates to

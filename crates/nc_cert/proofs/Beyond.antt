@@ -1,6 +1,6 @@
 -- The search for the first part beyond the limit finds it exactly where there is one.
 use Rattle.nc_cert.specs.Beyond.{first_beyond}
-use Rattle.nc_cert.specs.Charges.{Charge, IsTooMuch, IsWithinLimit, total}
+use Rattle.nc_cert.specs.Charges.{Charge, IsTooMuch, IsChargeWithin, total}
 use Rattle.std.proofs.Common.{Bool, List, None, Some, [], ap, ap₂, arith, if◌then◌else◌, ltb, refl, sym, true, false, ℕ, ◌++◌, ◌+◌, ◌<◌, ◌∙◌, ◌∷◌, ◌≡◌, ◌≤◌}
 use Rattle.std.proofs.lemmas.Bool.{le-ltb, lt-ltb}
 use Rattle.std.proofs.lemmas.List.Sums.{sum_by-cons}
@@ -30,7 +30,7 @@ found_beyond limit spent (d ∷ before) c after within beyond =
     ∙ ap (λ n. Some (record { line = c.line; amount = n })) sum
 
 -- within the limit there is none
-pub within_none : (limit : ℕ) (charges : List Charge) → IsWithinLimit limit charges → first_beyond limit 0 charges ≡ None
+pub within_none : (limit : ℕ) (charges : List Charge) → IsChargeWithin limit charges → first_beyond limit 0 charges ≡ None
 within_none limit charges within = none_beyond limit 0 charges (omega (arith, within))
 
 charge_of : ℕ → ℕ → Charge

@@ -10,7 +10,7 @@ use Rattle.nc_algebra.specs.Settings.{IsSetting, NamedSetting}
 use Rattle.nc_cert.proofs.Lines.{length-values_after}
 use Rattle.nc_cert.proofs.Readiness.{above_one, item-normal}
 use Rattle.nc_cert.proofs.Values.{normals, split}
-use Rattle.nc_cert.specs.Charges.{Charge, IsTooMuch, IsWithinLimit, charges_after, charges_of, line_charges, part_charge, products_charge, total}
+use Rattle.nc_cert.specs.Charges.{Charge, IsTooMuch, IsChargeWithin, charges_after, charges_of, line_charges, part_charge, products_charge, total}
 use Rattle.nc_cert.specs.Spent.{IsBeyond, kept_charge}
 use Rattle.std.proofs.Common.{List, [], ap, arith, drop, get_or, length, map, refl, subst, suc, sum_by, sym, take, zero, ℕ, ◌+◌, ◌++◌, ◌<◌, ◌∙◌, ◌∷◌, ◌≡◌, ◌≤◌}
 use Rattle.std.proofs.lemmas.List.{append_assoc, append-nil, length-map, length-take-le, length_push, map-append, take_more}
@@ -147,6 +147,6 @@ module _ (s : NamedSetting) (is : IsSetting s) where
       (too_much_here limit before last [] k t (omega (arith, number, ap length whole, length_push before last)) (beyond_kept limit before last values spent t kept sum h))
 
   pub within_last : (limit : ℕ) (lines before : List Line) (last : Line) (values : List Polynomial) (spent now : ℕ) → lines ≡ before ++ last ∷ [] → values ≡ normals s is before → spent ≡ total (charges_of s.setting before) → now ≡ spent + sum_by (kept_charge s.setting values) last → now ≤ limit →
-      IsWithinLimit limit (charges_of s.setting lines)
+      IsChargeWithin limit (charges_of s.setting lines)
   within_last limit lines before last values spent now whole kept sum e low =
-      subst (λ (l : List Line). IsWithinLimit limit (charges_of s.setting l)) (sym whole) (omega (arith, low, e, sum, spent_after before last, ap (λ (values : List Polynomial). sum_by (kept_charge s.setting values) last) kept))
+      subst (λ (l : List Line). IsChargeWithin limit (charges_of s.setting l)) (sym whole) (omega (arith, low, e, sum, spent_after before last, ap (λ (values : List Polynomial). sum_by (kept_charge s.setting values) last) kept))

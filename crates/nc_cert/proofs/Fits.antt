@@ -16,18 +16,18 @@ use Rattle.std.proofs.lemmas.List.Elements.{All-append, recursion_from_All}
 use Rattle.std.specs.List.{AllByRecursion, AllZip}
 
 -- a word over the alphabet with at most so many letters
-pub record IsWithin (a : Alphabet) (r : ℕ) (w : Word) : Type 0 where
+pub record IsWordWithin (a : Alphabet) (r : ℕ) (w : Word) : Type 0 where
   pub letters : IsWordIn a w
   pub short : length w ≤ r
 
 -- each word of f is such
 abbrev pub Fits : Alphabet → Polynomial → ℕ → Type 0
-Fits a f r = AllByRecursion (λ t. IsWithin a r t.key) f
+Fits a f r = AllByRecursion (λ t. IsWordWithin a r t.key) f
 
 module _ (a : Alphabet) where
   fits_more : (f : Polynomial) (r q : ℕ) → r ≤ q → Fits a f r → Fits a f q
   fits_more [] r q h x = tt
-  fits_more (t ∷ f) r q h x = let first : IsWithin a r t.key = x.0 in (record { letters = first.letters; short = omega (arith, first.short) }, fits_more f r q h x.1)
+  fits_more (t ∷ f) r q h x = let first : IsWordWithin a r t.key = x.0 in (record { letters = first.letters; short = omega (arith, first.short) }, fits_more f r q h x.1)
 
   fits-append : (f g : Polynomial) (r : ℕ) → Fits a f r → Fits a g r → Fits a (f ++ g) r
   fits-append [] g r x y = y
@@ -40,7 +40,7 @@ module _ (a : Alphabet) where
   fits-times : (u v : Word) (f : Polynomial) (r q : ℕ) → IsWordIn a u → IsWordIn a v → length u + r + length v ≤ q → Fits a f r → Fits a (polynomial_times u f v) q
   fits-times u v [] r q hu hv h x = tt
   fits-times u v (t ∷ f) r q hu hv h x =
-      let first : IsWithin a r t.key = x.0 in (
+      let first : IsWordWithin a r t.key = x.0 in (
         record {
           letters = All-append (IsLetterIn a) u (t.key ++ v) hu (All-append (IsLetterIn a) t.key v first.letters hv);
           short = omega (arith, length-append u (t.key ++ v), length-append t.key v, first.short);

@@ -7,7 +7,7 @@ use Rattle.nc_algebra.specs.Certificates.{Certificate, IsCertificate, item, line
 use Rattle.nc_algebra.specs.Polynomials.{Polynomial}
 use Rattle.nc_algebra.specs.Sums.{minus, scale}
 use Rattle.nc_algebra.specs.Words.{Word}
-use Rattle.nc_cert.proofs.Fits.{Fits, IsWithin, item_fits, lines_fit}
+use Rattle.nc_cert.proofs.Fits.{Fits, IsWordWithin, item_fits, lines_fit}
 use Rattle.nc_cert.proofs.Lines.{reaches_after}
 use Rattle.std.proofs.Common.{List, [], length, ℕ, ◌*◌, ◌++◌, ◌-◌, ◌<◌, ◌∷◌}
 use Rattle.std.proofs.lemmas.List.Elements.{All-from_recursion, All-weaker, recursion_from_All}
@@ -22,7 +22,7 @@ module _ (P : Word → Type 0) where
 module _ (c : Certificate) (h : IsCertificate c) where
   value_has : (f : Polynomial) (r : ℕ) → Fits c.setting.alphabet f r → AllByRecursion (λ t. IsWordIn c.setting.alphabet t.key) f
   value_has [] r x = tt
-  value_has (t ∷ f) r x = let first : IsWithin c.setting.alphabet r t.key = x.0 in (first.letters, value_has f r x.1)
+  value_has (t ∷ f) r x = let first : IsWordWithin c.setting.alphabet r t.key = x.0 in (first.letters, value_has f r x.1)
 
   last_has : AllByRecursion (λ t. IsWordIn c.setting.alphabet t.key) (lines_value c.setting.setting c.lines)
   last_has =

@@ -13,8 +13,8 @@ use Rattle.nc_algebra.specs.Polynomials.{AreResidues, Polynomial, coefficient, n
 use Rattle.nc_algebra.specs.Settings.{IsSetting, NamedSetting}
 use Rattle.nc_algebra.specs.Sums.{SameSum, is_at, scale}
 use Rattle.nc_algebra.specs.Words.{Word, same_word}
-use Rattle.nc_cert.proofs.Fits.{Fits, IsWithin, generator_fits, generator_text, item_fits}
-use Rattle.nc_cert.specs.Ready.{IsReady}
+use Rattle.nc_cert.proofs.Fits.{Fits, IsWordWithin, generator_fits, generator_text, item_fits}
+use Rattle.nc_cert.specs.Ready.{IsReadyPart}
 use Rattle.nc_field.proofs.Primes.{listed_is_prime}
 use Rattle.std.proofs.Common.{List, [], ap, arith, length, map, refl, subst, suc, sym, zero, ℕ, ◌%◌, ◌*◌, ◌+◌, ◌<◌, ◌∙◌, ◌∷◌, ◌≡◌, ◌≤◌}
 use Rattle.std.proofs.Math.ListN.{get_or-map}
@@ -43,11 +43,11 @@ module _ (s : NamedSetting) (is : IsSetting s) where
       let value : Polynomial = item [] values k in
       let some : 0 < s.setting.prime = omega (arith, above_one s is) in
       subst (λ (f : Polynomial). AreResidues s.setting.prime f × Fits s.alphabet f (item 0 reaches k)) (sym (item-normal s.setting.prime values k))
-      ((normal_form_normal s.setting.prime value some).1, normal_form_listed (IsWithin s.alphabet (item 0 reaches k)) s.setting.prime value (item_fits s.alphabet values reaches k x))
+      ((normal_form_normal s.setting.prime value some).1, normal_form_listed (IsWordWithin s.alphabet (item 0 reaches k)) s.setting.prime value (item_fits s.alphabet values reaches k x))
 
   short_products : (u v : Word) (f : Polynomial) (r : ℕ) → length u + r + length v ≤ 100000 → Fits s.alphabet f r → AllByRecursion (λ t. length u + length t.key + length v ≤ 200000) f
   short_products u v [] r h x = tt
-  short_products u v (t ∷ f) r h x = let first : IsWithin s.alphabet r t.key = x.0 in (omega (arith, first.short), short_products u v f r h x.1)
+  short_products u v (t ∷ f) r h x = let first : IsWordWithin s.alphabet r t.key = x.0 in (omega (arith, first.short), short_products u v f r h x.1)
 
   same_many : (values : List Polynomial) (reaches : List ℕ) → AllZip (Fits s.alphabet) values reaches → length values ≡ length reaches
   same_many [] [] x = refl
@@ -55,7 +55,7 @@ module _ (s : NamedSetting) (is : IsSetting s) where
   same_many (f ∷ values) [] x = absurd x
   same_many (f ∷ values) (r ∷ reaches) x = ap suc (same_many values reaches x.1)
 
-  part_ready : (values : List Polynomial) (reaches : List ℕ) (part : Part) → AllZip (Fits s.alphabet) values reaches → IsPart s reaches part → IsReady s.setting (map (normal_form s.setting.prime) values) part
+  part_ready : (values : List Polynomial) (reaches : List ℕ) (part : Part) → AllZip (Fits s.alphabet) values reaches → IsPart s reaches part → IsReadyPart s.setting (map (normal_form s.setting.prime) values) part
   part_ready values reaches part x h =
       let kept : List Polynomial = map (normal_form s.setting.prime) values in
       let ready = factor_ready values reaches part.of x h.factor in
@@ -66,12 +66,12 @@ module _ (s : NamedSetting) (is : IsSetting s) where
         short = All-from_recursion (λ t. length part.left + length t.key + length part.right ≤ 200000) (factor_value s.setting kept part.of) (short_products part.left part.right (factor_value s.setting kept part.of) (factor_reach s.setting reaches part.of) h.short ready.1);
       }
 
-  parts_ready : (values : List Polynomial) (reaches : List ℕ) (line : Line) → AllZip (Fits s.alphabet) values reaches → AllByRecursion (IsPart s reaches) line → AllByRecursion (IsReady s.setting (map (normal_form s.setting.prime) values)) line
+  parts_ready : (values : List Polynomial) (reaches : List ℕ) (line : Line) → AllZip (Fits s.alphabet) values reaches → AllByRecursion (IsPart s reaches) line → AllByRecursion (IsReadyPart s.setting (map (normal_form s.setting.prime) values)) line
   parts_ready values reaches [] x h = tt
   parts_ready values reaches (part ∷ line) x h = (part_ready values reaches part x h.0, parts_ready values reaches line x h.1)
 
-  pub line_ready : (values : List Polynomial) (reaches : List ℕ) (line : Line) → AllZip (Fits s.alphabet) values reaches → All (IsPart s reaches) line → All (IsReady s.setting (map (normal_form s.setting.prime) values)) line
-  line_ready values reaches line x h = All-from_recursion (IsReady s.setting (map (normal_form s.setting.prime) values)) line (parts_ready values reaches line x (recursion_from_All (IsPart s reaches) line h))
+  pub line_ready : (values : List Polynomial) (reaches : List ℕ) (line : Line) → AllZip (Fits s.alphabet) values reaches → All (IsPart s reaches) line → All (IsReadyPart s.setting (map (normal_form s.setting.prime) values)) line
+  line_ready values reaches line x h = All-from_recursion (IsReadyPart s.setting (map (normal_form s.setting.prime) values)) line (parts_ready values reaches line x (recursion_from_All (IsPart s reaches) line h))
 
 -- ---- values over normal forms
 

@@ -9,7 +9,7 @@ use Rattle.nc_algebra.specs.Sums.{minus}
 use Rattle.nc_cert.proofs.Fits.{lines_fit}
 use Rattle.nc_cert.proofs.Lines.{line_behind, lines_before, reaches_after, values_after-push}
 use Rattle.nc_cert.proofs.Readiness.{above_one, line_ready, same_line}
-use Rattle.nc_cert.specs.Ready.{IsReady}
+use Rattle.nc_cert.specs.Ready.{IsReadyPart}
 use Rattle.std.proofs.Common.{List, [], ap, arith, drop, get_or, length, map, subst, suc, sym, take, ℕ, ◌%◌, ◌+◌, ◌++◌, ◌-◌, ◌<◌, ◌∙◌, ◌∷◌, ◌≡◌}
 use Rattle.std.proofs.lemmas.List.{map-append, take-append-drop, take_more}
 use Rattle.std.proofs.Math.Seq.{drop-cons}
@@ -22,7 +22,7 @@ module _ (s : NamedSetting) (is : IsSetting s) where
   normals lines = map (normal_form s.setting.prime) (values_of s.setting lines)
 
   -- the line behind others is ready over their values
-  pub ready_behind : (lines : List Line) (line : Line) (more : List Line) → AreLines s [] (lines ++ line ∷ more) → All (IsReady s.setting (normals lines)) line
+  pub ready_behind : (lines : List Line) (line : Line) (more : List Line) → AreLines s [] (lines ++ line ∷ more) → All (IsReadyPart s.setting (normals lines)) line
   ready_behind lines line more h =
       line_ready s is (values_of s.setting lines) (reaches_after s.setting [] lines) line
       (lines_fit s is [] [] lines tt (lines_before s [] lines (line ∷ more) h)) (line_behind s [] lines line more h)
@@ -37,7 +37,7 @@ module _ (s : NamedSetting) (is : IsSetting s) where
   split lines i line within at = sym (take-append-drop i lines) ∙ ap (λ (l : List Line). take i lines ++ l) (drop-cons lines i line within ∙ ap (λ (l : Line). l ∷ drop (suc i) lines) (sym at))
 
   -- the line at a place is ready
-  pub ready_at : (lines : List Line) (i : ℕ) (line : Line) → i < length lines → line ≡ get_or lines i line → AreLines s [] lines → All (IsReady s.setting (normals (take i lines))) line
+  pub ready_at : (lines : List Line) (i : ℕ) (line : Line) → i < length lines → line ≡ get_or lines i line → AreLines s [] lines → All (IsReadyPart s.setting (normals (take i lines))) line
   ready_at lines i line within at h = ready_behind (take i lines) line (drop (suc i) lines) (subst (AreLines s []) (split lines i line within at) h)
 
   -- one value more

@@ -50,8 +50,8 @@ abbrev pub total : List Charge → ℕ
 total charges = sum_by (λ c. c.amount) charges
 
 -- all together stay within the limit
-abbrev pub IsWithinLimit : ℕ → List Charge → Type 0
-IsWithinLimit limit charges = total charges ≤ limit
+abbrev pub IsChargeWithin : ℕ → List Charge → Type 0
+IsChargeWithin limit charges = total charges ≤ limit
 
 -- the charge up to a part is its own and that of all parts before it; the first one beyond the limit is t, at a part of line k
 pub record IsTooMuch (limit : ℕ) (charges : List Charge) (k t : ℕ) : Type 0 where
@@ -66,6 +66,6 @@ pub record IsTooMuch (limit : ℕ) (charges : List Charge) (k t : ℕ) : Type 0 
 
 -- charges are within the limit, or too much at one line with one charge, and never both
 pub record LimitLaw (limit : ℕ) (charges : List Charge) : Type 0 where
-  pub either : IsWithinLimit limit charges ⊎ ((k : ℕ) × (t : ℕ) × IsTooMuch limit charges k t)
-  pub apart : (k t : ℕ) → IsTooMuch limit charges k t → ¬ IsWithinLimit limit charges
+  pub either : IsChargeWithin limit charges ⊎ ((k : ℕ) × (t : ℕ) × IsTooMuch limit charges k t)
+  pub apart : (k t : ℕ) → IsTooMuch limit charges k t → ¬ IsChargeWithin limit charges
   pub one : (k t l u : ℕ) → IsTooMuch limit charges k t → IsTooMuch limit charges l u → (k ≡ l) × (t ≡ u)

@@ -6,8 +6,8 @@
 use Rattle.nc_algebra.specs.Certificates.{Certificate, IsValid, Line, rest_of, values_of}
 use Rattle.nc_algebra.specs.Elements.{Setting}
 use Rattle.nc_algebra.specs.Polynomials.{Polynomial, normal_form}
-use Rattle.nc_cert.specs.Charges.{Charge, IsTooMuch, IsWithinLimit, charges_of, total}
-use Rattle.nc_cert.specs.Spent.{letters_of}
+use Rattle.nc_cert.specs.Charges.{Charge, IsTooMuch, IsChargeWithin, charges_of, total}
+use Rattle.nc_cert.specs.Spent.{letter_count}
 use Rattle.nc_cert.specs.declared.checking.Rest.{Rest}
 use Rattle.nc_cert.specs.declared.checking.Rest.TheVariants as rests
 use Rattle.nc_cert.specs.declared.checking.Verdict.{Verdict}
@@ -26,8 +26,8 @@ certificate_charges c = charges_of c.setting.setting c.lines
 
 -- TooMuch where a part passes the limit; else Valid exactly where it is, and else the claim minus the last line's value
 abbrev pub IsVerdictWithin : ℕ → Certificate → Verdict → Type 0
-IsVerdictWithin limit c verdicts.Valid = IsWithinLimit limit (certificate_charges c) × IsValidCertificate c
-IsVerdictWithin limit c (verdicts.Invalid rest) = IsWithinLimit limit (certificate_charges c) × ¬ IsValidCertificate c × (rest ≡ rest_of c.setting.setting c.claim c.lines)
+IsVerdictWithin limit c verdicts.Valid = IsChargeWithin limit (certificate_charges c) × IsValidCertificate c
+IsVerdictWithin limit c (verdicts.Invalid rest) = IsChargeWithin limit (certificate_charges c) × ¬ IsValidCertificate c × (rest ≡ rest_of c.setting.setting c.claim c.lines)
 IsVerdictWithin limit c (verdicts.TooMuch line charge) = IsTooMuch limit (certificate_charges c) line charge
 
 -- the limit is 100,000,000
@@ -39,10 +39,10 @@ IsVerdict = IsVerdictWithin 100000000
 -- the values of all lines in normal form, the letters of each, and what is spent, or the first part that passes the limit
 abbrev pub IsTaken : ℕ → Setting → List Line → Taken → Type 0
 IsTaken limit s lines (takens.All kept) =
-    (kept.values.items ≡ map (normal_form s.prime) (values_of s lines)) × (kept.letters.items ≡ map letters_of kept.values.items) × (kept.spent ≡ total (charges_of s lines)) × (kept.spent ≤ limit)
+    (kept.values.items ≡ map (normal_form s.prime) (values_of s lines)) × (kept.letters.items ≡ map letter_count kept.values.items) × (kept.spent ≡ total (charges_of s lines)) × (kept.spent ≤ limit)
 IsTaken limit s lines (takens.TooMuch line charge) = IsTooMuch limit (charges_of s lines) line charge
 
 -- the claim minus the value of the last line, or the first part that passes the limit
 abbrev pub IsRest : ℕ → Setting → Polynomial → List Line → Rest → Type 0
-IsRest limit s claim lines (rests.Of rest) = IsWithinLimit limit (charges_of s lines) × (rest ≡ rest_of s claim lines)
+IsRest limit s claim lines (rests.Of rest) = IsChargeWithin limit (charges_of s lines) × (rest ≡ rest_of s claim lines)
 IsRest limit s claim lines (rests.TooMuch line charge) = IsTooMuch limit (charges_of s lines) line charge

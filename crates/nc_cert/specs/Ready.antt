@@ -9,7 +9,7 @@ use Rattle.nc_algebra.specs.Polynomials.{AreResidues, Polynomial}
 use Rattle.std.specs.Prelude.{All, List, length, ◌+◌, ◌<◌, ◌≤◌}
 
 -- the factor is one of the generators or of these values, whose products with the two words are short enough
-pub record IsReady (s : Setting) (values : List Polynomial) (part : Part) : Type 0 where
+pub record IsReadyPart (s : Setting) (values : List Polynomial) (part : Part) : Type 0 where
   pub residue : part.coefficient < s.prime
   pub factor : IsFactor s (length values) part.of
   pub residues : AreResidues s.prime (factor_value s values part.of)

@@ -12,8 +12,8 @@ use Rattle.nc_cert.specs.declared.charge.Spending.TheVariants.{Beyond, Within}
 use Rattle.std.specs.Prelude.{List, length, sum_by, ℕ, ◌++◌, ◌+◌, ◌<◌, ◌∷◌, ◌≡◌, ◌≤◌}
 
 -- the letters of the words of f
-abbrev pub letters_of : Polynomial → ℕ
-letters_of f = sum_by (λ t. length t.key) f
+abbrev pub letter_count : Polynomial → ℕ
+letter_count f = sum_by (λ t. length t.key) f
 
 -- the charge of a part over values in normal form
 abbrev pub kept_charge : Setting → List Polynomial → Part → ℕ

@@ -2,8 +2,8 @@
 
 ghost use Rattle.nc_algebra.specs.Certificates.{IsFactor, factor_value};
 ghost use Rattle.nc_cert.specs.Charges.{products_charge};
-ghost use Rattle.nc_cert.specs.Ready.{IsReady};
-ghost use Rattle.nc_cert.specs.Spent.{IsSpending, kept_charge, letters_of};
+ghost use Rattle.nc_cert.specs.Ready.{IsReadyPart};
+ghost use Rattle.nc_cert.specs.Spent.{IsSpending, kept_charge, letter_count};
 ghost use Rattle.nc_module.specs.Factors.{factor_of};
 ghost use Rattle.std.specs.Prelude.{All, IfOk, length, map, ◌+◌, ◌<◌, ◌^◌, ◌≡◌, ◌≤◌};
 
@@ -14,8 +14,8 @@ use nc_words::Letter;
 use std::alloc::{AllocError, Global};
 
 /// The letters of all words of a polynomial.
-pub(crate) fn letters_of(f: &Poly) -> u128
-    ensures { result ≡ letters_of f.now }
+pub(crate) fn letter_count(f: &Poly) -> u128
+    ensures { result ≡ letter_count f.now }
 {
     let mut letters = 0;
     for term in f.terms() {
@@ -26,11 +26,11 @@ pub(crate) fn letters_of(f: &Poly) -> u128
 
 /// The letters of each polynomial.
 pub(crate) fn all_letters(alloc: Global, list: &[Poly]) -> Result<Vec<u128>, AllocError>
-    ensures { IfOk result (λ letters. letters.items ≡ map letters_of list.now) }
+    ensures { IfOk result (λ letters. letters.items ≡ map letter_count list.now) }
 {
     let mut letters = Vec::with_capacity(alloc, list.len())?;
     for f in list {
-        letters.push(letters_of(f))?;
+        letters.push(letter_count(f))?;
     }
     Ok(letters)
 }
@@ -44,9 +44,9 @@ fn factor_letters(
     of: Of,
 ) -> u128
     requires some { IsFactor setting.now.setting (length values.now) (factor_of of) }
-    requires generators { generators.now ≡ map letters_of setting.now.setting.generators }
-    requires lines { lines.now ≡ map letters_of values.now }
-    ensures { result ≡ letters_of (factor_value setting.now.setting values.now (factor_of of)) }
+    requires generators { generators.now ≡ map letter_count setting.now.setting.generators }
+    requires lines { lines.now ≡ map letter_count values.now }
+    ensures { result ≡ letter_count (factor_value setting.now.setting values.now (factor_of of)) }
 {
     match of {
         Of::Generator(i) => generators[i as usize - 1],
@@ -56,7 +56,7 @@ fn factor_letters(
 
 /// What the products of a, words with so many letters in all, and b cost.
 fn charge_of(words: &[Term], letters: u128, a: &[Letter], b: &[Letter]) -> u128
-    requires letters { letters ≡ letters_of words.now }
+    requires letters { letters ≡ letter_count words.now }
     requires left { length a.now ≤ 200000 }
     requires right { length b.now ≤ 200000 }
     requires short { All (λ t. length a.now + length t.key + length b.now ≤ 200000) words.now }
@@ -75,9 +75,9 @@ fn part_charge(
     lines: &[u128],
     part: &Part,
 ) -> u128
-    requires ready { IsReady setting.now.setting values.now part.now }
-    requires generators { generators.now ≡ map letters_of setting.now.setting.generators }
-    requires lines { lines.now ≡ map letters_of values.now }
+    requires ready { IsReadyPart setting.now.setting values.now part.now }
+    requires generators { generators.now ≡ map letter_count setting.now.setting.generators }
+    requires lines { lines.now ≡ map letter_count values.now }
     ensures value { result ≡ kept_charge setting.now.setting values.now part.now }
     ensures few { result < 2 ^ 100 }
 {
@@ -105,9 +105,9 @@ pub(crate) fn spend(
     spent: u128,
     line: &Line,
 ) -> Spending
-    requires ready { All (IsReady setting.now.setting values.now) line.now }
-    requires generators { generators.now ≡ map letters_of setting.now.setting.generators }
-    requires lines { lines.now ≡ map letters_of values.now }
+    requires ready { All (IsReadyPart setting.now.setting values.now) line.now }
+    requires generators { generators.now ≡ map letter_count setting.now.setting.generators }
+    requires lines { lines.now ≡ map letter_count values.now }
     requires within { spent ≤ limit }
     ensures { IsSpending limit spent (kept_charge setting.now.setting values.now) line.now result }
 {

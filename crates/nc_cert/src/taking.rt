@@ -2,10 +2,10 @@
 
 ghost use Rattle.nc_algebra.specs.Certificates.{AreLines};
 ghost use Rattle.nc_cert.specs.Checking.{IsTaken};
-ghost use Rattle.nc_cert.specs.Spent.{letters_of};
+ghost use Rattle.nc_cert.specs.Spent.{letter_count};
 ghost use Rattle.std.specs.Prelude.{IfOk, [], length, map, ◌≡◌, ◌≤◌};
 
-use crate::charge::{Spending, letters_of, spend};
+use crate::charge::{Spending, letter_count, spend};
 use crate::value::minus_line;
 use nc_module::{Line, Setting};
 use nc_poly::Poly;
@@ -41,7 +41,7 @@ pub(crate) fn take_lines(
 ) -> Result<Taken, AllocError>
     requires lines { AreLines setting.now [] lines.now }
     requires few { length lines.now ≤ 4000000000 }
-    requires generators { generators.now ≡ map letters_of setting.now.setting.generators }
+    requires generators { generators.now ≡ map letter_count setting.now.setting.generators }
     ensures { IfOk result (IsTaken limit setting.now.setting lines.now) }
 {
     let minus_one = setting.prime().neg(1);
@@ -57,7 +57,7 @@ pub(crate) fn take_lines(
             }
         }
         let value = minus_line(alloc, Poly::zero(alloc), minus_one, setting, &values, line)?;
-        letters.push(letters_of(&value))?;
+        letters.push(letter_count(&value))?;
         values.push(value)?;
     }
     Ok(Taken::All(Kept {

@@ -4,7 +4,7 @@ ghost use Rattle.nc_algebra.specs.Certificates.{IsFactor, factor_value, line_val
 ghost use Rattle.nc_algebra.specs.Polynomials.{AreResidues, normal_form};
 ghost use Rattle.nc_algebra.specs.Sums.{SameSum, minus};
 ghost use Rattle.nc_algebra.specs.Words.{same_word};
-ghost use Rattle.nc_cert.specs.Ready.{IsReady};
+ghost use Rattle.nc_cert.specs.Ready.{IsReadyPart};
 ghost use Rattle.nc_module.specs.Factors.{factor_of};
 ghost use Rattle.std.specs.Prelude.{All, IfOk, OnOk, length, ◌<◌, ◌≡◌};
 
@@ -35,7 +35,7 @@ fn sub_part(
 ) -> Result<(), AllocError>
     requires scalar { c < setting.now.setting.prime }
     requires residues { AreResidues setting.now.setting.prime sum.old }
-    requires ready { IsReady setting.now.setting values.now part.now }
+    requires ready { IsReadyPart setting.now.setting values.now part.now }
     ensures difference { OnOk result (SameSum same_word setting.now.setting.prime sum.new (minus setting.now.setting.prime sum.old c (part_value setting.now.setting values.now part.now))) }
     ensures residues { AreResidues setting.now.setting.prime sum.new }
 {
@@ -63,7 +63,7 @@ pub(crate) fn minus_line(
 ) -> Result<Poly, AllocError>
     requires scalar { c < setting.now.setting.prime }
     requires residues { AreResidues setting.now.setting.prime f }
-    requires ready { All (IsReady setting.now.setting values.now) line.now }
+    requires ready { All (IsReadyPart setting.now.setting values.now) line.now }
     ensures { IfOk result (λ g. g ≡ normal_form setting.now.setting.prime (minus setting.now.setting.prime f c (line_value setting.now.setting values.now line.now))) }
 {
     let mut sum = Accumulator::of(f);

@@ -6,7 +6,7 @@ use Rattle.nc_algebra.proofs.Orders.{KeyLaws}
 use Rattle.nc_algebra.proofs.Sums.{at_other, at_self, key_dec, lead_unique, zero_number}
 use Rattle.nc_algebra.specs.Lists.{Among}
 use Rattle.nc_algebra.specs.Primes.{IsZero}
-use Rattle.nc_algebra.specs.Sums.{Leads, SameSum, Term, coefficient_by}
+use Rattle.nc_algebra.specs.Sums.{IsLeadingKey, SameSum, Term, coefficient_by}
 use Rattle.nc_poly.specs.Ordered.{AllBelow, Descends}
 use Rattle.std.proofs.Common.{Less, List, Ordering, [], ap, ap₂, arith, inl, inr, refl, subst, sym, ℕ, ◌%◌, ◌*◌, ◌<◌, ◌∙◌, ◌∷◌, ◌≡◌, ◌≢◌, ◌⊎◌}
 use Rattle.std.proofs.Math.Nat.{mod-eq_of_lt}
@@ -77,7 +77,7 @@ module _ {K : Type 0} (cmp : K → K → Ordering) (laws : KeyLaws (eq_by_cmp cm
   pub rest_at : (t : Term K) (f : List (Term K)) (x : K) → x ≢ t.key → coefficient_by (eq_by_cmp cmp) (t ∷ f) x ≡ coefficient_by (eq_by_cmp cmp) f x
   rest_at t f x n = omega (arith, ap (λ i. t.coefficient * i) (at_other (eq_by_cmp cmp) (λ x y. cmp x y ≡ Less) laws x t.key n))
 
-  first_leads : (p : ℕ) (t : Term K) (f : List (Term K)) → Descends cmp (t ∷ f) → AllByRecursion (λ t. t.coefficient < p) (t ∷ f) → Leads (eq_by_cmp cmp) (λ x y. cmp x y ≡ Less) p (t ∷ f) t.key
+  first_leads : (p : ℕ) (t : Term K) (f : List (Term K)) → Descends cmp (t ∷ f) → AllByRecursion (λ t. t.coefficient < p) (t ∷ f) → IsLeadingKey (eq_by_cmp cmp) (λ x y. cmp x y ≡ Less) p (t ∷ f) t.key
   first_leads p t f d small = record {
     nonzero = listed_nonzero p (t ∷ f) d small t (inl refl);
     above = λ x l. subst (IsZero p) (sym (absent x (t ∷ f) (l, all_below t.key x f l d.1))) (zero_number p);
@@ -90,7 +90,7 @@ module _ {K : Type 0} (cmp : K → K → Ordering) (laws : KeyLaws (eq_by_cmp cm
   one_list p (t ∷ f) [] d a c b e = absurd (listed_nonzero p (t ∷ f) d a t (inl refl) (e.at t.key ∙ zero_number p))
   one_list p (t ∷ f) (u ∷ g) d a c b e = ap₂ (λ x y. x ∷ y) term (one_list p f g d.2 a.1 c.2 b.1 (record { at = λ x. rest x (key_dec (eq_by_cmp cmp) (λ x y. cmp x y ≡ Less) laws x t.key) }))
     where
-      moved : Leads (eq_by_cmp cmp) (λ x y. cmp x y ≡ Less) p (u ∷ g) t.key
+      moved : IsLeadingKey (eq_by_cmp cmp) (λ x y. cmp x y ≡ Less) p (u ∷ g) t.key
       moved = record { nonzero = λ z. (first_leads p t f d a).nonzero (e.at t.key ∙ z); above = λ x l. sym (e.at x) ∙ (first_leads p t f d a).above x l }
 
       keys : t.key ≡ u.key

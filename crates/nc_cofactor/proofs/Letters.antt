@@ -17,7 +17,7 @@ use Rattle.nc_cofactor.specs.Letters.{CofactorsAreOver, IsStartIn, IsTraceOver}
 use Rattle.nc_cofactor.specs.Sums.{IsSum}
 use Rattle.nc_cofactor.specs.Traces.{IsTraceIn}
 use Rattle.nc_theory.proofs.OverAlphabet.{generator_over, word_in}
-use Rattle.nc_theory.specs.Named.{letters_of}
+use Rattle.nc_theory.specs.Named.{alphabet_letters}
 use Rattle.nc_snapshot.specs.declared.outcome.Listed.{Listed}
 use Rattle.nc_snapshot.specs.declared.outcome.Listed.TheVariants.{Claim, Entry as EntryOf, Syzygy as SyzygyOf}
 use Rattle.nc_theory.proofs.Letters.{KeysOver, StartOver, StepOver, TraceOver, entry_over, keys_at, keys_found, keys_trace, labels_over, syzygy_over}
@@ -34,7 +34,7 @@ map_all A B xs a f = All-from_recursion B xs (among_all B xs (λ x k. f x (all_a
 
 module _ (P : NamedProblem) where
   abbrev letters : List Letter
-  letters = letters_of P.alphabet
+  letters = alphabet_letters P.alphabet
 
   abbrev BothOver : Term Sig → Type 0
   BothOver t = IsOver letters t.key.left × IsOver letters t.key.right

@@ -5,7 +5,7 @@ use Rattle.nc_algebra.proofs.Orders.{KeyLaws}
 use Rattle.nc_algebra.proofs.Sums.{below_lead, coef_without_other, coef_without_self, key_dec, linear_sum-without, top, without, zero_number}
 use Rattle.nc_algebra.specs.Lists.{Among}
 use Rattle.nc_algebra.specs.Primes.{IsZero}
-use Rattle.nc_algebra.specs.Sums.{Leads, SameSum, Term, coefficient_by, linear_sum}
+use Rattle.nc_algebra.specs.Sums.{IsLeadingKey, SameSum, Term, coefficient_by, linear_sum}
 use Rattle.nc_cofactor.proofs.Keys.{listed_nonzero, own, rest_at}
 use Rattle.nc_poly.specs.Ordered.{AllBelow, Descends}
 use Rattle.std.proofs.Common.{Less, List, Ordering, [], ap, arith, inl, inr, refl, subst, suc, sym, zero, ℕ, ◌%◌, ◌<◌, ◌∙◌, ◌∷◌, ◌≡◌, ◌≢◌, ◌⊎◌}
@@ -37,7 +37,7 @@ module _ {K : Type 0} (cmp : K → K → Ordering) (laws : KeyLaws (eq_by_cmp cm
   below k [] h = tt
   below k (t ∷ f) h = (h t (inl refl), below k f (λ u m. h u (inr m)))
 
-  led : (f : List (Term K)) (k : K) → Leads (eq_by_cmp cmp) (λ x y. cmp x y ≡ Less) p f k → HasNormal (without (eq_by_cmp cmp) k f) → HasNormal f
+  led : (f : List (Term K)) (k : K) → IsLeadingKey (eq_by_cmp cmp) (λ x y. cmp x y ≡ Less) p f k → HasNormal (without (eq_by_cmp cmp) k f) → HasNormal f
   led f k leads r = record { normal = new; same = record { at = λ x. at x (key_dec (eq_by_cmp cmp) (λ x y. cmp x y ≡ Less) laws x k) }; descends = falls; residues = (mod-lt (coefficient_by (eq_by_cmp cmp) f k) some, r.residues) }
     where
       first : Term K
@@ -75,7 +75,7 @@ module _ {K : Type 0} (cmp : K → K → Ordering) (laws : KeyLaws (eq_by_cmp cm
   one_more : (f : List (Term K)) → ((g : List (Term K)) → size g < size f → HasNormal g) → HasNormal f
   one_more f before = go (top (eq_by_cmp cmp) (λ x y. cmp x y ≡ Less) laws p f)
     where
-      go : ((x : K) → IsZero p (coefficient_by (eq_by_cmp cmp) f x)) ⊎ ((k : K) × Leads (eq_by_cmp cmp) (λ x y. cmp x y ≡ Less) p f k) → HasNormal f
+      go : ((x : K) → IsZero p (coefficient_by (eq_by_cmp cmp) f x)) ⊎ ((k : K) × IsLeadingKey (eq_by_cmp cmp) (λ x y. cmp x y ≡ Less) p f k) → HasNormal f
       go (inl z) = record { normal = []; same = record { at = λ x. zero_number p ∙ sym (z x) }; descends = tt; residues = tt }
       go (inr (k, leads)) = led f k leads (before (without (eq_by_cmp cmp) k f) (smaller k f leads.nonzero))
 

@@ -9,7 +9,7 @@ use Rattle.nc_criteria.specs.Searches.{IsBestBetween}
 use Rattle.nc_criteria.specs.declared.lead.Lead.{Lead}
 use Rattle.nc_criteria.specs.declared.multiple.Multiple.{Multiple}
 use Rattle.nc_theory.proofs.Quotients.{IsWithNext, at_found, better_step}
-use Rattle.nc_theory.specs.Best.{IsAt, best_of}
+use Rattle.nc_theory.specs.Best.{IsMultipleAt, best_of}
 use Rattle.nc_theory.specs.Found.{Best}
 use Rattle.nc_theory.specs.Divisors.{Divisor, signature_at}
 use Rattle.nc_theory.specs.States.{Entry}
@@ -20,7 +20,7 @@ use Rattle.std.proofs.lemmas.Option.{get_or_from_slice_get, slice_get_within}
 module _ (s : Setting) (entries : List Entry) (τ : Monomial) where
   -- ---- the multiple of one entry
 
-  pub lead_found : (n : ℕ) (l : Lead) (b : Best) → IsLeadAt s entries n l → times b.left (monomial_of l.sig.now) b.right ≡ τ → b.word ≡ b.left ++ (l.word.now ++ b.right) → b.number ≡ n + 1 → IsAt s entries τ n (Some b)
+  pub lead_found : (n : ℕ) (l : Lead) (b : Best) → IsLeadAt s entries n l → times b.left (monomial_of l.sig.now) b.right ≡ τ → b.word ≡ b.left ++ (l.word.now ++ b.right) → b.number ≡ n + 1 → IsMultipleAt s entries τ n (Some b)
   lead_found n l b lead signed spells number =
       at_found s entries τ n lead.entry b (slice_get_within entries n lead.entry lead.stands) (sym (get_or_from_slice_get entries n lead.entry lead.entry lead.stands)) (ap (λ σ. times b.left σ b.right) lead.signed ∙ signed) (spells ∙ ap (λ x. b.left ++ (x ++ b.right)) (sym lead.leads)) number
 
@@ -45,7 +45,7 @@ module _ (s : Setting) (entries : List Entry) (τ : Monomial) where
     pub best_start : IsBestBetween s entries τ after after None
     best_start w d m = omega (arith, m.later, m.within)
 
-    pub best_further : (n : ℕ) (best next : Option Best) → after ≤ n → IsBestBetween s entries τ after n best → IsAt s entries τ n next → IsBestBetween s entries τ after (n + 1) (best_of best next)
+    pub best_further : (n : ℕ) (best next : Option Best) → after ≤ n → IsBestBetween s entries τ after n best → IsMultipleAt s entries τ n next → IsBestBetween s entries τ after (n + 1) (best_of best next)
     best_further n best next h = better_step s entries τ n (IsMultipleWithin s entries τ after n) (IsMultipleWithin s entries τ after (n + 1)) (next_within n h) best next
 
     -- ---- up to the last entry or the one that is given

@@ -3,7 +3,7 @@
 ghost use Rattle.nc_algebra.specs.Monomials.{monomial_of};
 ghost use Rattle.nc_criteria.specs.Multiples.{BestMultipleLaw, IsBestWithin};
 ghost use Rattle.nc_criteria.specs.Searches.{IsBestBetween, found_of};
-ghost use Rattle.nc_theory.specs.Best.{IsAt, best_of};
+ghost use Rattle.nc_theory.specs.Best.{IsMultipleAt, best_of};
 ghost use Rattle.std.specs.Prelude.{length, option_map, ◌-◌, ◌<◌, ◌≡◌, ◌≤◌};
 
 use crate::lead::Lead;
@@ -32,7 +32,7 @@ struct Found<'a> {
 fn multiple_of<'a>(snapshot: &'a Snapshot, sig: &'a Sig, number: u32) -> Option<Found<'a>>
     requires some { 1 ≤ number }
     requires within { number ≤ length snapshot.now.state.entries }
-    ensures { IsAt snapshot.now.problem.problem.setting snapshot.now.state.entries (monomial_of sig.now) (number - 1) (option_map found_of result) }
+    ensures { IsMultipleAt snapshot.now.problem.problem.setting snapshot.now.state.entries (monomial_of sig.now) (number - 1) (option_map found_of result) }
 {
     let lead = Lead::of(snapshot, number);
     let (first, third) = sig.divide(lead.sig)?;

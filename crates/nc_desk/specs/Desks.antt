@@ -16,7 +16,7 @@ use Rattle.nc_theory.specs.Runs.{IsNext, IsWaiting}
 use Rattle.std.specs.Prelude.{Contains, List, Option, ℕ, ◌<◌, ◌↔◌, ◌≤◌}
 
 -- a snapshot, and how many signatures may be claimed at once
-pub record Desk : Type 0 where
+pub record DeskValue : Type 0 where
   pub snapshot : Snapshot
   pub window : ℕ
 
@@ -48,7 +48,7 @@ abbrev pub MayStep : Snapshot → Type 0
 MayStep s = Waits s × (s.handled < s.problem.problem.steps)
 
 -- the later desk is of the same problem and the same window, and has handled as many signatures or more
-pub record IsLater (old new : Desk) : Type 0 where
+pub record IsLater (old new : DeskValue) : Type 0 where
   pub problem : new.snapshot.problem ≡ old.snapshot.problem
   pub window : new.window ≡ old.window
   pub handled : old.snapshot.handled ≤ new.snapshot.handled

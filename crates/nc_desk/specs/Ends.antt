@@ -39,7 +39,7 @@ pub record Finished : Type 0 where
   pub driven : ℕ
 
 -- the leads are those of its entries, and the end is reached
-pub record IsFinished (s : Snapshot) (leads : List Lead) (e : End) : Type 0 where
+pub record IsFinishedRun (s : Snapshot) (leads : List Lead) (e : End) : Type 0 where
   pub listed : LeadsOf s leads
   pub ends : IsEndAt s (end_of e)
   pub degree : HasEndDegree s.problem.problem.setting e

@@ -49,9 +49,9 @@ pub struct Desk {
 }
 
 impl Model for Desk {
-    ghost use Rattle.nc_desk.specs.Desks.{Desk, IsDesk};
+    ghost use Rattle.nc_desk.specs.Desks.{DeskValue, IsDesk};
 
-    ghost Value = { Desk };
+    ghost Value = { DeskValue };
 
     ghost view = { λ d. record { snapshot = d.snapshot; window = d.window } };
 

@@ -1,6 +1,6 @@
 //! The end of a run.
 
-ghost use Rattle.nc_desk.specs.Ends.{HasEndDegree, IsEndAt, IsFinished, end_of};
+ghost use Rattle.nc_desk.specs.Ends.{HasEndDegree, IsEndAt, IsFinishedRun, end_of};
 ghost use Rattle.nc_reduce.specs.Leads.{LeadsOf};
 ghost use Rattle.std.specs.Prelude.{◌≡◌};
 
@@ -29,19 +29,19 @@ pub struct Finished {
 }
 
 impl Model for Finished {
-    ghost use Rattle.nc_desk.specs.Ends.{Finished, IsFinished, end_of};
+    ghost use Rattle.nc_desk.specs.Ends.{Finished, IsFinishedRun, end_of};
 
     ghost Value = { Finished };
 
     ghost view = { λ f. record { snapshot = f.snapshot; ending = end_of f.end; driven = f.driven } };
 
-    ghost invariant = { λ f. IsFinished f.snapshot f.leads f.end };
+    ghost invariant = { λ f. IsFinishedRun f.snapshot f.leads f.end };
 }
 
 impl Finished {
     /// The run that ends so, after so many signatures of which the last ones were driven.
     pub(crate) fn of(snapshot: Snapshot, leads: Leads, end: End, driven: u64) -> Finished
-        requires { IsFinished snapshot leads end }
+        requires { IsFinishedRun snapshot leads end }
         ensures { result ≡ record { snapshot = snapshot; ending = end_of end; driven = driven } }
     {
         Finished {

@@ -23,9 +23,9 @@ use Rattle.nc_cofactor.specs.Traces.{IsTraceIn}
 use Rattle.nc_member.proofs.Places.{Ascends, ascends, item_before, item_last, line_at, stands_before}
 use Rattle.nc_member.proofs.Reaches.{IsLight, IsReached, IsShort, generator_part, line_part, line_short}
 use Rattle.nc_member.proofs.Values.{IsStartValued, IsValued, claim_value, trace_value}
-use Rattle.nc_member.specs.Lines.{claim_line, line_of, start_part, step_part, trace_line}
+use Rattle.nc_member.specs.Lines.{line_of_claim, line_of, start_part, step_part, trace_line}
 use Rattle.nc_theory.proofs.OverAlphabet.{generator_over, polynomial_over, word_in}
-use Rattle.nc_theory.specs.Named.{letters_of}
+use Rattle.nc_theory.specs.Named.{alphabet_letters}
 use Rattle.nc_snapshot.specs.declared.outcome.Listed.TheVariants.{Entry as EntryOf}
 use Rattle.nc_theory.proofs.Completeness.{invariant}
 use Rattle.nc_theory.proofs.Letters.{StepOver, subtracted_over}
@@ -208,17 +208,17 @@ module _ (P : NamedProblem) (is : IsProblem P) (prime : IsPrime P.problem.settin
     claim_listed e step c = (lists.exact step.number).1 (IsNeededFor.given (subst (λ (l : List ℕ). Contains l step.number) (sym e) (number_listed steps step c)))
 
     module _ (given : numbers ≡ numbers_of steps) (in_it : IsPolynomialIn P.alphabet P.problem.setting.prime f) where
-      inputs : (i : ℕ) → WordsAre P.problem.setting (IsOver (letters_of P.alphabet)) (generator P.problem.setting i)
+      inputs : (i : ℕ) → WordsAre P.problem.setting (IsOver (alphabet_letters P.alphabet)) (generator P.problem.setting i)
       inputs = generator_over (setting_of P) is.setting
 
-      claim_sides : AllByRecursion (StepOver (letters_of P.alphabet)) steps
-      claim_sides = subtracted_over P.problem field (letters_of P.alphabet) inputs runs (IsWithin P.problem) reduces (polynomial_over P.alphabet P.problem.setting f in_it.words)
+      claim_sides : AllByRecursion (StepOver (alphabet_letters P.alphabet)) steps
+      claim_sides = subtracted_over P.problem field (alphabet_letters P.alphabet) inputs runs (IsWithin P.problem) reduces (polynomial_over P.alphabet P.problem.setting f in_it.words)
 
       -- the lines behind which it stands are those of all needed entries
       module _ (values : List Polynomial) (reaches : List ℕ) (behind : IsBehind P.problem.setting run.entries needed needed values reaches) where
         claim_ready : AllByRecursion (IsReady (setting_of P) is.setting field.above_one run.entries needed reaches (bound_degree P.problem.setting P.problem.bound) is.limited) steps
         claim_ready = each_listed (IsReady (setting_of P) is.setting field.above_one run.entries needed reaches (bound_degree P.problem.setting P.problem.bound) is.limited) steps (λ step c.
-            let sides : StepOver (letters_of P.alphabet) step = subst (StepOver (letters_of P.alphabet)) c.2 (All-from_recursion (StepOver (letters_of P.alphabet)) steps claim_sides c.0 step c.1) in (
+            let sides : StepOver (alphabet_letters P.alphabet) step = subst (StepOver (alphabet_letters P.alphabet)) c.2 (All-from_recursion (StepOver (alphabet_letters P.alphabet)) steps claim_sides c.0 step c.1) in (
               subst (λ (t : Step). t.coefficient < P.problem.setting.prime) c.2 (All-from_recursion (λ (t : Step). t.coefficient < P.problem.setting.prime) steps (claim_residues reduces) c.0 step c.1),
               (word_in P.alphabet step.left sides.0, word_in P.alphabet step.right sides.1),
               (
@@ -227,11 +227,11 @@ module _ (P : NamedProblem) (is : IsProblem P) (prime : IsPrime P.problem.settin
               ),
             ))
 
-        claim_parts : AllByRecursion (IsPart (setting_of P) reaches) (claim_line needed steps)
-        claim_parts = parts_are (setting_of P) reaches (bound_degree P.problem.setting P.problem.bound + 255) (claim_line needed steps) (step_parts (setting_of P) is.setting field.above_one run.entries needed reaches (bound_degree P.problem.setting P.problem.bound) is.limited (λ c. c) (λ c h. h) steps claim_ready)
+        claim_parts : AllByRecursion (IsPart (setting_of P) reaches) (line_of_claim needed steps)
+        claim_parts = parts_are (setting_of P) reaches (bound_degree P.problem.setting P.problem.bound + 255) (line_of_claim needed steps) (step_parts (setting_of P) is.setting field.above_one run.entries needed reaches (bound_degree P.problem.setting P.problem.bound) is.limited (λ c. c) (λ c h. h) steps claim_ready)
 
-        claim_same : SamePolynomial P.problem.setting (line_value P.problem.setting values (claim_line needed steps)) f
-        claim_same = record { at = λ y. ap (λ m. m % P.problem.setting.prime) (no_more (coefficient (line_value P.problem.setting values (claim_line needed steps)) y)) ∙ sym (claim_value P.problem.setting positive run.entries needed values run.entries itself_at (IsWithin P.problem) reduces (each_listed (λ step. IsValued P.problem.setting run.entries needed values step.number) steps (λ step c. behind.valued step.number (claim_listed given step c))) y) }
+        claim_same : SamePolynomial P.problem.setting (line_value P.problem.setting values (line_of_claim needed steps)) f
+        claim_same = record { at = λ y. ap (λ m. m % P.problem.setting.prime) (no_more (coefficient (line_value P.problem.setting values (line_of_claim needed steps)) y)) ∙ sym (claim_value P.problem.setting positive run.entries needed values run.entries itself_at (IsWithin P.problem) reduces (each_listed (λ step. IsValued P.problem.setting run.entries needed values step.number) steps (λ step c. behind.valued step.number (claim_listed given step c))) y) }
           where
             no_more : (m : ℕ) → m ≡ m + 0
             no_more m = omega arith
@@ -245,13 +245,13 @@ module _ (P : NamedProblem) (is : IsProblem P) (prime : IsPrime P.problem.settin
         pub value : SamePolynomial P.problem.setting (item [] (values_after P.problem.setting values lines) count) f
         pub keeps : AreLines (setting_of P) reaches lines
 
-      all_lines : (values : List Polynomial) (reaches : List ℕ) (done : List ℕ) (rest : List (ℕ × Trace)) → needed ≡ done ++ map (λ x. x.0) rest → IsBehind P.problem.setting run.entries needed done values reaches → AllByRecursion (λ x. IsTraceIn run (EntryOf x.0) x.1) rest → IsDone values reaches (entry_lines rest ++ (claim_line needed steps ∷ [])) (length values + (length rest + 1))
+      all_lines : (values : List Polynomial) (reaches : List ℕ) (done : List ℕ) (rest : List (ℕ × Trace)) → needed ≡ done ++ map (λ x. x.0) rest → IsBehind P.problem.setting run.entries needed done values reaches → AllByRecursion (λ x. IsTraceIn run (EntryOf x.0) x.1) rest → IsDone values reaches (entry_lines rest ++ (line_of_claim needed steps ∷ [])) (length values + (length rest + 1))
       unfolding values_after
       all_lines values reaches done [] e behind a =
           let here : IsBehind P.problem.setting run.entries needed needed values reaches = subst (λ (l : List ℕ). IsBehind P.problem.setting run.entries needed l values reaches) (sym (append-nil done) ∙ sym e) behind in
           record {
-            value = subst (λ (g : Polynomial). SamePolynomial P.problem.setting g f) (sym (item_last [] values (line_value P.problem.setting values (claim_line needed steps)) (length values + (0 + 1)) (omega arith))) (claim_same values reaches here);
-            keeps = (All-from_recursion (IsPart (setting_of P) reaches) (claim_line needed steps) (claim_parts values reaches here), tt);
+            value = subst (λ (g : Polynomial). SamePolynomial P.problem.setting g f) (sym (item_last [] values (line_value P.problem.setting values (line_of_claim needed steps)) (length values + (0 + 1)) (omega arith))) (claim_same values reaches here);
+            keeps = (All-from_recursion (IsPart (setting_of P) reaches) (line_of_claim needed steps) (claim_parts values reaches here), tt);
           }
       all_lines values reaches done (x ∷ rest) e behind a = go (λ more far before splits stands. all_lines more far before rest splits stands a.1) a.0
         where
@@ -264,7 +264,7 @@ module _ (P : NamedProblem) (is : IsProblem P) (prime : IsPrime P.problem.settin
           reach : ℕ
           reach = line_reach P.problem.setting reaches line
 
-          go : ((more : List Polynomial) (far before : List ℕ) → needed ≡ before ++ map (λ y. y.0) rest → IsBehind P.problem.setting run.entries needed before more far → IsDone more far (entry_lines rest ++ (claim_line needed steps ∷ [])) (length more + (length rest + 1))) → IsTraceIn run (EntryOf x.0) x.1 → IsDone values reaches (line ∷ (entry_lines rest ++ (claim_line needed steps ∷ []))) (length values + (length (x ∷ rest) + 1))
+          go : ((more : List Polynomial) (far before : List ℕ) → needed ≡ before ++ map (λ y. y.0) rest → IsBehind P.problem.setting run.entries needed before more far → IsDone more far (entry_lines rest ++ (line_of_claim needed steps ∷ [])) (length more + (length rest + 1))) → IsTraceIn run (EntryOf x.0) x.1 → IsDone values reaches (line ∷ (entry_lines rest ++ (line_of_claim needed steps ∷ []))) (length values + (length (x ∷ rest) + 1))
           go others (entry, some, at, i) = record { value = later.value; keeps = (All-from_recursion (IsPart (setting_of P) reaches) line (parts_are (setting_of P) reaches (degree P.problem.setting entry.signature + 255) line own.parts), later.keeps) }
             where
               own : IsEntryLine values reaches entry x.1
@@ -278,8 +278,8 @@ module _ (P : NamedProblem) (is : IsProblem P) (prime : IsPrime P.problem.settin
                   (λ y there. subst (λ (z : Entry). SamePolynomial P.problem.setting value z.polynomial) (one_entry y there) own.value)
                   (λ y there. subst (λ (z : Entry). reach ≤ degree P.problem.setting z.signature + 255) (one_entry y there) (line_short P.problem.setting reaches (degree P.problem.setting entry.signature + 255) line (parts_short (setting_of P) reaches (degree P.problem.setting entry.signature + 255) line own.parts)))
 
-              later : IsDone (values ++ value ∷ []) (reaches ++ reach ∷ []) (entry_lines rest ++ (claim_line needed steps ∷ [])) (length values + (length (x ∷ rest) + 1))
-              later = subst (IsDone (values ++ value ∷ []) (reaches ++ reach ∷ []) (entry_lines rest ++ (claim_line needed steps ∷ []))) (omega (arith, length-append values (value ∷ []))) (others (values ++ value ∷ []) (reaches ++ reach ∷ []) (done ++ x.0 ∷ []) (e ∙ sym (append_assoc done (x.0 ∷ []) (map (λ y. y.0) rest))) next)
+              later : IsDone (values ++ value ∷ []) (reaches ++ reach ∷ []) (entry_lines rest ++ (line_of_claim needed steps ∷ [])) (length values + (length (x ∷ rest) + 1))
+              later = subst (IsDone (values ++ value ∷ []) (reaches ++ reach ∷ []) (entry_lines rest ++ (line_of_claim needed steps ∷ []))) (omega (arith, length-append values (value ∷ []))) (others (values ++ value ∷ []) (reaches ++ reach ∷ []) (done ++ x.0 ∷ []) (e ∙ sym (append_assoc done (x.0 ∷ []) (map (λ y. y.0) rest))) next)
 
-      pub lines_prove : (traces : List (ℕ × Trace)) → needed ≡ map (λ x. x.0) traces → All (λ x. IsTraceIn run (EntryOf x.0) x.1) traces → IsDone [] [] (entry_lines traces ++ (claim_line needed steps ∷ [])) (length (entry_lines traces ++ (claim_line needed steps ∷ [])))
-      lines_prove traces e a = subst (IsDone [] [] (entry_lines traces ++ (claim_line needed steps ∷ []))) (omega (arith, length-append (entry_lines traces) (claim_line needed steps ∷ []), length-map traces (λ (x : ℕ × Trace). trace_line P.problem.setting.prime needed x.1))) (all_lines [] [] [] traces e (record { many = refl; long = refl; valued = λ j c. absurd (omega (arith, c.1)); reached = λ j c. absurd (omega (arith, c.1)) }) (recursion_from_All (λ x. IsTraceIn run (EntryOf x.0) x.1) traces a))
+      pub lines_prove : (traces : List (ℕ × Trace)) → needed ≡ map (λ x. x.0) traces → All (λ x. IsTraceIn run (EntryOf x.0) x.1) traces → IsDone [] [] (entry_lines traces ++ (line_of_claim needed steps ∷ [])) (length (entry_lines traces ++ (line_of_claim needed steps ∷ [])))
+      lines_prove traces e a = subst (IsDone [] [] (entry_lines traces ++ (line_of_claim needed steps ∷ []))) (omega (arith, length-append (entry_lines traces) (line_of_claim needed steps ∷ []), length-map traces (λ (x : ℕ × Trace). trace_line P.problem.setting.prime needed x.1))) (all_lines [] [] [] traces e (record { many = refl; long = refl; valued = λ j c. absurd (omega (arith, c.1)); reached = λ j c. absurd (omega (arith, c.1)) }) (recursion_from_All (λ x. IsTraceIn run (EntryOf x.0) x.1) traces a))

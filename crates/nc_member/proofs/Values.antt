@@ -11,7 +11,7 @@ use Rattle.nc_algebra.specs.Polynomials.{Polynomial, coefficient, polynomial_tim
 use Rattle.nc_algebra.specs.Primes.{IsZero}
 use Rattle.nc_algebra.specs.Sums.{is_at}
 use Rattle.nc_algebra.specs.Words.{Word, same_word}
-use Rattle.nc_member.specs.Lines.{claim_line, line_of, start_part, step_part, trace_line}
+use Rattle.nc_member.specs.Lines.{line_of_claim, line_of, start_part, step_part, trace_line}
 use Rattle.nc_theory.proofs.Chains.{coefficient_polynomial_minus, sum_mod}
 use Rattle.nc_theory.proofs.Closure.{put_back}
 use Rattle.nc_theory.specs.Divisors.{multiple_at, number_of}
@@ -62,9 +62,9 @@ module _ (s : Setting) (positive : 0 < s.prime) (entries : List Entry) (needed :
   no_value y = refl
 
   -- the negated multiples cancel the multiples
-  cancels : (steps : List Step) → AllByRecursion (λ step. step.coefficient < s.prime) steps → (y : Word) → IsZero s.prime (coefficient (line_value s values (against steps)) y + coefficient (line_value s values (claim_line needed steps)) y)
+  cancels : (steps : List Step) → AllByRecursion (λ step. step.coefficient < s.prime) steps → (y : Word) → IsZero s.prime (coefficient (line_value s values (against steps)) y + coefficient (line_value s values (line_of_claim needed steps)) y)
   cancels [] a y = subst (IsZero s.prime) (sym (ap₂ (λ m n. m + n) (no_value y) (no_value y))) (zero_number s.prime)
-  cancels (t ∷ steps) a y = subst (IsZero s.prime) (sym (ap₂ (λ k l. k + l) (more_value (step_part needed ((s.prime - t.coefficient) % s.prime) t) (against steps) y) (more_value (step_part needed t.coefficient t) (claim_line needed steps) y) ∙ regroup ((s.prime - t.coefficient) % s.prime * m) n (t.coefficient * m) o)) (zero_add s.prime ((s.prime - t.coefficient) % s.prime * m + t.coefficient * m) (n + o) (cancelled s.prime t.coefficient m a.0) (cancels steps a.1 y))
+  cancels (t ∷ steps) a y = subst (IsZero s.prime) (sym (ap₂ (λ k l. k + l) (more_value (step_part needed ((s.prime - t.coefficient) % s.prime) t) (against steps) y) (more_value (step_part needed t.coefficient t) (line_of_claim needed steps) y) ∙ regroup ((s.prime - t.coefficient) % s.prime * m) n (t.coefficient * m) o)) (zero_add s.prime ((s.prime - t.coefficient) % s.prime * m + t.coefficient * m) (n + o) (cancelled s.prime t.coefficient m a.0) (cancels steps a.1 y))
     where
       m : ℕ
       m = coefficient (polynomial_times t.left (item [] values (line_of needed t.number)) t.right) y
@@ -73,7 +73,7 @@ module _ (s : Setting) (positive : 0 < s.prime) (entries : List Entry) (needed :
       n = coefficient (line_value s values (against steps)) y
 
       o : ℕ
-      o = coefficient (line_value s values (claim_line needed steps)) y
+      o = coefficient (line_value s values (line_of_claim needed steps)) y
 
       regroup : (a b c d : ℕ) → (a + b) + (c + d) ≡ (a + c) + (b + d)
       regroup a b c d = omega arith
@@ -84,18 +84,18 @@ module _ (s : Setting) (positive : 0 < s.prime) (entries : List Entry) (needed :
 
   module _ (first : List Entry) (front : (e : Entry) (c : Contains first e) → slice_get entries (c.0 + 1 - 1) ≡ Some e) where
     -- what was subtracted is the value of the claim's line
-    pub claim_value : (set : Monomial → Type 0) → {f kept : Polynomial} {steps : List Step} → Reduction s first set f kept steps → AllByRecursion (λ step. IsValued s entries needed values step.number) steps → (y : Word) → coefficient f y % s.prime ≡ (coefficient (line_value s values (claim_line needed steps)) y + coefficient kept y) % s.prime
+    pub claim_value : (set : Monomial → Type 0) → {f kept : Polynomial} {steps : List Step} → Reduction s first set f kept steps → AllByRecursion (λ step. IsValued s entries needed values step.number) steps → (y : Word) → coefficient f y % s.prime ≡ (coefficient (line_value s values (line_of_claim needed steps)) y + coefficient kept y) % s.prime
     claim_value set (Reduction.finished {f = f} n) a y = n y ∙ (sym (zero_number s.prime) ∙ ap (λ n. (n + 0) % s.prime) (sym (no_value y)))
     claim_value set (Reduction.subtract {f = f} {kept = kept} {steps = steps} w l d chosen c small q rest) a y =
         put_back s.prime (coefficient f y) c (coefficient (multiple_at s first w d) y) m positive (sym same)
         ∙ (sum_mod s.prime (coefficient f y + (s.prime - 1) * c * coefficient (multiple_at s first w d) y) (n + coefficient kept y) (c * m) (c * m) (ap (λ k. k % s.prime) (sym (coefficient_polynomial_minus s f c (multiple_at s first w d) y)) ∙ claim_value set rest a.1 y) refl
-        ∙ ap (λ k. k % s.prime) (swap n (coefficient kept y) (c * m) ∙ ap (λ k. k + coefficient kept y) (sym (more_value (step_part needed c (record { coefficient = c; left = d.left; number = number_of s first w d; right = d.right })) (claim_line needed steps) y))))
+        ∙ ap (λ k. k % s.prime) (swap n (coefficient kept y) (c * m) ∙ ap (λ k. k + coefficient kept y) (sym (more_value (step_part needed c (record { coefficient = c; left = d.left; number = number_of s first w d; right = d.right })) (line_of_claim needed steps) y))))
       where
         m : ℕ
         m = coefficient (polynomial_times d.left (item [] values (line_of needed (number_of s first w d))) d.right) y
 
         n : ℕ
-        n = coefficient (line_value s values (claim_line needed steps)) y
+        n = coefficient (line_value s values (line_of_claim needed steps)) y
 
         same : m % s.prime ≡ coefficient (multiple_at s first w d) y % s.prime
         same = multiple_value d.left (number_of s first w d) d.right d.entry (front d.entry d.listed) a.0 y
@@ -111,7 +111,7 @@ module _ (s : Setting) (positive : 0 < s.prime) (entries : List Entry) (needed :
         k = coefficient (record { coefficient = c; key = w } ∷ []) y
 
         n : ℕ
-        n = coefficient (line_value s values (claim_line needed steps)) y
+        n = coefficient (line_value s values (line_of_claim needed steps)) y
 
     -- the value of what a trace begins with
     start_value : (τ : Monomial) → {f : Polynomial} {start : Start} → Starts s first τ f start → IsStartValued s entries needed values start → (y : Word) → (start_part needed start).coefficient * coefficient (polynomial_times (start_part needed start).left (factor_value s values (start_part needed start).of) (start_part needed start).right) y % s.prime ≡ coefficient f y % s.prime
@@ -131,7 +131,7 @@ module _ (s : Setting) (positive : 0 < s.prime) (entries : List Entry) (needed :
         value : (y : Word) → coefficient (line_value s values (trace_line s.prime needed (record { start = start; steps = steps }))) y % s.prime ≡ coefficient kept y % s.prime
         value y =
             let n : ℕ = coefficient (line_value s values (against steps)) y in
-            let o : ℕ = coefficient (line_value s values (claim_line needed steps)) y in
+            let o : ℕ = coefficient (line_value s values (line_of_claim needed steps)) y in
             let k : ℕ = coefficient kept y in
             let m : ℕ = (start_part needed start).coefficient * coefficient (polynomial_times (start_part needed start).left (factor_value s values (start_part needed start).of) (start_part needed start).right) y in
             ap (λ i. i % s.prime) (more_value (start_part needed start) (against steps) y)

@@ -30,10 +30,10 @@ abbrev pub trace_line : ℕ → List ℕ → Trace → Line
 trace_line p needed trace = start_part needed trace.start ∷ map (λ step. step_part needed ((p - step.coefficient) % p) step) trace.steps
 
 -- the multiples that were subtracted from the claim
-abbrev pub claim_line : List ℕ → List Step → Line
-claim_line needed steps = map (λ step. step_part needed step.coefficient step) steps
+abbrev pub line_of_claim : List ℕ → List Step → Line
+line_of_claim needed steps = map (λ step. step_part needed step.coefficient step) steps
 
 -- the lines of the needed entries in ascending order, and then that of the claim; none where nothing was subtracted
 abbrev pub proof_lines : ℕ → List (ℕ × Trace) → List Step → List Line
 proof_lines p needed [] = []
-proof_lines p needed (step ∷ steps) = map (λ x. trace_line p (map (λ y. y.0) needed) x.1) needed ++ (claim_line (map (λ y. y.0) needed) (step ∷ steps) ∷ [])
+proof_lines p needed (step ∷ steps) = map (λ x. trace_line p (map (λ y. y.0) needed) x.1) needed ++ (line_of_claim (map (λ y. y.0) needed) (step ∷ steps) ∷ [])

@@ -2,7 +2,7 @@
 
 ghost use Rattle.nc_cofactor.specs.Claims.{AreSubtracted, numbers_of};
 ghost use Rattle.nc_member.specs.Found.{AreProofLines, AreUsable, HasResidues, entries_of, trace_lines};
-ghost use Rattle.nc_member.specs.Lines.{claim_line, line_of, start_part, step_part, trace_line};
+ghost use Rattle.nc_member.specs.Lines.{line_of_claim, line_of, start_part, step_part, trace_line};
 ghost use Rattle.nc_reduce.specs.Leads.{LeadsOf};
 ghost use Rattle.nc_snapshot.specs.Traces.{start_of};
 ghost use Rattle.std.specs.List.Sorted.{IsStrictlyIncreasing};
@@ -91,7 +91,7 @@ fn entry_line(alloc: Global, p: Prime, entries: &[u32], trace: &Trace) -> Result
 fn last_line(alloc: Global, entries: &[u32], steps: &[Step]) -> Result<Line, AllocError>
     requires ascending { IsStrictlyIncreasing entries.now }
     requires few { length entries.now ≤ 1000000000 }
-    ensures { IfOk result (λ line. line ≡ claim_line entries.now steps.now) }
+    ensures { IfOk result (λ line. line ≡ line_of_claim entries.now steps.now) }
 {
     let mut line = Line::empty(alloc);
     for step in steps {

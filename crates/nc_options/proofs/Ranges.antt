@@ -6,9 +6,9 @@ use Rattle.std.proofs.lemmas.Bool.{leb-true}
 use Rattle.nc_options.proofs.Turns.{none_of_some}
 use Rattle.nc_options.specs.Pieces.{Text}
 use Rattle.nc_options.specs.Uses.{Use, number_id, uses_of, value_of}
-use Rattle.nc_options.specs.Laws.{AreInRange, IsWithin, OptionsAreInRange}
+use Rattle.nc_options.specs.Laws.{AreInRange, IsInRange, OptionsAreInRange}
 use Rattle.nc_options.specs.Options.{basis_after, basis_names, basis_of, basis_with, check_after, demo_after, demo_names, demo_of, demo_with, member_after, member_names, member_of, member_with}
-use Rattle.nc_options.specs.Values.{cofactors_of, degree_of, digits_of, form_of, limit_of, number_in, number_of, number_or, window_of, within, workers_of}
+use Rattle.nc_options.specs.Values.{cofactors_option, degree_option, digits_of, form_option, limit_option, number_in, number_option, number_or, window_option, within, workers_option}
 use Rattle.nc_options.specs.declared.options.BasisOptions.{BasisOptions}
 use Rattle.nc_options.specs.declared.options.Cofactors.{Cofactors}
 use Rattle.nc_options.specs.declared.options.DemoOptions.{DemoOptions}
@@ -19,10 +19,10 @@ use Rattle.nc_options.specs.declared.options.Options.TheVariants.{Basis, Check, 
 
 -- ---- numbers
 
-within_range : (low high m n : ℕ) → within low high m ≡ Some n → IsWithin low high n
+within_range : (low high m n : ℕ) → within low high m ≡ Some n → IsInRange low high n
 within_range low high m n e = go (nat_le low m) (nat_le m high) refl refl e
   where
-    go : (a b : Bool) → nat_le low m ≡ a → nat_le m high ≡ b → (if a && b then Some m else None) ≡ Some n → IsWithin low high n
+    go : (a b : Bool) → nat_le low m ≡ a → nat_le m high ≡ b → (if a && b then Some m else None) ≡ Some n → IsInRange low high n
     go true true is is2 f =
         let same : m ≡ n = cc in
         let above = leb-true low m is in
@@ -31,14 +31,14 @@ within_range low high m n e = go (nat_le low m) (nat_le m high) refl refl e
     go true false is is2 f = absurd (none_of_some n f)
     go false b is is2 f = absurd (none_of_some n f)
 
-in_range : (low high : ℕ) (text : Text) (n : ℕ) → number_in low high text ≡ Some n → IsWithin low high n
+in_range : (low high : ℕ) (text : Text) (n : ℕ) → number_in low high text ≡ Some n → IsInRange low high n
 in_range low high text n e = go (digits_of text) e
   where
-    go : (o : Option ℕ) → option_and_then (within low high) o ≡ Some n → IsWithin low high n
+    go : (o : Option ℕ) → option_and_then (within low high) o ≡ Some n → IsInRange low high n
     go None f = absurd (none_of_some n f)
     go (Some m) f = within_range low high m n f
 
-or_in_range : (low high default : ℕ) (text : Option Text) (n : ℕ) → low ≤ default → default ≤ high → number_or low high default text ≡ Some n → IsWithin low high n
+or_in_range : (low high default : ℕ) (text : Option Text) (n : ℕ) → low ≤ default → default ≤ high → number_or low high default text ≡ Some n → IsInRange low high n
 or_in_range low high default None n above below e =
     let same : default ≡ n = cc in
     (omega arith, omega arith)
@@ -73,35 +73,35 @@ demo_parts (Some n) (Some d) None x o e = absurd (none_of_some o e)
 demo_parts (Some n) None w x o e = absurd (none_of_some o e)
 demo_parts None d w x o e = absurd (none_of_some o e)
 
-workers_in : (given : Text → Option Text) (n : ℕ) → workers_of given ≡ Some n → IsWithin 1 64 n
+workers_in : (given : Text → Option Text) (n : ℕ) → workers_option given ≡ Some n → IsInRange 1 64 n
 workers_in given n e = or_in_range 1 64 1 (given (codes "workers")) n (omega arith) (omega arith) e
 
-window_in : (given : Text → Option Text) (n : ℕ) → window_of given ≡ Some n → IsWithin 1 4096 n
+window_in : (given : Text → Option Text) (n : ℕ) → window_option given ≡ Some n → IsInRange 1 4096 n
 window_in given n e = or_in_range 1 4096 64 (given (codes "window")) n (omega arith) (omega arith) e
 
-limit_in : (given : Text → Option Text) (n : ℕ) → limit_of given ≡ Some n → IsWithin 1 10000000 n
+limit_in : (given : Text → Option Text) (n : ℕ) → limit_option given ≡ Some n → IsInRange 1 10000000 n
 limit_in given n e = or_in_range 1 10000000 10000 (given (codes "limit")) n (omega arith) (omega arith) e
 
 basis_in : (given : Text → Option Text) (o : BasisOptions) → basis_of given ≡ Some o → AreInRange (Basis o)
 basis_in given o e =
-    let parts = basis_parts (workers_of given) (window_of given) (limit_of given) (cofactors_of given) o e in
+    let parts = basis_parts (workers_option given) (window_option given) (limit_option given) (cofactors_option given) o e in
     (workers_in given o.workers parts.0, window_in given o.window parts.1, limit_in given o.limit parts.2)
 
 member_in : (given : Text → Option Text) (o : MemberOptions) → member_of given ≡ Some o → AreInRange (Member o)
 member_in given o e =
-    let parts = member_parts (workers_of given) (window_of given) (limit_of given) (form_of given) o e in
+    let parts = member_parts (workers_option given) (window_option given) (limit_option given) (form_option given) o e in
     (workers_in given o.workers parts.0, window_in given o.window parts.1, limit_in given o.limit parts.2)
 
 demo_in : (given : Text → Option Text) (o : DemoOptions) → demo_of given ≡ Some o → AreInRange (Demo o)
 demo_in given o e =
-    let parts = demo_parts (number_of given) (degree_of given) (workers_of given) (window_of given) o e in (
+    let parts = demo_parts (number_option given) (degree_option given) (workers_option given) (window_option given) o e in (
       number_in_range (given number_id) parts.0,
       or_in_range 2 10 6 (given (codes "degree")) o.degree (omega arith) (omega arith) parts.1,
       workers_in given o.workers parts.2,
       window_in given o.window parts.3,
     )
   where
-    number_in_range : (text : Option Text) → option_and_then (number_in 0 65536) text ≡ Some o.number → IsWithin 0 65536 o.number
+    number_in_range : (text : Option Text) → option_and_then (number_in 0 65536) text ≡ Some o.number → IsInRange 0 65536 o.number
     number_in_range None f = absurd (none_of_some o.number f)
     number_in_range (Some text) f = in_range 0 65536 text o.number f
 

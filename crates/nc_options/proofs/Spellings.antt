@@ -11,7 +11,7 @@ use Rattle.std.proofs.lemmas.List.Sums.{take_while-cons}
 use Rattle.std.proofs.lemmas.Slice.Eq.{bytes_eq-Decides}
 use Rattle.nc_options.specs.CommandLine.{OrderIsFree, UsesAreSpelled, are_names}
 use Rattle.nc_options.specs.Pieces.{Piece, Text, has_equals, hyphen_piece, is_among, joined, long_piece, name_in, named, piece_of, plain, stray, value_in}
-use Rattle.nc_options.specs.Spellings.{AreSpelled, IsPlain, IsSpelled, joined_word, option_word}
+use Rattle.nc_options.specs.Spellings.{AreSpelled, IsPlain, IsSpelled, joined_text, option_word}
 use Rattle.nc_options.specs.Uses.{Use, if_distinct, is_distinct, number_id, split, split_piece, uses_of, with_use}
 use Rattle.nc_options.proofs.Orders.{distinct-permutation, value_of-permutation}
 use Rattle.nc_options.proofs.Turns.{none_of_some}
@@ -77,7 +77,7 @@ no_equals (n ∷ names) name good among = go (bytes_eq n name) refl among (λ f.
 
 -- ---- the pieces of what is spelled
 
-joined_piece : (names : List Text) (name value : Text) → are_names names ≡ true → is_among names name ≡ true → piece_of names (joined_word name value) ≡ joined name value
+joined_piece : (names : List Text) (name value : Text) → are_names names ≡ true → is_among names name ≡ true → piece_of names (joined_text name value) ≡ joined name value
 joined_piece names name value good among =
     let none : has_equals name ≡ false = no_equals names name good among in
     let text : Text = name ++ 61 ∷ value in
@@ -118,7 +118,7 @@ spelled_splits names takes_number (u ∷ uses) words good s =
 
 -- what a piece says of its word
 abbrev Says : List Text → Text → Piece → Type 0
-Says names word (joined name value) = (word ≡ joined_word name value) × (is_among names name ≡ true)
+Says names word (joined name value) = (word ≡ joined_text name value) × (is_among names name ≡ true)
 Says names word (named name) = (word ≡ option_word name) × (is_among names name ≡ true)
 Says names word (plain w) = (word ≡ w) × IsPlain w
 Says names word stray = Unit {0}

@@ -27,15 +27,15 @@ OptionsInAnyOrder = (command : Text) (words words' : List Text) (uses uses' : Li
     → options_of (command ∷ words) ≡ options_of (command ∷ words')
 
 -- the number lies in the range, both ends included
-abbrev pub IsWithin : ℕ → ℕ → ℕ → Type 0
-IsWithin low high number = (low ≤ number) × (number ≤ high)
+abbrev pub IsInRange : ℕ → ℕ → ℕ → Type 0
+IsInRange low high number = (low ≤ number) × (number ≤ high)
 
 -- the numbers lie in their ranges
 abbrev pub AreInRange : Options → Type 0
-AreInRange (Basis options) = IsWithin 1 64 options.workers × IsWithin 1 4096 options.window × IsWithin 1 10000000 options.limit
-AreInRange (Member options) = IsWithin 1 64 options.workers × IsWithin 1 4096 options.window × IsWithin 1 10000000 options.limit
+AreInRange (Basis options) = IsInRange 1 64 options.workers × IsInRange 1 4096 options.window × IsInRange 1 10000000 options.limit
+AreInRange (Member options) = IsInRange 1 64 options.workers × IsInRange 1 4096 options.window × IsInRange 1 10000000 options.limit
 AreInRange Check = Unit {0}
-AreInRange (Demo options) = IsWithin 0 65536 options.number × IsWithin 2 10 options.degree × IsWithin 1 64 options.workers × IsWithin 1 4096 options.window
+AreInRange (Demo options) = IsInRange 0 65536 options.number × IsInRange 2 10 options.degree × IsInRange 1 64 options.workers × IsInRange 1 4096 options.window
 
 -- options that words give have numbers in their ranges, the defaults included
 abbrev pub OptionsAreInRange : Type 0

@@ -8,7 +8,7 @@ use Rattle.std.specs.Prelude.{ℕ, true, false, List, [], ◌∷◌, Option, Som
 use Rattle.std.specs.Str.{bytes_eq}
 use Rattle.nc_options.specs.Pieces.{Text}
 use Rattle.nc_options.specs.Uses.{uses_of, value_of}
-use Rattle.nc_options.specs.Values.{workers_of, window_of, limit_of, cofactors_of, form_of, number_of, degree_of}
+use Rattle.nc_options.specs.Values.{workers_option, window_option, limit_option, cofactors_option, form_option, number_option, degree_option}
 use Rattle.nc_options.specs.declared.options.Cofactors.{Cofactors}
 use Rattle.nc_options.specs.declared.options.BasisOptions.{BasisOptions}
 use Rattle.nc_options.specs.declared.options.Form.{Form}
@@ -37,13 +37,13 @@ demo_with _ _ _ _ = None
 
 -- the options of a command, by the texts that were given under each name
 abbrev pub basis_of : (Text → Option Text) → Option BasisOptions
-basis_of given = basis_with (workers_of given) (window_of given) (limit_of given) (cofactors_of given)
+basis_of given = basis_with (workers_option given) (window_option given) (limit_option given) (cofactors_option given)
 
 abbrev pub member_of : (Text → Option Text) → Option MemberOptions
-member_of given = member_with (workers_of given) (window_of given) (limit_of given) (form_of given)
+member_of given = member_with (workers_option given) (window_option given) (limit_option given) (form_option given)
 
 abbrev pub demo_of : (Text → Option Text) → Option DemoOptions
-demo_of given = demo_with (number_of given) (degree_of given) (workers_of given) (window_of given)
+demo_of given = demo_with (number_option given) (degree_option given) (workers_option given) (window_option given)
 
 -- the names of a command's options
 abbrev pub basis_names : List Text

@@ -16,13 +16,13 @@ abbrev pub option_word : Text → Text
 option_word name = codes "--" ++ name
 
 -- `--name=value`
-abbrev pub joined_word : Text → Text → Text
-joined_word name value = option_word name ++ (codes "=" ++ value)
+abbrev pub joined_text : Text → Text → Text
+joined_text name value = option_word name ++ (codes "=" ++ value)
 
 -- `--name=value`, of one of the names; the value may be any text
 pub record IsJoined (names : List Text) (u : Use) (words : List Text) : Type 0 where
   pub option : is_among names u.0 ≡ true
-  pub words_are : words ≡ joined_word u.0 u.1 ∷ []
+  pub words_are : words ≡ joined_text u.0 u.1 ∷ []
 
 -- `--name` and `value`, of one of the names; the value is a plain word
 pub record IsParted (names : List Text) (u : Use) (words : List Text) : Type 0 where

@@ -36,32 +36,32 @@ number_or low high default None = Some default
 number_or low high default (Some text) = number_in low high text
 
 -- 1 to 64 workers, 1 by default
-abbrev pub workers_of : (Text → Option Text) → Option ℕ
-workers_of given = number_or 1 64 1 (given (codes "workers"))
+abbrev pub workers_option : (Text → Option Text) → Option ℕ
+workers_option given = number_or 1 64 1 (given (codes "workers"))
 
 -- a window of 1 to 4,096, 64 by default
-abbrev pub window_of : (Text → Option Text) → Option ℕ
-window_of given = number_or 1 4096 64 (given (codes "window"))
+abbrev pub window_option : (Text → Option Text) → Option ℕ
+window_option given = number_or 1 4096 64 (given (codes "window"))
 
 -- a limit of 1 to 10,000,000 terms, 10,000 by default
-abbrev pub limit_of : (Text → Option Text) → Option ℕ
-limit_of given = number_or 1 10000000 10000 (given (codes "limit"))
+abbrev pub limit_option : (Text → Option Text) → Option ℕ
+limit_option given = number_or 1 10000000 10000 (given (codes "limit"))
 
 -- the form with this number, 1 or 2
 abbrev pub form_numbered : ℕ → Form
 form_numbered number = if number == 1 then Terms else Lines
 
 -- form 1 or 2, form 2 by default
-abbrev pub form_of : (Text → Option Text) → Option Form
-form_of given = option_map form_numbered (number_or 1 2 2 (given (codes "form")))
+abbrev pub form_option : (Text → Option Text) → Option Form
+form_option given = option_map form_numbered (number_or 1 2 2 (given (codes "form")))
 
 -- a degree of 2 to 10, 6 by default
-abbrev pub degree_of : (Text → Option Text) → Option ℕ
-degree_of given = number_or 2 10 6 (given (codes "degree"))
+abbrev pub degree_option : (Text → Option Text) → Option ℕ
+degree_option given = number_or 2 10 6 (given (codes "degree"))
 
 -- the number of a demo, which has to be given
-abbrev pub number_of : (Text → Option Text) → Option ℕ
-number_of given = option_and_then (number_in 0 65536) (given number_id)
+abbrev pub number_option : (Text → Option Text) → Option ℕ
+number_option given = option_and_then (number_in 0 65536) (given number_id)
 
 -- the cofactors that a text names: none, trace or full
 abbrev pub cofactors_named : Text → Option Cofactors
@@ -75,5 +75,5 @@ cofactors_or None = Some Omitted
 cofactors_or (Some text) = cofactors_named text
 
 -- the value of the option
-abbrev pub cofactors_of : (Text → Option Text) → Option Cofactors
-cofactors_of given = cofactors_or (given (codes "cofactors"))
+abbrev pub cofactors_option : (Text → Option Text) → Option Cofactors
+cofactors_option given = cofactors_or (given (codes "cofactors"))

@@ -1,7 +1,7 @@
 //! The values of the options.
 
 ghost use Rattle.clap.specs.Words.{first_value, found_of};
-ghost use Rattle.nc_options.specs.Values.{cofactors_named, cofactors_of, degree_of, digits_of, form_of, limit_of, number_in, number_of, number_or, window_of, workers_of};
+ghost use Rattle.nc_options.specs.Values.{cofactors_named, cofactors_option, degree_option, digits_of, form_option, limit_option, number_in, number_option, number_or, window_option, workers_option};
 ghost use Rattle.std.specs.Char.{is_ascii_digit};
 ghost use Rattle.std.specs.List.{list_all};
 ghost use Rattle.std.specs.Prelude.{◌≡◌, option_map};
@@ -49,28 +49,28 @@ fn number_or(text: Option<&str>, low: u32, high: u32, default: u32) -> Option<u3
 
 /// `--workers`, 1 to 64, by default 1.
 pub fn workers(matches: &ArgMatches<'_>) -> Option<u32>
-    ensures { result ≡ workers_of (first_value (found_of matches.now)) }
+    ensures { result ≡ workers_option (first_value (found_of matches.now)) }
 {
     number_or(matches.get_str("workers"), 1, 64, 1)
 }
 
 /// `--window`, 1 to 4,096, by default 64.
 pub fn window(matches: &ArgMatches<'_>) -> Option<u32>
-    ensures { result ≡ window_of (first_value (found_of matches.now)) }
+    ensures { result ≡ window_option (first_value (found_of matches.now)) }
 {
     number_or(matches.get_str("window"), 1, 4096, 64)
 }
 
 /// `--limit`, 1 to 10,000,000, by default 10,000.
 pub fn limit(matches: &ArgMatches<'_>) -> Option<u32>
-    ensures { result ≡ limit_of (first_value (found_of matches.now)) }
+    ensures { result ≡ limit_option (first_value (found_of matches.now)) }
 {
     number_or(matches.get_str("limit"), 1, 10_000_000, 10_000)
 }
 
 /// `--form`, 1 or 2, by default 2.
 pub fn form(matches: &ArgMatches<'_>) -> Option<Form>
-    ensures { result ≡ form_of (first_value (found_of matches.now)) }
+    ensures { result ≡ form_option (first_value (found_of matches.now)) }
 {
     let number = number_or(matches.get_str("form"), 1, 2, 2)?;
     Some(if number == 1 {
@@ -82,14 +82,14 @@ pub fn form(matches: &ArgMatches<'_>) -> Option<Form>
 
 /// `--degree`, 2 to 10, by default 6.
 pub fn degree(matches: &ArgMatches<'_>) -> Option<u32>
-    ensures { result ≡ degree_of (first_value (found_of matches.now)) }
+    ensures { result ≡ degree_option (first_value (found_of matches.now)) }
 {
     number_or(matches.get_str("degree"), 2, 10, 6)
 }
 
 /// The number of a demo, 0 to 65,536. It has no default.
 pub fn number(matches: &ArgMatches<'_>) -> Option<u32>
-    ensures { result ≡ number_of (first_value (found_of matches.now)) }
+    ensures { result ≡ number_option (first_value (found_of matches.now)) }
 {
     number_in(matches.get_str("number")?, 0, 65_536)
 }
@@ -108,7 +108,7 @@ fn named_cofactors(text: &str) -> Option<Cofactors>
 
 /// `--cofactors`, by default none.
 pub fn wanted_cofactors(matches: &ArgMatches<'_>) -> Option<Cofactors>
-    ensures { result ≡ cofactors_of (first_value (found_of matches.now)) }
+    ensures { result ≡ cofactors_option (first_value (found_of matches.now)) }
 {
     match matches.get_str("cofactors") {
         Some(text) => named_cofactors(text),

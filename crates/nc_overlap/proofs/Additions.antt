@@ -9,7 +9,7 @@ use Rattle.nc_algebra.specs.Elements.{HasDegree, degree, generator_weight}
 use Rattle.nc_algebra.specs.Monomials.{Monomial, Sig, monomial_of, times}
 use Rattle.nc_algebra.specs.Polynomials.{leading}
 use Rattle.nc_algebra.specs.Problems.{IsWithin, Problem, bound_degree}
-use Rattle.nc_overlap.specs.Overlaps.{Adds, IsEnough, MeetsEither}
+use Rattle.nc_overlap.specs.Overlaps.{AddsAmbiguities, IsEnough, MeetsEither}
 use Rattle.nc_theory.proofs.Indexed.{Before, OfEntry}
 use Rattle.nc_theory.specs.Meetings.{IsGreaterOf, IsOnly, MeetAt, MeetSomewhere}
 use Rattle.nc_theory.proofs.Determinism.{listed_same}
@@ -19,14 +19,14 @@ use Rattle.std.proofs.lemmas.List.Elements.{All-push, Contains-append_left, Cont
 use Rattle.std.proofs.lemmas.List.{get_or_default, map-append}
 
 module _ (P : Problem) where
-  pub adds_none : (set : Monomial → Type 0) (l : List Sig) → ((ρ : Monomial) → IsWithin P ρ → ¬ set ρ) → Adds P set l l
+  pub adds_none : (set : Monomial → Type 0) (l : List Sig) → ((ρ : Monomial) → IsWithin P ρ → ¬ set ρ) → AddsAmbiguities P set l l
   adds_none set l none = record { degrees = λ a. a; exact = λ ρ. (λ c. inl c, back ρ) }
     where
       back : (ρ : Monomial) → Contains (map monomial_of l) ρ ⊎ (IsWithin P ρ × set ρ) → Contains (map monomial_of l) ρ
       back ρ (inl c) = c
       back ρ (inr w) = absurd (none ρ w.0 w.1)
 
-  pub adds_one : (l : List Sig) (σ : Sig) → HasDegree P.setting σ → IsWithin P (monomial_of σ) → Adds P (λ ρ. ρ ≡ monomial_of σ) l (l ++ σ ∷ [])
+  pub adds_one : (l : List Sig) (σ : Sig) → HasDegree P.setting σ → IsWithin P (monomial_of σ) → AddsAmbiguities P (λ ρ. ρ ≡ monomial_of σ) l (l ++ σ ∷ [])
   adds_one l σ h w = record { degrees = λ a. All-push (HasDegree P.setting) l σ a h; exact = λ ρ. (forth ρ, back ρ) }
     where
       pushed : map monomial_of (l ++ σ ∷ []) ≡ map monomial_of l ++ monomial_of σ ∷ []
@@ -44,7 +44,7 @@ module _ (P : Problem) where
       back ρ (inr e) = subst (λ x. Contains x ρ) (sym pushed) (subst (Contains (map monomial_of l ++ monomial_of σ ∷ [])) (sym e.1) (Contains-push (map monomial_of l) (monomial_of σ)))
 
   -- another set with the same ones within the bound
-  pub adds_same : (A B : Monomial → Type 0) (x y : List Sig) → ((ρ : Monomial) → A ρ → B ρ) → ((ρ : Monomial) → IsWithin P ρ → B ρ → A ρ) → Adds P A x y → Adds P B x y
+  pub adds_same : (A B : Monomial → Type 0) (x y : List Sig) → ((ρ : Monomial) → A ρ → B ρ) → ((ρ : Monomial) → IsWithin P ρ → B ρ → A ρ) → AddsAmbiguities P A x y → AddsAmbiguities P B x y
   adds_same A B x y to from a = record { degrees = a.degrees; exact = λ ρ. (λ c. forth ρ ((a.exact ρ).0 c), λ c. (a.exact ρ).1 (back ρ c)) }
     where
       forth : (ρ : Monomial) → Contains (map monomial_of x) ρ ⊎ (IsWithin P ρ × A ρ) → Contains (map monomial_of x) ρ ⊎ (IsWithin P ρ × B ρ)
@@ -56,7 +56,7 @@ module _ (P : Problem) where
       back ρ (inr w) = inr (w.0, from ρ w.0 w.1)
 
   -- one after the other
-  pub adds_both : (A B : Monomial → Type 0) (x y z : List Sig) → Adds P A x y → Adds P B y z → Adds P (λ ρ. A ρ ⊎ B ρ) x z
+  pub adds_both : (A B : Monomial → Type 0) (x y z : List Sig) → AddsAmbiguities P A x y → AddsAmbiguities P B y z → AddsAmbiguities P (λ ρ. A ρ ⊎ B ρ) x z
   adds_both A B x y z a b = record { degrees = λ all. b.degrees (a.degrees all); exact = λ ρ. (λ c. forth ρ ((b.exact ρ).0 c), back ρ) }
     where
       first : (ρ : Monomial) → Contains (map monomial_of x) ρ ⊎ (IsWithin P ρ × A ρ) → Contains (map monomial_of x) ρ ⊎ (IsWithin P ρ × (A ρ ⊎ B ρ))
@@ -73,15 +73,15 @@ module _ (P : Problem) where
       back ρ (inr (w, inr h)) = (b.exact ρ).1 (inr (w, h))
 
   -- the only one of a set
-  pub adds_only : (set : Monomial → Type 0) (μ : Monomial) (x y : List Sig) → IsOnly set (Some μ) → Adds P (λ ρ. ρ ≡ μ) x y → Adds P set x y
+  pub adds_only : (set : Monomial → Type 0) (μ : Monomial) (x y : List Sig) → IsOnly set (Some μ) → AddsAmbiguities P (λ ρ. ρ ≡ μ) x y → AddsAmbiguities P set x y
   adds_only set μ x y only = adds_same (λ ρ. ρ ≡ μ) set x y (λ ρ e. subst set (sym e) only.0) (λ ρ w h. only.1 ρ h)
 
   -- ---- one kind after another
 
-  pub adds_start : (kind : ℕ → Monomial → Type 0) (l : List Sig) → Adds P (Before kind 0) l l
+  pub adds_start : (kind : ℕ → Monomial → Type 0) (l : List Sig) → AddsAmbiguities P (Before kind 0) l l
   adds_start kind l = adds_none (Before kind 0) l (λ ρ w b. omega (arith, b.1))
 
-  pub adds_step : (kind : ℕ → Monomial → Type 0) (n : ℕ) (x y z : List Sig) → Adds P (Before kind n) x y → Adds P (kind n) y z → Adds P (Before kind (n + 1)) x z
+  pub adds_step : (kind : ℕ → Monomial → Type 0) (n : ℕ) (x y z : List Sig) → AddsAmbiguities P (Before kind n) x y → AddsAmbiguities P (kind n) y z → AddsAmbiguities P (Before kind (n + 1)) x z
   adds_step kind n x y z a b = adds_same (λ ρ. Before kind n ρ ⊎ kind n ρ) (Before kind (n + 1)) x z to (λ ρ w. from ρ) (adds_both (Before kind n) (kind n) x y z a b)
     where
       to : (ρ : Monomial) → Before kind n ρ ⊎ kind n ρ → Before kind (n + 1) ρ
@@ -109,7 +109,7 @@ module _ (P : Problem) where
           omega (arith, same, degrees P.setting (times m.before f.signature m.behind_second) (times [] e.signature m.behind_first) (inr g.0))
 
   -- all places where one leading word begins within another
-  pub adds_places : (e f : Entry) (n : ℕ) (x y : List Sig) → IsEnough P (length (leading P.setting.prime e.polynomial)) (degree P.setting f.signature) n → Adds P (Before (MeetAt P.setting e f) n) x y → Adds P (MeetSomewhere P.setting e f) x y
+  pub adds_places : (e f : Entry) (n : ℕ) (x y : List Sig) → IsEnough P (length (leading P.setting.prime e.polynomial)) (degree P.setting f.signature) n → AddsAmbiguities P (Before (MeetAt P.setting e f) n) x y → AddsAmbiguities P (MeetSomewhere P.setting e f) x y
   adds_places e f n x y (inl h) = adds_same (Before (MeetAt P.setting e f) n) (MeetSomewhere P.setting e f) x y (λ ρ b. (b.0, b.2)) (λ ρ w m. (m.0, omega (arith, h, m.1.within), m.1))
   adds_places e f n x y (inr h) = adds_same (Before (MeetAt P.setting e f) n) (MeetSomewhere P.setting e f) x y (λ ρ b. (b.0, b.2)) (λ ρ w m. (m.0, room e f n m.0 ρ h w m.1, m.1))
 
@@ -121,8 +121,8 @@ module _ (P : Problem) where
   abbrev Either : Entry → Entry → Monomial → Type 0
   Either new e ρ = MeetSomewhere P.setting e new ρ ⊎ MeetSomewhere P.setting new e ρ
 
-  pub adds_entry : (entries : List Entry) (new : Entry) (k : ℕ) (x y z : List Sig) → k < length entries → Adds P (MeetSomewhere P.setting (get_or entries k new) new) x y → Adds P (MeetSomewhere P.setting new (get_or entries k new)) y z
-      → Adds P (OfEntry entries (λ e ρ. MeetSomewhere P.setting e new ρ ⊎ MeetSomewhere P.setting new e ρ) k) x z
+  pub adds_entry : (entries : List Entry) (new : Entry) (k : ℕ) (x y z : List Sig) → k < length entries → AddsAmbiguities P (MeetSomewhere P.setting (get_or entries k new) new) x y → AddsAmbiguities P (MeetSomewhere P.setting new (get_or entries k new)) y z
+      → AddsAmbiguities P (OfEntry entries (λ e ρ. MeetSomewhere P.setting e new ρ ⊎ MeetSomewhere P.setting new e ρ) k) x z
   adds_entry entries new k x y z h a b =
       adds_same (Either new e) (OfEntry entries (Either new) k) x z (λ ρ m. (e, (k, h, found), refl, m)) (λ ρ w m. subst (λ (d : Entry). Either new d ρ) (listed_same entries m.0 e m.1 (k, h, found) m.2) m.3)
       (adds_both (MeetSomewhere P.setting e new) (MeetSomewhere P.setting new e) x y z a b)
@@ -133,5 +133,5 @@ module _ (P : Problem) where
       found : get_or entries k (get_or entries k new) ≡ get_or entries k new
       found = get_or_default entries k (get_or entries k new) new h
 
-  pub adds_entries : (entries : List Entry) (new : Entry) (n : ℕ) (x y : List Sig) → length entries ≤ n → Adds P (Before (OfEntry entries (λ e ρ. MeetSomewhere P.setting e new ρ ⊎ MeetSomewhere P.setting new e ρ)) n) x y → Adds P (MeetsEither P.setting entries new) x y
+  pub adds_entries : (entries : List Entry) (new : Entry) (n : ℕ) (x y : List Sig) → length entries ≤ n → AddsAmbiguities P (Before (OfEntry entries (λ e ρ. MeetSomewhere P.setting e new ρ ⊎ MeetSomewhere P.setting new e ρ)) n) x y → AddsAmbiguities P (MeetsEither P.setting entries new) x y
   adds_entries entries new n x y h = adds_same (Before (OfEntry entries (Either new)) n) (MeetsEither P.setting entries new) x y (λ ρ b. (b.2.0, b.2.1, b.2.3)) (λ ρ w m. (m.1.0, omega (arith, h, m.1.1), (m.0, m.1, refl, m.2)))

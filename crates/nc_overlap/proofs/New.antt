@@ -4,15 +4,15 @@ use Rattle.nc_algebra.specs.Monomials.{Monomial, Sig, monomial_of}
 use Rattle.nc_algebra.specs.Problems.{IsWithin, Problem}
 use Rattle.nc_overlap.proofs.Additions.{adds_both, adds_same}
 use Rattle.nc_overlap.proofs.Ambiguities.{meets_new, new_meets}
-use Rattle.nc_overlap.specs.Overlaps.{Adds, MeetsEither}
+use Rattle.nc_overlap.specs.Overlaps.{AddsAmbiguities, MeetsEither}
 use Rattle.nc_theory.specs.Meetings.{MeetSomewhere}
 use Rattle.nc_theory.specs.Ambiguities.{NewAmbiguity}
 use Rattle.nc_theory.specs.States.{Entry}
 use Rattle.std.proofs.Common.{Contains, List, [], arith, inl, inr, map, ◌∷◌, ◌≡◌, ◌↔◌, ◌⊎◌}
 use Rattle.std.specs.List.{All}
 
-module _ (P : Problem) (entries : List Entry) (new : Entry) (none x y : List Sig) (is : none ≡ []) (itself : Adds P (MeetSomewhere P.setting new new) none x) (others : Adds P (MeetsEither P.setting entries new) x y) where
-  whole : Adds P (NewAmbiguity P.setting entries new) none y
+module _ (P : Problem) (entries : List Entry) (new : Entry) (none x y : List Sig) (is : none ≡ []) (itself : AddsAmbiguities P (MeetSomewhere P.setting new new) none x) (others : AddsAmbiguities P (MeetsEither P.setting entries new) x y) where
+  whole : AddsAmbiguities P (NewAmbiguity P.setting entries new) none y
   whole = adds_same P (λ ρ. MeetSomewhere P.setting new new ρ ⊎ MeetsEither P.setting entries new ρ) (NewAmbiguity P.setting entries new) none y (meets_new P.setting entries new) (λ ρ w. new_meets P.setting entries new ρ) (adds_both P (MeetSomewhere P.setting new new) (MeetsEither P.setting entries new) none x y itself others)
 
   nothing : (l : List Sig) (ρ : Monomial) → l ≡ [] → ¬ Contains (map monomial_of l) ρ

@@ -37,7 +37,7 @@ abbrev pub MeetsEither : Setting → List Entry → Entry → Monomial → Type 
 MeetsEither s entries new ρ = (e : Entry) × Contains entries e × (MeetSomewhere s e new ρ ⊎ MeetSomewhere s new e ρ)
 
 -- the later list has what the earlier one has and what the set has within the bound, each with its degree
-pub record Adds (P : Problem) (set : Monomial → Type 0) (old new : List Sig) : Type 0 where
+pub record AddsAmbiguities (P : Problem) (set : Monomial → Type 0) (old new : List Sig) : Type 0 where
   pub degrees : All (HasDegree P.setting) old → All (HasDegree P.setting) new
   pub exact : (ρ : Monomial) → Contains (map monomial_of new) ρ ↔ (Contains (map monomial_of old) ρ ⊎ (IsWithin P ρ × set ρ))
 
@@ -47,4 +47,4 @@ IsEnough P all degree n = (all ≤ n) ⊎ (bound_degree P.setting P.bound < n + 
 
 -- the later list has what is added where the second leading word begins within the first one
 abbrev pub AddsMeetings : Problem → Lead → Lead → List Sig → List Sig → Type 0
-AddsMeetings P first second old new = (e f : Entry) → IsLedBy P.setting first e → IsLedBy P.setting second f → Adds P (MeetSomewhere P.setting e f) old new
+AddsMeetings P first second old new = (e f : Entry) → IsLedBy P.setting first e → IsLedBy P.setting second f → AddsAmbiguities P (MeetSomewhere P.setting e f) old new

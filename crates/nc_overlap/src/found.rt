@@ -3,7 +3,7 @@
 ghost use Rattle.nc_algebra.specs.Elements.{HasDegree};
 ghost use Rattle.nc_algebra.specs.Monomials.{compare_sigs, monomial_of};
 ghost use Rattle.nc_algebra.specs.Problems.{IsWithin};
-ghost use Rattle.nc_overlap.specs.Overlaps.{Adds, AddsMeetings, AreNewSignatures, IsEnough, IsLedBy, IsSignatureOver, MeetsEither};
+ghost use Rattle.nc_overlap.specs.Overlaps.{AddsAmbiguities, AddsMeetings, AreNewSignatures, IsEnough, IsLedBy, IsSignatureOver, MeetsEither};
 ghost use Rattle.nc_overlap.specs.Sides.{side_sig};
 ghost use Rattle.nc_theory.specs.Meetings.{MeetAt};
 ghost use Rattle.nc_theory.specs.States.{Entry};
@@ -28,7 +28,7 @@ fn add_side(
     side: &Side,
 ) -> Result<(), AllocError>
     requires over { IsSignatureOver problem.now.problem.setting side.now.sig.now }
-    ensures { OnOk result (Adds problem.now.problem (λ ρ. ρ ≡ monomial_of (side_sig side.now)) (map arc_value found.old.items) (map arc_value found.new.items)) }
+    ensures { OnOk result (AddsAmbiguities problem.now.problem (λ ρ. ρ ≡ monomial_of (side_sig side.now)) (map arc_value found.old.items) (map arc_value found.new.items)) }
 {
     if side.is_within(problem) {
         let sig = side.make(alloc, problem)?;
@@ -49,7 +49,7 @@ fn add_at(
     requires first { IsSignatureOver problem.now.problem.setting first.now.sig.now }
     requires second { IsSignatureOver problem.now.problem.setting second.now.sig.now }
     requires within { at < length first.now.word.now }
-    ensures { OnOk result ((e f : Entry) → IsLedBy problem.now.problem.setting first.now e → IsLedBy problem.now.problem.setting second.now f → Adds problem.now.problem (MeetAt problem.now.problem.setting e f at) (map arc_value found.old.items) (map arc_value found.new.items)) }
+    ensures { OnOk result ((e f : Entry) → IsLedBy problem.now.problem.setting first.now e → IsLedBy problem.now.problem.setting second.now f → AddsAmbiguities problem.now.problem (MeetAt problem.now.problem.setting e f at) (map arc_value found.old.items) (map arc_value found.new.items)) }
 {
     match greater_side(first, second, at) {
         Some(side) => add_side(alloc, problem, found, &side),
@@ -119,7 +119,7 @@ fn add_entries(
     new: &Lead,
 ) -> Result<(), AllocError>
     requires { IsSignatureOver snapshot.now.problem.problem.setting new.now.sig.now }
-    ensures { OnOk result ((e : Entry) → IsLedBy snapshot.now.problem.problem.setting new.now e → Adds snapshot.now.problem.problem (MeetsEither snapshot.now.problem.problem.setting snapshot.now.state.entries e) (map arc_value found.old.items) (map arc_value found.new.items)) }
+    ensures { OnOk result ((e : Entry) → IsLedBy snapshot.now.problem.problem.setting new.now e → AddsAmbiguities snapshot.now.problem.problem (MeetsEither snapshot.now.problem.problem.setting snapshot.now.state.entries e) (map arc_value found.old.items) (map arc_value found.new.items)) }
 {
     let problem: &Problem = snapshot.problem();
     for index in 0..snapshot.entries() {

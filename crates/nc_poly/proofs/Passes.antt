@@ -76,7 +76,7 @@ listed_push [] e = refl
 listed_push {K} (d ∷ es) e = ap (λ (l : List (Term K)). record { coefficient = d.1; key = d.0 } ∷ l) (listed_push es e)
 
 -- how far the terms are added: those in `rest` are not
-pub record Adds {K : Type 0} (cmp : K → K → Ordering) (p pass : ℕ) (start now : List (K × Slot)) (terms rest : List (K × ℕ)) : Type 0 where
+pub record AddsSlots {K : Type 0} (cmp : K → K → Ordering) (p pass : ℕ) (start now : List (K × Slot)) (terms rest : List (K × ℕ)) : Type 0 where
   pub sum : SameSum (eq_by_cmp cmp) p (listed rest ++ terms_by now_of now) (listed terms ++ terms_by now_of start)
   pub before : terms_by (before_at pass) now ≡ terms_by (before_at pass) start
   pub residues : AreResiduesBy p (terms_by now_of now)
@@ -84,7 +84,7 @@ pub record Adds {K : Type 0} (cmp : K → K → Ordering) (p pass : ℕ) (start 
   pub stamps : All (λ e. e.1.pass ≤ pass) start → All (λ e. e.1.pass ≤ pass) now
 
 module _ {K : Type 0} {cmp : K → K → Ordering} (o : IsTotalOrder cmp) (p pass : ℕ) (start now new : List (K × Slot)) (terms rest left : List (K × ℕ)) (k : K) (c : ℕ) where
-  pub adds_step : 0 < p → IsStrictlySortedBy cmp (keys_of now) → rest ≡ left ++ (k, c) ∷ [] → new ≡ insert_entry cmp now k (added pass p c (slot o p pass k c now)) → Adds cmp p pass start now terms rest → Adds cmp p pass start new terms left
+  pub adds_step : 0 < p → IsStrictlySortedBy cmp (keys_of now) → rest ≡ left ++ (k, c) ∷ [] → new ≡ insert_entry cmp now k (added pass p c (slot o p pass k c now)) → AddsSlots cmp p pass start now terms rest → AddsSlots cmp p pass start new terms left
   adds_step some s parts is h = record {
     sum = record { at = each };
     before = ap (terms_by (before_at pass)) is ∙ (added_before o p pass k c now s ∙ h.before);

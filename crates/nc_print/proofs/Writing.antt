@@ -7,7 +7,7 @@ use Rattle.nc_algebra.specs.Settings.{NamedSetting}
 use Rattle.nc_algebra.specs.Sums.{Term}
 use Rattle.nc_algebra.specs.Words.{Word}
 use Rattle.nc_module.specs.Modules.{element_of}
-use Rattle.nc_print.specs.Printing.{certificate_text, ended, line_lines, module_term_text, poly_text, setting_lines, term_line, terms_text}
+use Rattle.nc_print.specs.Printing.{certificate_text, ended, printed_line, module_term_text, poly_text, printed_setting, term_line, terms_text}
 use Rattle.std.proofs.Common.{Err, List, Ok, Result, [], ap, append_assoc, codes, get_or, if◌then◌else◌, is_ok, length, map, refl, sym, take, ℕ, ◌++◌, ◌+◌, ◌<◌, ◌∙◌, ◌∷◌, ◌≡◌, ◌≤◌}
 use Rattle.std.proofs.lemmas.List.{append-nil, map-append, take_all, take_more}
 use Rattle.std.proofs.lemmas.List.Concat.{flat_map-append}
@@ -95,14 +95,14 @@ in_a_row old heading claim last front back = simp (flat_map-append, append_assoc
 -- The pieces of a certificate in a row are its text: `headed`, `set`, `claimed` and `listed` are what is written up to each of them.
 pub written_in_a_row : (s : NamedSetting) (f : Polynomial) (lines items : List Line) (c : Certificate) (names : List (List ℕ)) (old headed set claimed listed : List ℕ)
     → record { setting = s; claim = f; lines = lines } ≡ c → names ≡ s.alphabet.names → items ≡ lines
-    → headed ≡ old ++ codes "certificate 2\n" → set ≡ headed ++ ended (setting_lines s)
-    → claimed ≡ set ++ (codes "claim " ++ poly_text names f ++ 10 ∷ []) → listed ≡ claimed ++ ended (flat_map (line_lines names) items)
+    → headed ≡ old ++ codes "certificate 2\n" → set ≡ headed ++ ended (printed_setting s)
+    → claimed ≡ set ++ (codes "claim " ++ poly_text names f ++ 10 ∷ []) → listed ≡ claimed ++ ended (flat_map (printed_line names) items)
     → listed ++ codes "end\n" ≡ old ++ certificate_text c
 written_in_a_row s f lines items c names old headed set claimed listed is same_names same heads sets claims lists =
     let claimed_is : claimed ≡ set ++ (codes "claim " ++ poly_text s.alphabet.names f ++ 10 ∷ []) = claims ∙ ap (λ (ns : List (List ℕ)). set ++ (codes "claim " ++ poly_text ns f ++ 10 ∷ [])) same_names in
-    let listed_is : listed ≡ claimed ++ ended (flat_map (line_lines s.alphabet.names) lines) =
-    lists ∙ ap (λ (ns : List (List ℕ)). claimed ++ ended (flat_map (line_lines ns) items)) same_names ∙ ap (λ (ls : List Line). claimed ++ ended (flat_map (line_lines s.alphabet.names) ls)) same in
-    let row = in_a_row old (codes "certificate 2") (codes "claim " ++ poly_text s.alphabet.names f) (codes "end") (setting_lines s) (flat_map (line_lines s.alphabet.names) lines) in
+    let listed_is : listed ≡ claimed ++ ended (flat_map (printed_line s.alphabet.names) lines) =
+    lists ∙ ap (λ (ns : List (List ℕ)). claimed ++ ended (flat_map (printed_line ns) items)) same_names ∙ ap (λ (ls : List Line). claimed ++ ended (flat_map (printed_line s.alphabet.names) ls)) same in
+    let row = in_a_row old (codes "certificate 2") (codes "claim " ++ poly_text s.alphabet.names f) (codes "end") (printed_setting s) (flat_map (printed_line s.alphabet.names) lines) in
     ap (λ (l : List ℕ). l ++ codes "end\n") (rw (listed_is, claimed_is, sets, heads) refl) ∙ row ∙ ap (λ (d : Certificate). old ++ certificate_text d) is
 
 -- what a last call says that writes a piece, or leaves what was written
@@ -113,12 +113,12 @@ written_last (Err e) new old piece text is same = tt
 -- The pieces of a certificate in form 1 in a row are its text, as above.
 pub terms_in_a_row : (s : NamedSetting) (f : Polynomial) (terms items : List (Term Sig)) (names : List (List ℕ)) (old headed set claimed listed : List ℕ)
     → names ≡ s.alphabet.names → items ≡ terms
-    → headed ≡ old ++ codes "certificate 1\n" → set ≡ headed ++ ended (setting_lines s)
+    → headed ≡ old ++ codes "certificate 1\n" → set ≡ headed ++ ended (printed_setting s)
     → claimed ≡ set ++ (codes "claim " ++ poly_text names f ++ 10 ∷ []) → listed ≡ claimed ++ ended (map (term_line names) (element_of items))
     → listed ++ codes "end\n" ≡ old ++ terms_text s f (element_of terms)
 terms_in_a_row s f terms items names old headed set claimed listed same_names same heads sets claims lists =
     let claimed_is : claimed ≡ set ++ (codes "claim " ++ poly_text s.alphabet.names f ++ 10 ∷ []) = claims ∙ ap (λ (ns : List (List ℕ)). set ++ (codes "claim " ++ poly_text ns f ++ 10 ∷ [])) same_names in
     let listed_is : listed ≡ claimed ++ ended (map (term_line s.alphabet.names) (element_of terms)) =
     lists ∙ ap (λ (ns : List (List ℕ)). claimed ++ ended (map (term_line ns) (element_of items))) same_names ∙ ap (λ (ts : List (Term Sig)). claimed ++ ended (map (term_line s.alphabet.names) (element_of ts))) same in
-    let row = in_a_row old (codes "certificate 1") (codes "claim " ++ poly_text s.alphabet.names f) (codes "end") (setting_lines s) (map (term_line s.alphabet.names) (element_of terms)) in
+    let row = in_a_row old (codes "certificate 1") (codes "claim " ++ poly_text s.alphabet.names f) (codes "end") (printed_setting s) (map (term_line s.alphabet.names) (element_of terms)) in
     ap (λ (l : List ℕ). l ++ codes "end\n") (rw (listed_is, claimed_is, sets, heads) refl) ∙ row

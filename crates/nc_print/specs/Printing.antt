@@ -69,20 +69,20 @@ abbrev pub names_line : List (List ℕ) → List ℕ
 names_line names = codes "letters" ++ flat_map (λ name. codes " " ++ name) names
 
 -- the weights, each after one space
-abbrev pub weights_line : List ℕ → List ℕ
-weights_line weights = codes "weights" ++ flat_map (λ m. codes " " ++ decimal m) weights
+abbrev pub printed_weights : List ℕ → List ℕ
+printed_weights weights = codes "weights" ++ flat_map (λ m. codes " " ++ decimal m) weights
 
 -- the lines `letters` and, where some weight is not 1, `weights`
-abbrev pub alphabet_lines : Alphabet → List (List ℕ)
-alphabet_lines a = names_line a.names ∷ (if list_all (λ m. m == 1) a.weights then [] else weights_line a.weights ∷ [])
+abbrev pub printed_alphabet : Alphabet → List (List ℕ)
+printed_alphabet a = names_line a.names ∷ (if list_all (λ m. m == 1) a.weights then [] else printed_weights a.weights ∷ [])
 
 -- a generator behind its keyword
 abbrev pub generator_line : List (List ℕ) → Polynomial → List ℕ
 generator_line names f = codes "generator " ++ poly_text names f
 
 -- the lines `field`, `letters`, `weights` and `generator`
-abbrev pub setting_lines : NamedSetting → List (List ℕ)
-setting_lines s = (codes "field " ++ decimal s.setting.prime) ∷ (alphabet_lines s.alphabet ++ map (generator_line s.alphabet.names) s.setting.generators)
+abbrev pub printed_setting : NamedSetting → List (List ℕ)
+printed_setting s = (codes "field " ++ decimal s.setting.prime) ∷ (printed_alphabet s.alphabet ++ map (generator_line s.alphabet.names) s.setting.generators)
 
 -- a generator's number in brackets, or a line's in braces
 abbrev pub factor_text : Factor → List ℕ
@@ -94,16 +94,16 @@ abbrev pub part_line : List (List ℕ) → Part → List ℕ
 part_line names part = codes "part " ++ (decimal part.coefficient ++ (codes " " ++ (word_text names part.left ++ (factor_text part.of ++ word_text names part.right))))
 
 -- the line `line`, and the parts
-abbrev pub line_lines : List (List ℕ) → List Part → List (List ℕ)
-line_lines names parts = codes "line" ∷ map (part_line names) parts
+abbrev pub printed_line : List (List ℕ) → List Part → List (List ℕ)
+printed_line names parts = codes "line" ∷ map (part_line names) parts
 
 -- all lines, in their order
 abbrev pub certificate_lines : Certificate → List (List ℕ)
 certificate_lines c =
     codes "certificate 2"
-    ∷ (setting_lines c.setting
+    ∷ (printed_setting c.setting
     ++ (codes "claim " ++ poly_text c.setting.alphabet.names c.claim)
-    ∷ (flat_map (line_lines c.setting.alphabet.names) c.lines
+    ∷ (flat_map (printed_line c.setting.alphabet.names) c.lines
     ++ codes "end" ∷ []))
 
 -- each line is ended by a line feed
@@ -124,7 +124,7 @@ term_line names t = codes "term " ++ (decimal t.coefficient ++ (codes " " ++ sig
 abbrev pub terms_lines : NamedSetting → Polynomial → Element → List (List ℕ)
 terms_lines s claim terms =
     codes "certificate 1"
-    ∷ (setting_lines s
+    ∷ (printed_setting s
     ++ (codes "claim " ++ poly_text s.alphabet.names claim)
     ∷ (map (term_line s.alphabet.names) terms
     ++ codes "end" ∷ []))

@@ -1,7 +1,7 @@
 //! Printed certificates.
 
 ghost use Rattle.nc_module.specs.Factors.{factor_of};
-ghost use Rattle.nc_print.specs.Printing.{certificate_text, ended, factor_text, line_lines, part_line};
+ghost use Rattle.nc_print.specs.Printing.{certificate_text, ended, factor_text, printed_line, part_line};
 ghost use Rattle.std.specs.Prelude.{All, OnOk, [], flat_map, length, map, ◌++◌, ◌<◌, ◌∷◌, ◌≡◌};
 
 use crate::polynomial::{push_number, write_word};
@@ -59,7 +59,7 @@ fn write_parts(out: &mut Vec<u8>, names: &[Name], parts: &[Part]) -> Result<(), 
 fn write_line(out: &mut Vec<u8>, names: &[Name], line: &Line) -> Result<(), AllocError>
     requires left { All (λ part. All (λ x. x.index < length names.now) part.left) line.now }
     requires right { All (λ part. All (λ x. x.index < length names.now) part.right) line.now }
-    ensures { OnOk result (out.new.items ≡ out.old.items ++ ended (line_lines names.now line.now)) }
+    ensures { OnOk result (out.new.items ≡ out.old.items ++ ended (printed_line names.now line.now)) }
 {
     out.extend_from_slice(b"line\n")?;
     write_parts(out, names, line.parts())
@@ -69,7 +69,7 @@ fn write_line(out: &mut Vec<u8>, names: &[Name], line: &Line) -> Result<(), Allo
 pub fn write_lines(out: &mut Vec<u8>, names: &[Name], lines: &[Line]) -> Result<(), AllocError>
     requires left { All (λ line. All (λ part. All (λ x. x.index < length names.now) part.left) line) lines.now }
     requires right { All (λ line. All (λ part. All (λ x. x.index < length names.now) part.right) line) lines.now }
-    ensures { OnOk result (out.new.items ≡ out.old.items ++ ended (flat_map (line_lines names.now) lines.now)) }
+    ensures { OnOk result (out.new.items ≡ out.old.items ++ ended (flat_map (printed_line names.now) lines.now)) }
 {
     for line in lines {
         write_line(out, names, line)?;

@@ -1,6 +1,6 @@
 //! Printed settings.
 
-ghost use Rattle.nc_print.specs.Printing.{alphabet_lines, ended, generator_line, poly_text, setting_lines};
+ghost use Rattle.nc_print.specs.Printing.{printed_alphabet, ended, generator_line, poly_text, printed_setting};
 ghost use Rattle.std.specs.List.{list_all};
 ghost use Rattle.std.specs.Prelude.{All, OnOk, [], codes, decimal, flat_map, length, map, ◌++◌, ◌<◌, ◌==◌, ◌∷◌, ◌≡◌};
 
@@ -70,7 +70,7 @@ fn push_weights(out: &mut Vec<u8>, weights: &[u8]) -> Result<(), AllocError>
 
 /// Appends the lines `letters` and, where some letter doesn't weigh 1, `weights`.
 fn write_alphabet(out: &mut Vec<u8>, alphabet: &Alphabet) -> Result<(), AllocError>
-    ensures { OnOk result (out.new.items ≡ out.old.items ++ ended (alphabet_lines alphabet.now)) }
+    ensures { OnOk result (out.new.items ≡ out.old.items ++ ended (printed_alphabet alphabet.now)) }
 {
     out.extend_from_slice(b"letters")?;
     push_names(out, alphabet.names())?;
@@ -86,7 +86,7 @@ fn write_alphabet(out: &mut Vec<u8>, alphabet: &Alphabet) -> Result<(), AllocErr
 
 /// Appends the lines `field`, `letters`, `weights` and `generator`.
 pub fn write_setting(out: &mut Vec<u8>, s: &Setting) -> Result<(), AllocError>
-    ensures { OnOk result (out.new.items ≡ out.old.items ++ ended (setting_lines s.now)) }
+    ensures { OnOk result (out.new.items ≡ out.old.items ++ ended (printed_setting s.now)) }
 {
     out.extend_from_slice(b"field ")?;
     push_number(out, s.prime().number())?;

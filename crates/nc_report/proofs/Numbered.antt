@@ -1,6 +1,6 @@
 -- Lines that are written item after item, each with its number.
 use Rattle.nc_print.specs.Printing.{ended}
-use Rattle.nc_report.specs.Reports.{end_line, numbered}
+use Rattle.nc_report.specs.Reports.{ending_line, numbered}
 use Rattle.nc_theory.specs.Runs.{End}
 use Rattle.std.proofs.Common.{Err, List, None, Ok, Result, Some, [], ap, append_assoc, arith, get_or, inl, inr, length, slice_get, subst, sym, take, ℕ, ◌+◌, ◌++◌, ◌-◌, ◌<◌, ◌∙◌, ◌∷◌, ◌≡◌, ◌≤◌, ◌⊎◌}
 use Rattle.std.proofs.lemmas.List.{append-nil, length-take-le, take_all, take_more}
@@ -50,6 +50,6 @@ module _ {X : Type 0} (lines : ℕ → X → List (List ℕ)) where
 
 -- the end line of a complete run
 pub complete_line : {T E : Type 0} (r : Result T E) (new old : List ℕ) (names : List (List ℕ)) (ending : End) → End.complete ≡ ending
-    → OnOk r ((any : List (List ℕ)) → new ≡ old ++ (end_line any End.complete ++ 10 ∷ [])) → OnOk r (new ≡ old ++ (end_line names ending ++ 10 ∷ []))
-complete_line (Ok x) new old names ending is all = all names ∙ ap (λ (e : End). old ++ (end_line names e ++ 10 ∷ [])) is
+    → OnOk r ((any : List (List ℕ)) → new ≡ old ++ (ending_line any End.complete ++ 10 ∷ [])) → OnOk r (new ≡ old ++ (ending_line names ending ++ 10 ∷ []))
+complete_line (Ok x) new old names ending is all = all names ∙ ap (λ (e : End). old ++ (ending_line names e ++ 10 ∷ [])) is
 complete_line (Err e) new old names ending is all = tt

@@ -17,9 +17,9 @@ use Rattle.nc_theory.specs.States.{Entry, State, Syzygy, Trace}
 use Rattle.std.specs.Prelude.{List, [], codes, decimal, length, ℕ, ◌++◌, ◌+◌, ◌∷◌}
 
 -- the next signature where the steps were used up
-abbrev pub end_line : List (List ℕ) → End → List ℕ
-end_line names End.complete = codes "end complete"
-end_line names (End.budget τ) = codes "end budget " ++ sig_text names τ
+abbrev pub ending_line : List (List ℕ) → End → List ℕ
+ending_line names End.complete = codes "end complete"
+ending_line names (End.budget τ) = codes "end budget " ++ sig_text names τ
 
 -- the handled signatures, and what became of them
 abbrev pub counts_line : ℕ → State → List ℕ
@@ -51,7 +51,7 @@ numbered lines k (x ∷ xs) = lines k x ++ numbered lines (k + 1) xs
 -- the end, the counts, and the lines of the entries and of the syzygies, each with its number
 abbrev pub run_lines : List (List ℕ) → (ℕ → Entry → List (List ℕ)) → (ℕ → Syzygy → List (List ℕ)) → ℕ → State → End → List (List ℕ)
 run_lines names of_entry of_syzygy handled state ending =
-    end_line names ending
+    ending_line names ending
     ∷ counts_line handled state
     ∷ (numbered of_entry 1 state.entries ++ numbered of_syzygy 1 state.syzygies)
 

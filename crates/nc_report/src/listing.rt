@@ -2,7 +2,7 @@
 
 ghost use Rattle.nc_print.specs.Printing.{ended};
 ghost use Rattle.nc_reduce.specs.Leads.{LeadsOf};
-ghost use Rattle.nc_report.specs.Reports.{end_line, numbered};
+ghost use Rattle.nc_report.specs.Reports.{ending_line, numbered};
 ghost use Rattle.nc_theory.specs.States.{Entry as EntryOf, State, Syzygy as SyzygyOf};
 ghost use Rattle.nc_report.specs.Reports.{basis_report, entry_lines, syzygy_lines};
 ghost use Rattle.nc_report.specs.Shown.{IsRunAt, IsShownOf, kind_of, labels_in};
@@ -99,7 +99,7 @@ fn write_syzygies(
 
 /// Appends the end line.
 fn write_end(out: &mut Vec<u8>, finished: &Finished) -> Result<(), AllocError>
-    ensures { OnOk result (out.new.items ≡ out.old.items ++ (end_line finished.now.snapshot.problem.alphabet.names finished.now.ending ++ 10 ∷ [])) }
+    ensures { OnOk result (out.new.items ≡ out.old.items ++ (ending_line finished.now.snapshot.problem.alphabet.names finished.now.ending ++ 10 ∷ [])) }
 {
     let snapshot = finished.snapshot();
     snapshot.recall_rule();

@@ -1,7 +1,7 @@
 //! The lines that sum up a run.
 
 ghost use Rattle.nc_algebra.specs.Monomials.{monomial_of};
-ghost use Rattle.nc_report.specs.Reports.{counts_line, end_line};
+ghost use Rattle.nc_report.specs.Reports.{counts_line, ending_line};
 ghost use Rattle.nc_theory.specs.Runs.{End};
 ghost use Rattle.std.specs.Prelude.{All, List, OnOk, [], decimal, length, ℕ, ◌++◌, ◌<◌, ◌∷◌, ◌≡◌};
 
@@ -23,7 +23,7 @@ fn push_count(out: &mut Vec<u8>, what: &[u8], number: u64) -> Result<(), AllocEr
 
 /// Appends the end line of a run that is complete.
 pub(crate) fn write_complete(out: &mut Vec<u8>) -> Result<(), AllocError>
-    ensures { OnOk result ((names : List (List ℕ)) → out.new.items ≡ out.old.items ++ (end_line names End.complete ++ 10 ∷ [])) }
+    ensures { OnOk result ((names : List (List ℕ)) → out.new.items ≡ out.old.items ++ (ending_line names End.complete ++ 10 ∷ [])) }
 {
     out.extend_from_slice(b"end complete\n")
 }
@@ -33,7 +33,7 @@ pub(crate) fn write_complete(out: &mut Vec<u8>) -> Result<(), AllocError>
 pub(crate) fn write_budget(out: &mut Vec<u8>, names: &[Name], next: &Sig) -> Result<(), AllocError>
     requires left { All (λ x. x.index < length names.now) next.now.left }
     requires right { All (λ x. x.index < length names.now) next.now.right }
-    ensures { OnOk result (out.new.items ≡ out.old.items ++ (end_line names.now (End.budget (monomial_of next.now)) ++ 10 ∷ [])) }
+    ensures { OnOk result (out.new.items ≡ out.old.items ++ (ending_line names.now (End.budget (monomial_of next.now)) ++ 10 ∷ [])) }
 {
     out.extend_from_slice(b"end budget ")?;
     write_sig(out, names, next)?;

@@ -9,7 +9,7 @@ use Rattle.nc_tokens.specs.declared.fault.LineError.{LineError}
 use Rattle.nc_tokens.specs.Tokens.{Token, Times}
 use Rattle.nc_algebra.specs.Words.{Word}
 use Rattle.nc_tokens.specs.Gives.{Fails}
-use Rattle.nc_tokens.specs.Shown.{IsTaken}
+use Rattle.nc_tokens.specs.Shown.{IsTakenToken}
 use Rattle.nc_tokens.specs.Wanted.{◌>>=◌, name_at}
 use Rattle.nc_text.specs.Reading.{factor_at, after_factor, factors_at, word_at}
 use Rattle.nc_tokens.proofs.Takes.{bind_fails}
@@ -38,7 +38,7 @@ unfolding factors_at factor_at name_at
 first_fails f a [] h = h
 first_fails f a (t ∷ ts) h = bind_fails f (factor_at a [] (t ∷ ts)) _ h
 
-pub next_factor : (a : Alphabet) (w : Word) (ts rest : List Token) (whole : Read) (x : Word × List Token) → IsTaken Times ts rest true → factor_at a w rest ≡ Ok x
+pub next_factor : (a : Alphabet) (w : Word) (ts rest : List Token) (whole : Read) (x : Word × List Token) → IsTakenToken Times ts rest true → factor_at a w rest ≡ Ok x
     → IsOnTheWay a w ts whole → IsOnTheWay a x.0 x.1 whole
 unfolding factors_at
 next_factor a w ts rest whole x taken e h = by_budget h.budget h.enough h.same
@@ -51,7 +51,7 @@ next_factor a w ts rest whole x taken e h = by_budget h.budget h.enough h.same
       same = sym (ap (λ (r : Read). r >>= λ y. after_factor (factors_at n a) y.0 y.1) e) ∙ ap (λ (l : List Token). after_factor (factors_at (suc n) a) w l) (sym taken) ∙ same;
     }
 
-pub next_fails : (f : LineError) (a : Alphabet) (w : Word) (ts rest : List Token) (whole : Read) → IsTaken Times ts rest true → Fails f (factor_at a w rest)
+pub next_fails : (f : LineError) (a : Alphabet) (w : Word) (ts rest : List Token) (whole : Read) → IsTakenToken Times ts rest true → Fails f (factor_at a w rest)
     → IsOnTheWay a w ts whole → Fails f whole
 unfolding factors_at
 next_fails f a w ts rest whole taken fails h = by_budget h.budget h.enough h.same
@@ -64,5 +64,5 @@ not_times : (further : Word → List Token → Read) (w : Word) (ts : List Token
 not_times further w (Times ∷ rest) h = absurd (h rest refl)
 not_times further w ts h = refl
 
-pub last_factor : (a : Alphabet) (w : Word) (ts rest : List Token) (whole : Read) → IsTaken Times ts rest false → IsOnTheWay a w ts whole → whole ≡ Ok (w, rest)
+pub last_factor : (a : Alphabet) (w : Word) (ts rest : List Token) (whole : Read) → IsTakenToken Times ts rest false → IsOnTheWay a w ts whole → whole ≡ Ok (w, rest)
 last_factor a w ts rest whole taken h = sym h.same ∙ not_times (factors_at h.budget a) w ts taken.1 ∙ ap (λ (l : List Token). Ok (w, l)) (sym taken.0)

@@ -69,7 +69,7 @@ fn further_name(names: &[Name], bytes: &[u8]) -> Result<Name, LineError>
 }
 
 /// Reads the names of the letters.
-pub fn letters_of(alloc: Global, line: &mut Tokens<'_>) -> Result<Vec<Name>, LineError>
+pub fn letter_names(alloc: Global, line: &mut Tokens<'_>) -> Result<Vec<Name>, LineError>
     ensures reads { Gives (λ ns. ns.items) result (letters_at [] line.old) }
     ensures few { IfOk result (λ ns. length ns.items ≤ 64) }
 {

@@ -5,7 +5,7 @@ ghost use Rattle.nc_text.specs.Settings.{alphabet_lines, field_line, generator_l
 ghost use Rattle.nc_tokens.specs.Unread.{left};
 ghost use Rattle.std.specs.Prelude.{IfOk, length, ◌≤◌};
 
-use crate::rows::{field_of, generator_of, letters_of, weights_of};
+use crate::rows::{field_of, generator_of, letter_names, weights_of};
 use nc_field::Prime;
 use nc_module::{Alphabet, Name, Setting};
 use nc_poly::Poly;
@@ -32,7 +32,7 @@ fn letters_line(alloc: Global, text: &mut Text<'_>) -> Result<Vec<Name>, ReadFau
     ensures few { IfOk result (λ ns. length ns.items ≤ 64) }
 {
     let mut row = text.wants(b"letters")?;
-    let names = at(row.number, letters_of(alloc, &mut row.tokens))?;
+    let names = at(row.number, letter_names(alloc, &mut row.tokens))?;
     Ok(names)
 }
 

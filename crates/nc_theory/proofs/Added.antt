@@ -8,9 +8,9 @@ use Rattle.std.specs.List.{All, AllByRecursion, AllPairs}
 use Rattle.std.specs.Prelude.{IsPermutation}
 
 -- the second list is the first with x added at some place
-pub data Adds {X : Type 0} (x : X) : List X → List X → Type 0 where
-  here : {xs : List X} → Adds x xs (x ∷ xs)
-  later : {y : X} {xs ys : List X} → Adds x xs ys → Adds x (y ∷ xs) (y ∷ ys)
+pub data Inserts {X : Type 0} (x : X) : List X → List X → Type 0 where
+  here : {xs : List X} → Inserts x xs (x ∷ xs)
+  later : {y : X} {xs ys : List X} → Inserts x xs ys → Inserts x (y ∷ xs) (y ∷ ys)
 
 -- the relation holds of each element and each later one
 abbrev pub Pairs : {X : Type 0} → (X → X → Type 0) → List X → Type 0
@@ -54,47 +54,47 @@ module _ {X : Type 0} where
 
   -- ---- an added element
 
-  pub each_less : (Q : X → Type 0) {x : X} {xs ys : List X} → Adds x xs ys → AllByRecursion Q ys → Q x × AllByRecursion Q xs
-  each_less Q Adds.here h = h
-  each_less Q (Adds.later a) h = let t : _ = each_less Q a h.1 in (t.0, (h.0, t.1))
+  pub each_less : (Q : X → Type 0) {x : X} {xs ys : List X} → Inserts x xs ys → AllByRecursion Q ys → Q x × AllByRecursion Q xs
+  each_less Q Inserts.here h = h
+  each_less Q (Inserts.later a) h = let t : _ = each_less Q a h.1 in (t.0, (h.0, t.1))
 
-  pub each_more : (Q : X → Type 0) {x : X} {xs ys : List X} → Adds x xs ys → Q x → AllByRecursion Q xs → AllByRecursion Q ys
-  each_more Q Adds.here q h = (q, h)
-  each_more Q (Adds.later a) q h = (h.0, each_more Q a q h.1)
+  pub each_more : (Q : X → Type 0) {x : X} {xs ys : List X} → Inserts x xs ys → Q x → AllByRecursion Q xs → AllByRecursion Q ys
+  each_more Q Inserts.here q h = (q, h)
+  each_more Q (Inserts.later a) q h = (h.0, each_more Q a q h.1)
 
-  pub pairs_less : (R : X → X → Type 0) {x : X} {xs ys : List X} → Adds x xs ys → Pairs R ys → Pairs R xs
-  pairs_less R Adds.here h = h.1
-  pairs_less R (Adds.later {y = y} a) h = ((each_less (R y) a h.0).1, pairs_less R a h.1)
+  pub pairs_less : (R : X → X → Type 0) {x : X} {xs ys : List X} → Inserts x xs ys → Pairs R ys → Pairs R xs
+  pairs_less R Inserts.here h = h.1
+  pairs_less R (Inserts.later {y = y} a) h = ((each_less (R y) a h.0).1, pairs_less R a h.1)
 
-  pub pairs_around : (R : X → X → Type 0) → IsSymmetric R → {x : X} {xs ys : List X} → Adds x xs ys → Pairs R ys → AllByRecursion (R x) xs
-  pairs_around R swap Adds.here h = h.0
-  pairs_around R swap {x} (Adds.later {y = y} a) h = (swap y x (each_less (R y) a h.0).0, pairs_around R swap a h.1)
+  pub pairs_around : (R : X → X → Type 0) → IsSymmetric R → {x : X} {xs ys : List X} → Inserts x xs ys → Pairs R ys → AllByRecursion (R x) xs
+  pairs_around R swap Inserts.here h = h.0
+  pairs_around R swap {x} (Inserts.later {y = y} a) h = (swap y x (each_less (R y) a h.0).0, pairs_around R swap a h.1)
 
-  pub pairs_more : (R : X → X → Type 0) → IsSymmetric R → {x : X} {xs ys : List X} → Adds x xs ys → AllByRecursion (R x) xs → Pairs R xs → Pairs R ys
-  pairs_more R swap Adds.here e h = (e, h)
-  pairs_more R swap {x} (Adds.later {y = y} a) e h = (each_more (R y) a (swap x y e.0) h.0, pairs_more R swap a e.1 h.1)
+  pub pairs_more : (R : X → X → Type 0) → IsSymmetric R → {x : X} {xs ys : List X} → Inserts x xs ys → AllByRecursion (R x) xs → Pairs R xs → Pairs R ys
+  pairs_more R swap Inserts.here e h = (e, h)
+  pairs_more R swap {x} (Inserts.later {y = y} a) e h = (each_more (R y) a (swap x y e.0) h.0, pairs_more R swap a e.1 h.1)
 
-  pub adds_behind : {x : X} {xs ys : List X} (zs : List X) → Adds x xs ys → Adds x (zs ++ xs) (zs ++ ys)
+  pub adds_behind : {x : X} {xs ys : List X} (zs : List X) → Inserts x xs ys → Inserts x (zs ++ xs) (zs ++ ys)
   adds_behind [] a = a
-  adds_behind (z ∷ zs) a = Adds.later (adds_behind zs a)
+  adds_behind (z ∷ zs) a = Inserts.later (adds_behind zs a)
 
-  pub adds_permutes : {x : X} {xs ys : List X} → Adds x xs ys → IsPermutation (x ∷ xs) ys
-  adds_permutes {x} (Adds.here {xs = xs}) = IsPermutation-refl (x ∷ xs)
-  adds_permutes {x} (Adds.later {y = y} {xs = xs} {ys = ys} a) = IsPermutation-trans (x ∷ (y ∷ xs)) (y ∷ (x ∷ xs)) (y ∷ ys) (IsPermutation-middle (x ∷ []) y xs) (IsPermutation-cons y (x ∷ xs) ys (adds_permutes a))
+  pub adds_permutes : {x : X} {xs ys : List X} → Inserts x xs ys → IsPermutation (x ∷ xs) ys
+  adds_permutes {x} (Inserts.here {xs = xs}) = IsPermutation-refl (x ∷ xs)
+  adds_permutes {x} (Inserts.later {y = y} {xs = xs} {ys = ys} a) = IsPermutation-trans (x ∷ (y ∷ xs)) (y ∷ (x ∷ xs)) (y ∷ ys) (IsPermutation-middle (x ∷ []) y xs) (IsPermutation-cons y (x ∷ xs) ys (adds_permutes a))
 
-  pub among_here : {x : X} {xs ys : List X} → Adds x xs ys → Among x ys
-  among_here Adds.here = inl refl
-  among_here (Adds.later a) = inr (among_here a)
+  pub among_here : {x : X} {xs ys : List X} → Inserts x xs ys → Among x ys
+  among_here Inserts.here = inl refl
+  among_here (Inserts.later a) = inr (among_here a)
 
-  pub among_more : {x : X} {xs ys : List X} → Adds x xs ys → (y : X) → Among y xs → Among y ys
-  among_more Adds.here y h = inr h
-  among_more (Adds.later a) y (inl e) = inl e
-  among_more (Adds.later a) y (inr h) = inr (among_more a y h)
+  pub among_more : {x : X} {xs ys : List X} → Inserts x xs ys → (y : X) → Among y xs → Among y ys
+  among_more Inserts.here y h = inr h
+  among_more (Inserts.later a) y (inl e) = inl e
+  among_more (Inserts.later a) y (inr h) = inr (among_more a y h)
 
 module _ {X Y : Type 0} (f : X → Y) where
-  pub adds_map : {x : X} {xs ys : List X} → Adds x xs ys → Adds (f x) (map f xs) (map f ys)
-  adds_map Adds.here = Adds.here
-  adds_map (Adds.later a) = Adds.later (adds_map a)
+  pub adds_map : {x : X} {xs ys : List X} → Inserts x xs ys → Inserts (f x) (map f xs) (map f ys)
+  adds_map Inserts.here = Inserts.here
+  adds_map (Inserts.later a) = Inserts.later (adds_map a)
 
   pub among_map : (x : X) (xs : List X) → Among x xs → Among (f x) (map f xs)
   among_map x [] a = a

@@ -128,24 +128,24 @@ lt_dec m n = go (nat_order m n)
 -- ---- the ambiguities of two entries, listed
 
 -- a signature with the generator or the ambiguity behind it
-abbrev pub Found : Setting → List Entry → Type 0
-Found s entries = (ρ : Monomial) × (((i : ℕ) × (ρ ≡ unit_monomial i)) ⊎ ((w : Word) × Ambiguity s entries ρ w))
+abbrev pub FoundAmbiguity : Setting → List Entry → Type 0
+FoundAmbiguity s entries = (ρ : Monomial) × (((i : ℕ) × (ρ ≡ unit_monomial i)) ⊎ ((w : Word) × Ambiguity s entries ρ w))
 
-abbrev found : (s : Setting) (entries : List Entry) (ρ : Monomial) (w : Word) → Ambiguity s entries ρ w → Found s entries
+abbrev found : (s : Setting) (entries : List Entry) (ρ : Monomial) (w : Word) → Ambiguity s entries ρ w → FoundAmbiguity s entries
 found s entries ρ w amb = (ρ, inr (w, amb))
 
 -- what is found at the numbers below n
-collect : (s : Setting) (entries : List Entry) (Q : ℕ → Type 0) → ((k : ℕ) → Decided (Q k)) → ((k : ℕ) → Q k → Found s entries) → ℕ → List (Found s entries)
+collect : (s : Setting) (entries : List Entry) (Q : ℕ → Type 0) → ((k : ℕ) → Decided (Q k)) → ((k : ℕ) → Q k → FoundAmbiguity s entries) → ℕ → List (FoundAmbiguity s entries)
 collect s entries Q dec make zero = []
 collect s entries Q dec make (suc n) = elim (dec n) [ inl q ↦ make n q ∷ collect s entries Q dec make n | inr m ↦ collect s entries Q dec make n ]
 
-in_collect : (s : Setting) (entries : List Entry) (Q : ℕ → Type 0) (dec : (k : ℕ) → Decided (Q k)) (make : (k : ℕ) → Q k → Found s entries) → ((k : ℕ) (p q : Q k) → (make k p).0 ≡ (make k q).0) → (n k : ℕ) → k < n → (q : Q k) → (x : Found s entries) × Contains (collect s entries Q dec make n) x × (x.0 ≡ (make k q).0)
+in_collect : (s : Setting) (entries : List Entry) (Q : ℕ → Type 0) (dec : (k : ℕ) → Decided (Q k)) (make : (k : ℕ) → Q k → FoundAmbiguity s entries) → ((k : ℕ) (p q : Q k) → (make k p).0 ≡ (make k q).0) → (n k : ℕ) → k < n → (q : Q k) → (x : FoundAmbiguity s entries) × Contains (collect s entries Q dec make n) x × (x.0 ≡ (make k q).0)
 unfolding collect
 in_collect s entries Q dec make same zero k l q = absurd (omega arith)
 in_collect s entries Q dec make same (suc n) k l q = go (dec n) (nat_order k n) (in_collect s entries Q dec make same n k)
   where
-    go : (o : Decided (Q n)) → (k < n) ⊎ ((k ≡ n) ⊎ (n < k)) → (k < n → (q : Q k) → (x : Found s entries) × Contains (collect s entries Q dec make n) x × (x.0 ≡ (make k q).0)) → (x : Found s entries) × Contains (elim o [ inl q ↦ make n q ∷ collect s entries Q dec make n | inr m ↦ collect s entries Q dec make n ]) x × (x.0 ≡ (make k q).0)
-    go (inl p) (inl h) f = let t : (x : Found s entries) × Contains (collect s entries Q dec make n) x × (x.0 ≡ (make k q).0) = f h q in (t.0, Contains-append_right (make n p ∷ []) (collect s entries Q dec make n) t.0 t.1, t.2)
+    go : (o : Decided (Q n)) → (k < n) ⊎ ((k ≡ n) ⊎ (n < k)) → (k < n → (q : Q k) → (x : FoundAmbiguity s entries) × Contains (collect s entries Q dec make n) x × (x.0 ≡ (make k q).0)) → (x : FoundAmbiguity s entries) × Contains (elim o [ inl q ↦ make n q ∷ collect s entries Q dec make n | inr m ↦ collect s entries Q dec make n ]) x × (x.0 ≡ (make k q).0)
+    go (inl p) (inl h) f = let t : (x : FoundAmbiguity s entries) × Contains (collect s entries Q dec make n) x × (x.0 ≡ (make k q).0) = f h q in (t.0, Contains-append_right (make n p ∷ []) (collect s entries Q dec make n) t.0 t.1, t.2)
     go (inr m) (inl h) f = f h q
     go (inl p) (inr (inl e)) f = (make n p, (0, omega arith, refl), at k e q)
       where
@@ -175,16 +175,16 @@ module _ (s : Setting) (entries : List Entry) (i : Entry) (c : Contains entries 
   abbrev BackPast : ℕ → Type 0
   BackPast q = (x : Word) × (g : Word) × (x ++ a ≡ b ++ g) × IsLess s (times [] j.signature g) (times x i.signature []) × (length x ≡ q) × (q < length b) × (0 < q + length a)
 
-  front_within : (q : ℕ) → FrontWithin q → Found s entries
+  front_within : (q : ℕ) → FrontWithin q → FoundAmbiguity s entries
   front_within q (x, g, e, less, n, l, m) = found s entries (times [] i.signature []) a (record { high = record { entry = i; listed = c; left = []; right = []; spells = append-nil a }; low = record { entry = j; listed = d; left = x; right = g; spells = e }; spans_front = inl refl; spans_back = inl refl; high_begins = omega (arith, n, m); low_begins = omega (arith, n, l); below = less; signed = refl })
 
-  front_past : (q : ℕ) → FrontPast q → Found s entries
+  front_past : (q : ℕ) → FrontPast q → FoundAmbiguity s entries
   front_past q (x, f, e, less, n, l, m) = found s entries (times [] i.signature f) (a ++ f) (record { high = record { entry = i; listed = c; left = []; right = f; spells = refl }; low = record { entry = j; listed = d; left = x; right = []; spells = ap (λ z. x ++ z) (append-nil b) ∙ e }; spans_front = inl refl; spans_back = inr refl; high_begins = omega (arith, n, m); low_begins = omega (arith, n, l); below = less; signed = refl })
 
-  back_within : (q : ℕ) → BackWithin q → Found s entries
+  back_within : (q : ℕ) → BackWithin q → FoundAmbiguity s entries
   back_within q (x, f, e, less, n, l, m) = found s entries (times x i.signature f) b (record { high = record { entry = i; listed = c; left = x; right = f; spells = e }; low = record { entry = j; listed = d; left = []; right = []; spells = append-nil b }; spans_front = inr refl; spans_back = inr refl; high_begins = omega (arith, n, l); low_begins = omega (arith, n, m); below = less; signed = refl })
 
-  back_past : (q : ℕ) → BackPast q → Found s entries
+  back_past : (q : ℕ) → BackPast q → FoundAmbiguity s entries
   back_past q (x, g, e, less, n, l, m) = found s entries (times x i.signature []) (b ++ g) (record { high = record { entry = i; listed = c; left = x; right = []; spells = ap (λ z. x ++ z) (append-nil a) ∙ e }; low = record { entry = j; listed = d; left = []; right = g; spells = refl }; spans_front = inr refl; spans_back = inl refl; high_begins = omega (arith, n, l); low_begins = omega (arith, n, m); below = less; signed = refl })
 
   within_dec : (q : ℕ) → Decided (FrontWithin q)
@@ -255,16 +255,16 @@ module _ (s : Setting) (entries : List Entry) (i : Entry) (c : Contains entries 
   back_past_same q p r = ap (λ z. times z i.signature []) (own_front p.0 b r.0 a p.1 q p.2 p.4 p.5 r.1 r.2 r.4)
 
   -- the ambiguities with i as the high side and j as the low one
-  pair : List (Found s entries)
+  pair : List (FoundAmbiguity s entries)
   pair = collect s entries FrontWithin within_dec front_within (length a) ++ (collect s entries FrontPast past_dec front_past (length a) ++ (collect s entries BackWithin back_within_dec back_within (length b) ++ collect s entries BackPast back_past_dec back_past (length b)))
 
-  abbrev Has : List (Found s entries) → Monomial → Type 0
-  Has xs ρ = (x : Found s entries) × Contains xs x × (x.0 ≡ ρ)
+  abbrev Has : List (FoundAmbiguity s entries) → Monomial → Type 0
+  Has xs ρ = (x : FoundAmbiguity s entries) × Contains xs x × (x.0 ≡ ρ)
 
-  has_left : (xs ys : List (Found s entries)) (ρ : Monomial) → Has xs ρ → Has (xs ++ ys) ρ
+  has_left : (xs ys : List (FoundAmbiguity s entries)) (ρ : Monomial) → Has xs ρ → Has (xs ++ ys) ρ
   has_left xs ys ρ t = (t.0, Contains-append_left xs ys t.0 t.1, t.2)
 
-  has_right : (xs ys : List (Found s entries)) (ρ : Monomial) → Has ys ρ → Has (xs ++ ys) ρ
+  has_right : (xs ys : List (FoundAmbiguity s entries)) (ρ : Monomial) → Has ys ρ → Has (xs ++ ys) ρ
   has_right xs ys ρ t = (t.0, Contains-append_right xs ys t.0 t.1, t.2)
 
   in_pair : (u f x g : Word) → u ++ (a ++ f) ≡ x ++ (b ++ g) → (u ≡ []) ⊎ (x ≡ []) → (f ≡ []) ⊎ (g ≡ []) → length u < length x + length b → length x < length u + length a → IsLess s (times x j.signature g) (times u i.signature f) → Has pair (times u i.signature f)
@@ -314,7 +314,7 @@ module _ (s : Setting) (entries : List Entry) where
   unfolding entry_at
   listed_at k l = (k, l, get_or_default entries k (get_or entries k nobody) nobody l)
 
-  all_pairs : List (Found s entries)
+  all_pairs : List (FoundAmbiguity s entries)
   all_pairs = join_below (length entries) (λ k l. join_below (length entries) (λ m h. pair s entries (entry_at k) (listed_at k l) (entry_at m) (listed_at m h)) (length entries) (le_refl (length entries))) (length entries) (le_refl (length entries))
 
   -- an entry is the one that stands at its number
@@ -322,7 +322,7 @@ module _ (s : Setting) (entries : List Entry) where
   unfolding entry_at
   at_its_number e c = get_or_default entries c.0 nobody e c.1 ∙ c.2
 
-  in_all_pairs : (ρ : Monomial) (w : Word) → Ambiguity s entries ρ w → (x : Found s entries) × Contains all_pairs x × (x.0 ≡ ρ)
+  in_all_pairs : (ρ : Monomial) (w : Word) → Ambiguity s entries ρ w → (x : FoundAmbiguity s entries) × Contains all_pairs x × (x.0 ≡ ρ)
   unfolding all_pairs
   in_all_pairs ρ w amb = in_join (length entries) (λ k l. join_below (length entries) (λ m h. pair s entries (entry_at k) (listed_at k l) (entry_at m) (listed_at m h)) (length entries) (le_refl (length entries))) (λ x. x.0 ≡ ρ) amb.high.listed.0 (λ l. in_join (length entries) (λ m h. pair s entries (entry_at amb.high.listed.0) (listed_at amb.high.listed.0 l) (entry_at m) (listed_at m h)) (λ x. x.0 ≡ ρ) amb.low.listed.0 (λ h. here l h) (length entries) (le_refl (length entries)) amb.low.listed.1) (length entries) (le_refl (length entries)) amb.high.listed.1
     where
@@ -332,52 +332,52 @@ module _ (s : Setting) (entries : List Entry) where
       j : entry_at amb.low.listed.0 ≡ amb.low.entry
       j = at_its_number amb.low.entry amb.low.listed
 
-      here : (l : amb.high.listed.0 < length entries) (h : amb.low.listed.0 < length entries) → (x : Found s entries) × Contains (pair s entries (entry_at amb.high.listed.0) (listed_at amb.high.listed.0 l) (entry_at amb.low.listed.0) (listed_at amb.low.listed.0 h)) x × (x.0 ≡ ρ)
-      here l h = let t : (x : Found s entries) × Contains (pair s entries (entry_at amb.high.listed.0) (listed_at amb.high.listed.0 l) (entry_at amb.low.listed.0) (listed_at amb.low.listed.0 h)) x × (x.0 ≡ times amb.high.left (entry_at amb.high.listed.0).signature amb.high.right) = in_pair s entries (entry_at amb.high.listed.0) (listed_at amb.high.listed.0 l) (entry_at amb.low.listed.0) (listed_at amb.low.listed.0 h) amb.high.left amb.high.right amb.low.left amb.low.right ((ap (λ e. amb.high.left ++ (leading s.prime e.polynomial ++ amb.high.right)) i ∙ amb.high.spells) ∙ sym (ap (λ e. amb.low.left ++ (leading s.prime e.polynomial ++ amb.low.right)) j ∙ amb.low.spells)) amb.spans_front amb.spans_back (subst (λ e. length amb.high.left < length amb.low.left + length (leading s.prime e.polynomial)) (sym j) amb.high_begins) (subst (λ e. length amb.low.left < length amb.high.left + length (leading s.prime e.polynomial)) (sym i) amb.low_begins) (subst₂ (λ e f. IsLess s (times amb.low.left e.signature amb.low.right) (times amb.high.left f.signature amb.high.right)) (sym j) (sym i) amb.below) in (t.0, t.1, t.2 ∙ (ap (λ e. times amb.high.left e.signature amb.high.right) i ∙ amb.signed))
+      here : (l : amb.high.listed.0 < length entries) (h : amb.low.listed.0 < length entries) → (x : FoundAmbiguity s entries) × Contains (pair s entries (entry_at amb.high.listed.0) (listed_at amb.high.listed.0 l) (entry_at amb.low.listed.0) (listed_at amb.low.listed.0 h)) x × (x.0 ≡ ρ)
+      here l h = let t : (x : FoundAmbiguity s entries) × Contains (pair s entries (entry_at amb.high.listed.0) (listed_at amb.high.listed.0 l) (entry_at amb.low.listed.0) (listed_at amb.low.listed.0 h)) x × (x.0 ≡ times amb.high.left (entry_at amb.high.listed.0).signature amb.high.right) = in_pair s entries (entry_at amb.high.listed.0) (listed_at amb.high.listed.0 l) (entry_at amb.low.listed.0) (listed_at amb.low.listed.0 h) amb.high.left amb.high.right amb.low.left amb.low.right ((ap (λ e. amb.high.left ++ (leading s.prime e.polynomial ++ amb.high.right)) i ∙ amb.high.spells) ∙ sym (ap (λ e. amb.low.left ++ (leading s.prime e.polynomial ++ amb.low.right)) j ∙ amb.low.spells)) amb.spans_front amb.spans_back (subst (λ e. length amb.high.left < length amb.low.left + length (leading s.prime e.polynomial)) (sym j) amb.high_begins) (subst (λ e. length amb.low.left < length amb.high.left + length (leading s.prime e.polynomial)) (sym i) amb.low_begins) (subst₂ (λ e f. IsLess s (times amb.low.left e.signature amb.low.right) (times amb.high.left f.signature amb.high.right)) (sym j) (sym i) amb.below) in (t.0, t.1, t.2 ∙ (ap (λ e. times amb.high.left e.signature amb.high.right) i ∙ amb.signed))
 
-  units : ℕ → List (Found s entries)
+  units : ℕ → List (FoundAmbiguity s entries)
   units zero = []
   units (suc n) = (unit_monomial (n + 1), inl (n + 1, refl)) ∷ units n
 
-  in_units : (n i : ℕ) → 1 ≤ i → i ≤ n → (x : Found s entries) × Contains (units n) x × (x.0 ≡ unit_monomial i)
+  in_units : (n i : ℕ) → 1 ≤ i → i ≤ n → (x : FoundAmbiguity s entries) × Contains (units n) x × (x.0 ≡ unit_monomial i)
   unfolding units
   in_units zero i l h = absurd (omega arith)
   in_units (suc n) i l h = go (nat_order i (n + 1)) (in_units n i l)
     where
-      go : (i < n + 1) ⊎ ((i ≡ n + 1) ⊎ (n + 1 < i)) → (i ≤ n → (x : Found s entries) × Contains (units n) x × (x.0 ≡ unit_monomial i)) → (x : Found s entries) × Contains ((unit_monomial (n + 1), inl (n + 1, refl)) ∷ units n) x × (x.0 ≡ unit_monomial i)
-      go (inl g) f = let t : (x : Found s entries) × Contains (units n) x × (x.0 ≡ unit_monomial i) = f (omega arith) in (t.0, Contains-append_right ((unit_monomial (n + 1), inl (n + 1, refl)) ∷ []) (units n) t.0 t.1, t.2)
+      go : (i < n + 1) ⊎ ((i ≡ n + 1) ⊎ (n + 1 < i)) → (i ≤ n → (x : FoundAmbiguity s entries) × Contains (units n) x × (x.0 ≡ unit_monomial i)) → (x : FoundAmbiguity s entries) × Contains ((unit_monomial (n + 1), inl (n + 1, refl)) ∷ units n) x × (x.0 ≡ unit_monomial i)
+      go (inl g) f = let t : (x : FoundAmbiguity s entries) × Contains (units n) x × (x.0 ≡ unit_monomial i) = f (omega arith) in (t.0, Contains-append_right ((unit_monomial (n + 1), inl (n + 1, refl)) ∷ []) (units n) t.0 t.1, t.2)
       go (inr (inl e)) f = ((unit_monomial (n + 1), inl (n + 1, refl)), (0, omega arith, refl), ap unit_monomial (sym e))
       go (inr (inr g)) f = absurd (omega arith)
 
   -- of a list, the least with a property
-  pick : (Good : Monomial → Type 0) → ((σ : Monomial) → Decided (Good σ)) → (xs : List (Found s entries)) → ((x : Found s entries) × Good x.0 × ((y : Found s entries) → Contains xs y → Good y.0 → (y.0 ≡ x.0) ⊎ IsLess s x.0 y.0)) ⊎ ((y : Found s entries) → Contains xs y → ¬ Good y.0)
+  pick : (Good : Monomial → Type 0) → ((σ : Monomial) → Decided (Good σ)) → (xs : List (FoundAmbiguity s entries)) → ((x : FoundAmbiguity s entries) × Good x.0 × ((y : FoundAmbiguity s entries) → Contains xs y → Good y.0 → (y.0 ≡ x.0) ⊎ IsLess s x.0 y.0)) ⊎ ((y : FoundAmbiguity s entries) → Contains xs y → ¬ Good y.0)
   pick Good good [] = inr (λ y c g. omega (arith, c.1))
   pick Good good (z ∷ xs) = go (good z.0) (pick Good good xs)
     where
-      Best : Found s entries → List (Found s entries) → Type 0
-      Best x ys = (y : Found s entries) → Contains ys y → Good y.0 → (y.0 ≡ x.0) ⊎ IsLess s x.0 y.0
+      Best : FoundAmbiguity s entries → List (FoundAmbiguity s entries) → Type 0
+      Best x ys = (y : FoundAmbiguity s entries) → Contains ys y → Good y.0 → (y.0 ≡ x.0) ⊎ IsLess s x.0 y.0
 
-      cons : (x : Found s entries) → (Good z.0 → (z.0 ≡ x.0) ⊎ IsLess s x.0 z.0) → Best x xs → Best x (z ∷ xs)
+      cons : (x : FoundAmbiguity s entries) → (Good z.0 → (z.0 ≡ x.0) ⊎ IsLess s x.0 z.0) → Best x xs → Best x (z ∷ xs)
       cons x first rest y c g = at (Contains-append_cases (z ∷ []) xs y c)
         where
           at : Contains (z ∷ []) y ⊎ Contains xs y → (y.0 ≡ x.0) ⊎ IsLess s x.0 y.0
           at (inl k) = let e : z ≡ y = only_one z y k in subst (λ q. (q ≡ x.0) ⊎ IsLess s x.0 q) (ap (λ q. q.0) e) (first (subst Good (sym (ap (λ q. q.0) e)) g))
           at (inr k) = rest y k g
 
-      go : Decided (Good z.0) → ((x : Found s entries) × Good x.0 × Best x xs) ⊎ ((y : Found s entries) → Contains xs y → ¬ Good y.0) → ((x : Found s entries) × Good x.0 × Best x (z ∷ xs)) ⊎ ((y : Found s entries) → Contains (z ∷ xs) y → ¬ Good y.0)
+      go : Decided (Good z.0) → ((x : FoundAmbiguity s entries) × Good x.0 × Best x xs) ⊎ ((y : FoundAmbiguity s entries) → Contains xs y → ¬ Good y.0) → ((x : FoundAmbiguity s entries) × Good x.0 × Best x (z ∷ xs)) ⊎ ((y : FoundAmbiguity s entries) → Contains (z ∷ xs) y → ¬ Good y.0)
       go (inr n) (inl (x, g, m)) = inl (x, g, cons x (λ h. absurd (n h)) m)
       go (inr n) (inr m) = inr (λ y c g. none y (Contains-append_cases (z ∷ []) xs y c) g)
         where
-          none : (y : Found s entries) → Contains (z ∷ []) y ⊎ Contains xs y → ¬ Good y.0
+          none : (y : FoundAmbiguity s entries) → Contains (z ∷ []) y ⊎ Contains xs y → ¬ Good y.0
           none y (inl k) g = n (subst Good (sym (ap (λ q. q.0) (only_one z y k))) g)
           none y (inr k) g = m y k g
       go (inl p) (inr m) = inl (z, p, cons z (λ h. inl refl) (λ y c g. absurd (m y c g)))
       go (inl p) (inl (x, g, m)) = compare ((monomial_laws (generator_weight s)).total z.0 x.0)
         where
-          compare : IsLess s z.0 x.0 ⊎ ((z.0 ≡ x.0) ⊎ IsLess s x.0 z.0) → ((x : Found s entries) × Good x.0 × Best x (z ∷ xs)) ⊎ ((y : Found s entries) → Contains (z ∷ xs) y → ¬ Good y.0)
+          compare : IsLess s z.0 x.0 ⊎ ((z.0 ≡ x.0) ⊎ IsLess s x.0 z.0) → ((x : FoundAmbiguity s entries) × Good x.0 × Best x (z ∷ xs)) ⊎ ((y : FoundAmbiguity s entries) → Contains (z ∷ xs) y → ¬ Good y.0)
           compare (inl l) = inl (z, p, cons z (λ h. inl refl) (λ y c h. over y (m y c h)))
             where
-              over : (y : Found s entries) → (y.0 ≡ x.0) ⊎ IsLess s x.0 y.0 → (y.0 ≡ z.0) ⊎ IsLess s z.0 y.0
+              over : (y : FoundAmbiguity s entries) → (y.0 ≡ x.0) ⊎ IsLess s x.0 y.0 → (y.0 ≡ z.0) ⊎ IsLess s z.0 y.0
               over y (inl e) = inr (subst (IsLess s z.0) (sym e) l)
               over y (inr k) = inr ((monomial_laws (generator_weight s)).trans z.0 x.0 y.0 l k)
           compare (inr (inl e)) = inl (x, g, cons x (λ h. inl e) m)
@@ -409,26 +409,26 @@ module _ (P : Problem) (state : State) (last : Option Monomial) where
       go (inl a) (inr n) c = inr (λ t. n t.0.1)
       go (inl a) (inl b) (inr n) = inr (λ t. n t.1)
 
-  all : List (Found P.setting state.entries)
+  all : List (FoundAmbiguity P.setting state.entries)
   all = all_pairs P.setting state.entries ++ units P.setting state.entries (length P.setting.generators)
 
-  in_all : (σ : Monomial) → IsCandidate P state σ → (x : Found P.setting state.entries) × Contains all x × (x.0 ≡ σ)
+  in_all : (σ : Monomial) → IsCandidate P state σ → (x : FoundAmbiguity P.setting state.entries) × Contains all x × (x.0 ≡ σ)
   unfolding all
-  in_all σ (within, inl (i, e)) = let g : σ.generator ≡ i = ap (λ ρ. ρ.generator) e in let t : (x : Found P.setting state.entries) × Contains (units P.setting state.entries (length P.setting.generators)) x × (x.0 ≡ unit_monomial i) = in_units P.setting state.entries (length P.setting.generators) i (omega (arith, within.0.0, g)) (omega (arith, within.0.1, g)) in (t.0, Contains-append_right (all_pairs P.setting state.entries) (units P.setting state.entries (length P.setting.generators)) t.0 t.1, t.2 ∙ sym e)
-  in_all σ (within, inr (w, amb)) = let t : (x : Found P.setting state.entries) × Contains (all_pairs P.setting state.entries) x × (x.0 ≡ σ) = in_all_pairs P.setting state.entries σ w amb in (t.0, Contains-append_left (all_pairs P.setting state.entries) (units P.setting state.entries (length P.setting.generators)) t.0 t.1, t.2)
+  in_all σ (within, inl (i, e)) = let g : σ.generator ≡ i = ap (λ ρ. ρ.generator) e in let t : (x : FoundAmbiguity P.setting state.entries) × Contains (units P.setting state.entries (length P.setting.generators)) x × (x.0 ≡ unit_monomial i) = in_units P.setting state.entries (length P.setting.generators) i (omega (arith, within.0.0, g)) (omega (arith, within.0.1, g)) in (t.0, Contains-append_right (all_pairs P.setting state.entries) (units P.setting state.entries (length P.setting.generators)) t.0 t.1, t.2 ∙ sym e)
+  in_all σ (within, inr (w, amb)) = let t : (x : FoundAmbiguity P.setting state.entries) × Contains (all_pairs P.setting state.entries) x × (x.0 ≡ σ) = in_all_pairs P.setting state.entries σ w amb in (t.0, Contains-append_left (all_pairs P.setting state.entries) (units P.setting state.entries (length P.setting.generators)) t.0 t.1, t.2)
 
   -- of the waiting signatures with a property there is a least, or none has it
   pub first_with : (Q : Monomial → Type 0) → ((σ : Monomial) → Decided (Q σ)) → ((τ : Monomial) × IsWaiting P state last τ × Q τ × ((σ : Monomial) → IsWaiting P state last σ → Q σ → (σ ≡ τ) ⊎ IsLess P.setting τ σ)) ⊎ ((τ : Monomial) → IsWaiting P state last τ → ¬ Q τ)
   first_with Q dec = go (pick P.setting state.entries (λ σ. Good σ × Q σ) (λ σ. pair_dec (good_dec σ) (dec σ)) all)
     where
-      go : ((x : Found P.setting state.entries) × (Good x.0 × Q x.0) × ((y : Found P.setting state.entries) → Contains all y → Good y.0 × Q y.0 → (y.0 ≡ x.0) ⊎ IsLess P.setting x.0 y.0)) ⊎ ((y : Found P.setting state.entries) → Contains all y → ¬ (Good y.0 × Q y.0)) → ((τ : Monomial) × IsWaiting P state last τ × Q τ × ((σ : Monomial) → IsWaiting P state last σ → Q σ → (σ ≡ τ) ⊎ IsLess P.setting τ σ)) ⊎ ((τ : Monomial) → IsWaiting P state last τ → ¬ Q τ)
+      go : ((x : FoundAmbiguity P.setting state.entries) × (Good x.0 × Q x.0) × ((y : FoundAmbiguity P.setting state.entries) → Contains all y → Good y.0 × Q y.0 → (y.0 ≡ x.0) ⊎ IsLess P.setting x.0 y.0)) ⊎ ((y : FoundAmbiguity P.setting state.entries) → Contains all y → ¬ (Good y.0 × Q y.0)) → ((τ : Monomial) × IsWaiting P state last τ × Q τ × ((σ : Monomial) → IsWaiting P state last σ → Q σ → (σ ≡ τ) ⊎ IsLess P.setting τ σ)) ⊎ ((τ : Monomial) → IsWaiting P state last τ → ¬ Q τ)
       go (inl (x, g, best)) = inl (x.0, ((g.0.0, x.1), g.0.1), g.1, λ σ c q. at σ c q (in_all σ c.0))
         where
-          at : (σ : Monomial) → IsWaiting P state last σ → Q σ → (y : Found P.setting state.entries) × Contains all y × (y.0 ≡ σ) → (σ ≡ x.0) ⊎ IsLess P.setting x.0 σ
+          at : (σ : Monomial) → IsWaiting P state last σ → Q σ → (y : FoundAmbiguity P.setting state.entries) × Contains all y × (y.0 ≡ σ) → (σ ≡ x.0) ⊎ IsLess P.setting x.0 σ
           at σ c q (y, k, e) = subst (λ q. (q ≡ x.0) ⊎ IsLess P.setting x.0 q) e (best y k (subst (λ ρ. Good ρ × Q ρ) (sym e) ((c.0.0, c.1), q)))
       go (inr none) = inr (λ τ c q. at τ c q (in_all τ c.0))
         where
-          at : (τ : Monomial) → IsWaiting P state last τ → Q τ → (y : Found P.setting state.entries) × Contains all y × (y.0 ≡ τ) → ⊥
+          at : (τ : Monomial) → IsWaiting P state last τ → Q τ → (y : FoundAmbiguity P.setting state.entries) × Contains all y × (y.0 ≡ τ) → ⊥
           at τ c q (y, k, e) = none y k (subst (λ ρ. Good ρ × Q ρ) (sym e) ((c.0.0, c.1), q))
 
   -- a least candidate is left, or none is

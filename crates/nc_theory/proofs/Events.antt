@@ -14,7 +14,7 @@ use Rattle.nc_theory.proofs.Determinism.{handles_unique, next_unique}
 use Rattle.nc_theory.proofs.Ends.{first_with, handles_exists, next_exists, source}
 use Rattle.nc_theory.proofs.Equality.{monomial_dec, named_dec, outcome_dec}
 use Rattle.nc_theory.proofs.Plays.{some_same}
-use Rattle.nc_theory.specs.Desk.{Abandoned, Abandons, Advances, Claimed, Claims, Desk, Does, Event, IsFinished, IsFirstUnheld, IsGiven, IsHeld, IsReady, Node, Plays, Submits, Submitted, Ticket, Work, after_committed, after_dropped, generation_at, claim_limit, insert_node, node_at, node_of, open_desk}
+use Rattle.nc_theory.specs.Desk.{Abandoned, Abandons, Advances, Claimed, Claims, Desk, Does, Event, IsFinished, IsFirstUnheld, IsGiven, IsHeld, IsReadyWork, Node, Plays, Submits, Submitted, Ticket, Work, after_committed, after_dropped, generation_at, claim_limit, insert_node, node_at, node_of, open_desk}
 use Rattle.nc_theory.specs.States.{State}
 use Rattle.nc_theory.specs.Runs.{Handles, IsAfter, IsCandidate, IsNext, IsWaiting, Outcome, SequentialRun}
 use Rattle.std.proofs.Common.{Bool, List, None, Option, Some, [], ap, arith, cond, false, inl, inr, le_refl, length, nat_eq, refl, subst, suc, sym, true, zero, ℕ, ◌*◌, ◌+◌, ◌<◌, ◌∙◌, ◌∷◌, ◌≡◌, ◌≤◌, ◌⊎◌}
@@ -127,7 +127,7 @@ module _ (P : Problem) (field : IsField P.setting.prime) where
               work None i = idle (λ m w h j. let both : None ≡ Some w = sym i ∙ (ap (λ y. y.work) (some_same n m (sym e ∙ h)) ∙ j) in let none : ⊥ = cc in none)
               work (Some w) i = hold (handles_dec run τ next w.outcome)
                 where
-                  ready : IsReady P d τ n w
+                  ready : IsReadyWork P d τ n w
                   ready = record { next = next; held = e; work = i }
 
                   hold : Decided (Handles P.setting d.state τ w.outcome) → (d' : Desk) × Advances P d d'

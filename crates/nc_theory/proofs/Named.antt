@@ -11,7 +11,7 @@ use Rattle.nc_theory.proofs.Snapshots.{facts}
 use Rattle.nc_theory.proofs.Untraced.{in_place, in_place_alike, in_place_listed}
 use Rattle.nc_theory.proofs.UntracedRuns.{same_run}
 use Rattle.nc_theory.proofs.UntracedStates.{SameStates, moved_candidate, same_entries, same_syzygies}
-use Rattle.nc_theory.specs.Named.{IsMonomialIn, IsOverAlphabet, letters_of}
+use Rattle.nc_theory.specs.Named.{IsMonomialIn, IsOverAlphabet, alphabet_letters}
 use Rattle.nc_theory.specs.Untraced.{IsEndOf, IsRunOf, SameEntries, SameSyzygies, untraced_entry, untraced_syzygy}
 use Rattle.nc_theory.specs.Usable.{IsUsable}
 use Rattle.nc_theory.proofs.Completeness.{invariant}
@@ -27,7 +27,7 @@ module _ (P : NamedProblem) (is : IsProblem P) (prime : IsPrime P.problem.settin
   field = field_from_prime P.problem.setting.prime prime
 
   abbrev letters : List Letter
-  letters = letters_of P.alphabet
+  letters = alphabet_letters P.alphabet
 
   inputs : (i : ℕ) → WordsAre P.problem.setting (IsOver letters) (generator P.problem.setting i)
   inputs = generator_over (setting_of P) is.setting

@@ -9,7 +9,7 @@ use Rattle.nc_algebra.specs.Monomials.{Monomial, times}
 use Rattle.nc_algebra.specs.Polynomials.{leading}
 use Rattle.nc_algebra.specs.Words.{IsWordLess, Word, compare_words, word_weight}
 use Rattle.nc_theory.proofs.Small.{usable_lead}
-use Rattle.nc_theory.specs.Best.{IsAt, IsBestIn, best_of}
+use Rattle.nc_theory.specs.Best.{IsMultipleAt, IsBestIn, best_of}
 use Rattle.nc_theory.specs.Found.{Best}
 use Rattle.nc_theory.specs.Usable.{IsUsable, IsUsableSignature}
 use Rattle.nc_theory.proofs.Determinism.{one_multiple}
@@ -25,7 +25,7 @@ multiple_fits s e τ u v l usable limit spells lead = omega (arith, limit.limite
 
 module _ (s : Setting) (entries : List Entry) (τ : Monomial) where
   -- the multiple of an entry that is read
-  pub at_found : (n : ℕ) (e : Entry) (b : Best) → n < length entries → e ≡ get_or entries n e → times b.left e.signature b.right ≡ τ → b.word ≡ b.left ++ (leading s.prime e.polynomial ++ b.right) → b.number ≡ n + 1 → IsAt s entries τ n (Some b)
+  pub at_found : (n : ℕ) (e : Entry) (b : Best) → n < length entries → e ≡ get_or entries n e → times b.left e.signature b.right ≡ τ → b.word ≡ b.left ++ (leading s.prime e.polynomial ++ b.right) → b.number ≡ n + 1 → IsMultipleAt s entries τ n (Some b)
   at_found n e b h is signed spells m = (record { entry = e; listed = (n, h, sym is); left = b.left; right = b.right; spells = sym spells }, signed, refl, refl, sym m, refl)
 
   one_word : (w v : Word) (d : Divisor s entries w) (e : Divisor s entries v) → signature_at s entries w d ≡ τ → signature_at s entries v e ≡ τ → d.listed.0 ≡ e.listed.0 → w ≡ v
@@ -44,7 +44,7 @@ module _ (s : Setting) (entries : List Entry) (τ : Monomial) where
     IsNoGreater w d v e = IsWordLess w v ⊎ ((w ≡ v) × (number_of s entries w d ≤ number_of s entries v e))
 
     -- the better one of the best of the set and the multiple of the next entry
-    pub better_step : (best next : Option Best) → IsBestIn s entries old best → IsAt s entries τ n next → IsBestIn s entries new (best_of best next)
+    pub better_step : (best next : Option Best) → IsBestIn s entries old best → IsMultipleAt s entries τ n next → IsBestIn s entries new (best_of best next)
     better_step None None p q = λ w d m. go w d m (x.either w d m)
       where
         go : (w : Word) (d : Divisor s entries w) → new w d → old w d ⊎ (d.listed.0 ≡ n) → ⊥

@@ -15,7 +15,7 @@ use Rattle.nc_algebra.specs.Problems.{IsWithin, Problem, bound_degree}
 use Rattle.nc_algebra.specs.Settings.{IsSetting, NamedSetting}
 use Rattle.nc_algebra.specs.Words.{Word}
 use Rattle.nc_theory.proofs.OverAlphabet.{generator_over, letter_of}
-use Rattle.nc_theory.specs.Named.{letters_of}
+use Rattle.nc_theory.specs.Named.{alphabet_letters}
 use Rattle.nc_theory.specs.Usable.{IsUsable, IsUsableSignature}
 use Rattle.nc_theory.proofs.Completeness.{invariant}
 use Rattle.nc_theory.proofs.Normal.{kept_normal}
@@ -36,17 +36,17 @@ module _ (s : NamedSetting) (setting : IsSetting s) (prime_field : IsField s.set
   field : IsField P.setting.prime
   field = subst (λ (t : Setting). IsField t.prime) (sym same) prime_field
 
-  inputs : (i : ℕ) → WordsAre P.setting (IsOver (letters_of s.alphabet)) (generator P.setting i)
-  inputs i = subst (λ (t : Setting). WordsAre t (IsOver (letters_of s.alphabet)) (generator t i)) (sym same) (generator_over s setting i)
+  inputs : (i : ℕ) → WordsAre P.setting (IsOver (alphabet_letters s.alphabet)) (generator P.setting i)
+  inputs i = subst (λ (t : Setting). WordsAre t (IsOver (alphabet_letters s.alphabet)) (generator t i)) (sym same) (generator_over s setting i)
 
-  over : AreOver P.setting (letters_of s.alphabet) state.entries
-  over = run_over P field (letters_of s.alphabet) inputs run
+  over : AreOver P.setting (alphabet_letters s.alphabet) state.entries
+  over = run_over P field (alphabet_letters s.alphabet) inputs run
 
   alive : (e : Entry) → Contains state.entries e → ¬ IsZeroPolynomial P.setting e.polynomial
   alive = (invariant P field run).sound.nonzero
 
-  letters : (w : Word) → IsOver (letters_of s.alphabet) w → AreLetters 64 100 w
-  letters w o = over_letters 64 100 (letters_of s.alphabet) (letter_of s.alphabet setting.alphabet) w o
+  letters : (w : Word) → IsOver (alphabet_letters s.alphabet) w → AreLetters 64 100 w
+  letters w o = over_letters 64 100 (alphabet_letters s.alphabet) (letter_of s.alphabet setting.alphabet) w o
 
   entry_normal : (e : Entry) → Contains state.entries e → IsNormal P.setting.prime e.polynomial
   entry_normal e k = go ((rebuilt P field run).entries e k)
@@ -68,11 +68,11 @@ module _ (s : NamedSetting) (setting : IsSetting s) (prime_field : IsField s.set
   pub run_usable : All (IsUsable P.setting) state.entries
   run_usable k e l = entry_usable (get_or state.entries k e) (listed k e l)
 
-  pub signature_usable : (σ : Monomial) → IsWithin P σ → IsOver (letters_of s.alphabet) σ.left × IsOver (letters_of s.alphabet) σ.right → IsUsableSignature P.setting σ
+  pub signature_usable : (σ : Monomial) → IsWithin P σ → IsOver (alphabet_letters s.alphabet) σ.left × IsOver (alphabet_letters s.alphabet) σ.right → IsUsableSignature P.setting σ
   signature_usable σ within o = record { limited = omega (arith, limit, degree_within P.setting P.bound σ within.1); left = letters σ.left o.0; right = letters σ.right o.1 }
 
   pub candidate_usable : (σ : Monomial) → IsCandidate P state σ → IsUsableSignature P.setting σ
-  candidate_usable σ c = signature_usable σ c.0 (candidate_over P field (letters_of s.alphabet) inputs state alive over σ c)
+  candidate_usable σ c = signature_usable σ c.0 (candidate_over P field (alphabet_letters s.alphabet) inputs state alive over σ c)
 
   pub entry_signed : (e : Entry) → Contains state.entries e → IsUsableSignature P.setting e.signature
   entry_signed e k = signature_usable e.signature ((invariant P field run).within e k) (over.left e k, over.right e k)
@@ -81,5 +81,5 @@ module _ (s : NamedSetting) (setting : IsSetting s) (prime_field : IsField s.set
   syzygy_signed h k = (
     syzygies_are P (IsWithin P) (λ k before since r σ d. d.0) run h k,
     signature_usable h.signature (syzygies_are P (IsWithin P) (λ k before since r σ d. d.0) run h k)
-        (syzygies_are P (λ σ. IsOver (letters_of s.alphabet) σ.left × IsOver (letters_of s.alphabet) σ.right) (λ k before since r. candidate_over P field (letters_of s.alphabet) inputs before (invariant P field r).sound.nonzero (run_over P field (letters_of s.alphabet) inputs r)) run h k),
+        (syzygies_are P (λ σ. IsOver (alphabet_letters s.alphabet) σ.left × IsOver (alphabet_letters s.alphabet) σ.right) (λ k before since r. candidate_over P field (alphabet_letters s.alphabet) inputs before (invariant P field r).sound.nonzero (run_over P field (alphabet_letters s.alphabet) inputs r)) run h k),
   )

@@ -12,12 +12,12 @@ use Rattle.nc_algebra.specs.Lists.{Among}
 use Rattle.nc_algebra.specs.Monomials.{IsMonomialLess, Monomial, compare_monomials, same_monomial}
 use Rattle.nc_algebra.specs.Primes.{IsField}
 use Rattle.nc_algebra.specs.Problems.{NamedProblem}
-use Rattle.nc_theory.proofs.Added.{Adds, IsSymmetric, Pairs, adds_behind, adds_map, adds_permutes, among_here, among_map, among_mapped, among_more, each_at, each_from, each_less, each_map, each_more, pairs_all, pairs_around, pairs_back, pairs_less, pairs_map, pairs_mapped, pairs_more}
+use Rattle.nc_theory.proofs.Added.{Inserts, IsSymmetric, Pairs, adds_behind, adds_map, adds_permutes, among_here, among_map, among_mapped, among_more, each_at, each_from, each_less, each_map, each_more, pairs_all, pairs_around, pairs_back, pairs_less, pairs_map, pairs_mapped, pairs_more}
 use Rattle.nc_theory.proofs.Ascent.{waiting}
 use Rattle.nc_theory.proofs.Desk.{event_runs, found, own_stands, snapshot}
 use Rattle.nc_theory.proofs.Events.{held_dec}
 use Rattle.nc_theory.proofs.Plays.{some_same}
-use Rattle.nc_theory.specs.Desk.{Abandoned, Abandons, Advances, Claims, Desk, Does, Event, IsFirstUnheld, IsGiven, IsHeld, IsLawful, IsReady, Node, Plays, Submits, Submitted, Ticket, Work, count_from, generation_at, insert_node, node_at, node_of, open_desk, with_work, without_node}
+use Rattle.nc_theory.specs.Desk.{Abandoned, Abandons, Advances, Claims, Desk, Does, Event, IsFirstUnheld, IsGiven, IsHeld, IsLawful, IsReadyWork, Node, Plays, Submits, Submitted, Ticket, Work, count_from, generation_at, insert_node, node_at, node_of, open_desk, with_work, without_node}
 use Rattle.nc_theory.specs.Runs.{Handles, IsNext, IsWaiting, Outcome, SequentialRun, state_after}
 use Rattle.nc_theory.specs.States.{State}
 use Rattle.nc_theory.specs.Windows.{AreFromOneClaim, IsFromClaim, WindowLaw, generation_of}
@@ -45,13 +45,13 @@ laid n w = record { signature = n.signature; index = n.index; generation = n.gen
 
 -- ---- what the operations on a window do to it
 
-insert_adds : (weight : ℕ → ℕ) (n : Node) (window : List Node) → Adds n window (insert_node weight n window)
-insert_adds weight n [] = Adds.here
+insert_adds : (weight : ℕ → ℕ) (n : Node) (window : List Node) → Inserts n window (insert_node weight n window)
+insert_adds weight n [] = Inserts.here
 insert_adds weight n (m ∷ ns) = go (is_lt (compare_monomials weight n.signature m.signature)) (insert_adds weight n ns)
   where
-    go : (b : Bool) → Adds n ns (insert_node weight n ns) → Adds n (m ∷ ns) (cond b (n ∷ m ∷ ns) (m ∷ insert_node weight n ns))
-    go true a = Adds.here
-    go false a = Adds.later a
+    go : (b : Bool) → Inserts n ns (insert_node weight n ns) → Inserts n (m ∷ ns) (cond b (n ∷ m ∷ ns) (m ∷ insert_node weight n ns))
+    go true a = Inserts.here
+    go false a = Inserts.later a
 
 insert_ascends : (s : Setting) (n : Node) (window : List Node) → AllByRecursion (λ τ. τ ≢ n.signature) (signatures window) → Pairs (IsLess s) (signatures window) → Pairs (IsLess s) (signatures (insert_node (generator_weight s) n window))
 insert_ascends s n [] other h = (tt, tt)
@@ -71,15 +71,15 @@ insert_ascends s n (m ∷ ns) other h = go (is_lt (compare_monomials (generator_
 
 -- where the generation at an index is odd, a node has it, and is the one that is taken out or given a work
 abbrev At : ℕ → ℕ → List Node → Type 0
-At i c window = (n : Node) × (n.index ≡ i) × (n.generation ≡ 2 * c + 1) × Adds n (without_node i window) window × ((w : Work) → Adds (laid n w) (without_node i window) (with_work i w window)) × (node_at window i ≡ Some n)
+At i c window = (n : Node) × (n.index ≡ i) × (n.generation ≡ 2 * c + 1) × Inserts n (without_node i window) window × ((w : Work) → Inserts (laid n w) (without_node i window) (with_work i w window)) × (node_at window i ≡ Some n)
 
 node_at_generation : (i c : ℕ) (window : List Node) → 2 * c + 1 ≡ generation_at window i → At i c window
 node_at_generation i c [] e = absurd (omega (arith, e))
 node_at_generation i c (n ∷ ns) e = go (nat_eq n.index i) refl e (node_at_generation i c ns)
   where
-    go : (b : Bool) → nat_eq n.index i ≡ b → 2 * c + 1 ≡ cond b n.generation (generation_at ns i) → (2 * c + 1 ≡ generation_at ns i → At i c ns) → (m : Node) × (m.index ≡ i) × (m.generation ≡ 2 * c + 1) × Adds m (cond b ns (n ∷ without_node i ns)) (n ∷ ns) × ((w : Work) → Adds (laid m w) (cond b ns (n ∷ without_node i ns)) (cond b (laid n w ∷ ns) (n ∷ with_work i w ns))) × (cond b (Some n) (node_at ns i) ≡ Some m)
-    go true d g f = (n, eqb-true n.index i d, sym g, Adds.here, λ w. Adds.here, refl)
-    go false d g f = let t : At i c ns = f g in (t.0, t.1, t.2, Adds.later t.3, λ w. Adds.later (t.4 w), t.5)
+    go : (b : Bool) → nat_eq n.index i ≡ b → 2 * c + 1 ≡ cond b n.generation (generation_at ns i) → (2 * c + 1 ≡ generation_at ns i → At i c ns) → (m : Node) × (m.index ≡ i) × (m.generation ≡ 2 * c + 1) × Inserts m (cond b ns (n ∷ without_node i ns)) (n ∷ ns) × ((w : Work) → Inserts (laid m w) (cond b ns (n ∷ without_node i ns)) (cond b (laid n w ∷ ns) (n ∷ with_work i w ns))) × (cond b (Some n) (node_at ns i) ≡ Some m)
+    go true d g f = (n, eqb-true n.index i d, sym g, Inserts.here, λ w. Inserts.here, refl)
+    go false d g f = let t : At i c ns = f g in (t.0, t.1, t.2, Inserts.later t.3, λ w. Inserts.later (t.4 w), t.5)
 
 work_signatures : (i : ℕ) (w : Work) (window : List Node) → signatures (with_work i w window) ≡ signatures window
 work_signatures i w [] = refl
@@ -98,21 +98,21 @@ work_indices i w (n ∷ ns) = go (nat_eq n.index i) (work_indices i w ns)
     go false e = ap (λ xs. n.index ∷ xs) e
 
 -- where no index stands twice, a node that is found by its signature is the one that its index takes out
-found_out : (window : List Node) (τ : Monomial) (n : Node) → node_of window τ ≡ Some n → Pairs (λ i j. i ≢ j) (indices window) → (n.signature ≡ τ) × Adds n (without_node n.index window) window
+found_out : (window : List Node) (τ : Monomial) (n : Node) → node_of window τ ≡ Some n → Pairs (λ i j. i ≢ j) (indices window) → (n.signature ≡ τ) × Inserts n (without_node n.index window) window
 found_out [] τ n e h = let none : ⊥ = cc in absurd none
 found_out (m ∷ ns) τ n e h = go (same_monomial m.signature τ) refl e (λ k. found_out ns τ n k h.1)
   where
-    first : (n : Node) → m ≡ n → (b : Bool) → nat_eq m.index n.index ≡ b → Adds n (cond b ns (m ∷ without_node n.index ns)) (m ∷ ns)
-    first n i true d = subst (λ x. Adds x ns (m ∷ ns)) i Adds.here
+    first : (n : Node) → m ≡ n → (b : Bool) → nat_eq m.index n.index ≡ b → Inserts n (cond b ns (m ∷ without_node n.index ns)) (m ∷ ns)
+    first n i true d = subst (λ x. Inserts x ns (m ∷ ns)) i Inserts.here
     first n i false d = absurd (false≢true (sym d ∙ eq-eqb m.index n.index (ap (λ x. x.index) i)))
 
-    behind : Adds n (without_node n.index ns) ns → (b : Bool) → nat_eq m.index n.index ≡ b → Adds n (cond b ns (m ∷ without_node n.index ns)) (m ∷ ns)
+    behind : Inserts n (without_node n.index ns) ns → (b : Bool) → nat_eq m.index n.index ≡ b → Inserts n (cond b ns (m ∷ without_node n.index ns)) (m ∷ ns)
     behind a true d = absurd ((each_less (λ j. m.index ≢ j) (adds_map (λ x. x.index) a) h.0).0 (eqb-true m.index n.index d))
-    behind a false d = Adds.later a
+    behind a false d = Inserts.later a
 
-    go : (b : Bool) → same_monomial m.signature τ ≡ b → cond b (Some m) (node_of ns τ) ≡ Some n → (node_of ns τ ≡ Some n → (n.signature ≡ τ) × Adds n (without_node n.index ns) ns) → (n.signature ≡ τ) × Adds n (without_node n.index (m ∷ ns)) (m ∷ ns)
+    go : (b : Bool) → same_monomial m.signature τ ≡ b → cond b (Some m) (node_of ns τ) ≡ Some n → (node_of ns τ ≡ Some n → (n.signature ≡ τ) × Inserts n (without_node n.index ns) ns) → (n.signature ≡ τ) × Inserts n (without_node n.index (m ∷ ns)) (m ∷ ns)
     go true d i f = let same : m ≡ n = some_same m n i in (ap (λ x. x.signature) (sym same) ∙ (monomial_laws (λ j. j)).same_eq m.signature τ d, first n same (nat_eq m.index n.index) refl)
-    go false d i f = let t : (n.signature ≡ τ) × Adds n (without_node n.index ns) ns = f i in (t.0, behind t.1 (nat_eq m.index n.index) refl)
+    go false d i f = let t : (n.signature ≡ τ) × Inserts n (without_node n.index ns) ns = f i in (t.0, behind t.1 (nat_eq m.index n.index) refl)
 
 -- ---- the indices of an open desk
 
@@ -185,14 +185,14 @@ module _ (P : NamedProblem) (capacity : ℕ) where
   among_held d τ a = let t : (n : Node) × Among n d.window × (n.signature ≡ τ) = among_mapped (λ m. m.signature) τ d.window a in (t.0, among_contains t.0 d.window t.1, t.2)
 
   -- a node is freed: what is left of the window, in a state where what is left waits
-  freed : (d : Desk) → Kept d → (n : Node) (rest : List Node) → Adds n rest d.window → (handled : ℕ) → d.handled ≤ handled → (state : State) (last : Option Monomial) (committed dropped abandoned : ℕ) → AllByRecursion (IsWaiting P.problem state last) (signatures rest) → (i : ℕ) → n.index ≡ i → Kept (record { handled = handled; state = state; last = last; window = rest; free = i ∷ d.free; claimed = d.claimed; committed = committed; dropped = dropped; abandoned = abandoned; alone = d.alone })
+  freed : (d : Desk) → Kept d → (n : Node) (rest : List Node) → Inserts n rest d.window → (handled : ℕ) → d.handled ≤ handled → (state : State) (last : Option Monomial) (committed dropped abandoned : ℕ) → AllByRecursion (IsWaiting P.problem state last) (signatures rest) → (i : ℕ) → n.index ≡ i → Kept (record { handled = handled; state = state; last = last; window = rest; free = i ∷ d.free; claimed = d.claimed; committed = committed; dropped = dropped; abandoned = abandoned; alone = d.alone })
   freed d k n rest a handled later state last committed dropped abandoned waits i e = record { ascends = pairs_less (IsLess P.problem.setting) (adds_map (λ m. m.signature) a) k.ascends; waits = waits; distinct = (pairs_around (λ i j. i ≢ j) differ added k.distinct, pairs_less (λ i j. i ≢ j) added k.distinct); indices_are = IsPermutation-trans (count_from 0 capacity) (d.free ++ indices d.window) (i ∷ (d.free ++ indices rest)) k.indices_are (IsPermutation-sym (i ∷ (d.free ++ indices rest)) (d.free ++ indices d.window) (adds_permutes added)); claimed = (each_less (IsMade d.claimed) a k.claimed).1; apart = pairs_less (λ n m. ¬ AreFromOneClaim n m) a k.apart; works = each_map (HoldsLawful d.handled) (HoldsLawful handled) (holds_later d.handled handled later) rest (each_less (HoldsLawful d.handled) a k.works).1; full = λ l none τ next. let empty : ⊥ = cc in absurd empty }
     where
-      added : Adds i (d.free ++ indices rest) (d.free ++ indices d.window)
-      added = subst (λ j. Adds j (d.free ++ indices rest) (d.free ++ indices d.window)) e (adds_behind d.free (adds_map (λ m. m.index) a))
+      added : Inserts i (d.free ++ indices rest) (d.free ++ indices d.window)
+      added = subst (λ j. Inserts j (d.free ++ indices rest) (d.free ++ indices d.window)) e (adds_behind d.free (adds_map (λ m. m.index) a))
 
   -- what was left in the window still waits where the state is the same
-  left_waits : (d : Desk) → Kept d → (n : Node) (rest : List Node) → Adds n rest d.window → AllByRecursion (IsWaiting P.problem d.state d.last) (signatures rest)
+  left_waits : (d : Desk) → Kept d → (n : Node) (rest : List Node) → Inserts n rest d.window → AllByRecursion (IsWaiting P.problem d.state d.last) (signatures rest)
   left_waits d k n rest a = (each_less (IsWaiting P.problem d.state d.last) (adds_map (λ m. m.signature) a) k.waits).1
 
   own_apart : (d : Desk) → Kept d → Pairs (λ i j. i ≢ j) (indices d.window)
@@ -240,10 +240,10 @@ module _ (P : NamedProblem) (capacity : ℕ) where
       whole : List Node
       whole = insert_node (generator_weight P.problem.setting) n d.window
 
-      added : Adds n d.window whole
+      added : Inserts n d.window whole
       added = insert_adds (generator_weight P.problem.setting) n d.window
 
-      moved : Adds i (others ++ indices d.window) (others ++ indices whole)
+      moved : Inserts i (others ++ indices d.window) (others ++ indices whole)
       moved = adds_behind others (adds_map (λ m. m.index) added)
 
       apart : Pairs (λ i j. i ≢ j) (i ∷ (others ++ indices d.window))
@@ -266,7 +266,7 @@ module _ (P : NamedProblem) (capacity : ℕ) where
 
   module _ (field : IsField P.problem.setting.prime) where
     -- after a step what is left in the window still waits
-    still_waits : (d : Desk) → Kept d → SequentialRun P.problem d.handled d.state d.last → (τ : Monomial) → IsNext P.problem d.state d.last τ → (n : Node) (rest : List Node) → n.signature ≡ τ → Adds n rest d.window → (o : Outcome) → Handles P.problem.setting d.state τ o → AllByRecursion (IsWaiting P.problem (state_after d.state τ o) (Some τ)) (signatures rest)
+    still_waits : (d : Desk) → Kept d → SequentialRun P.problem d.handled d.state d.last → (τ : Monomial) → IsNext P.problem d.state d.last τ → (n : Node) (rest : List Node) → n.signature ≡ τ → Inserts n rest d.window → (o : Outcome) → Handles P.problem.setting d.state τ o → AllByRecursion (IsWaiting P.problem (state_after d.state τ o) (Some τ)) (signatures rest)
     still_waits d k run τ next n rest e a o h = each_from (IsWaiting P.problem (state_after d.state τ o) (Some τ)) (signatures rest) (λ σ m. (waiting P.problem field run τ next h σ).1 (inl (each_at (IsWaiting P.problem d.state d.last) (signatures rest) (left_waits d k n rest a) σ m, λ i. each_at (λ ρ. n.signature ≢ ρ) (signatures rest) others σ m (e ∙ sym i))))
       where
         others : AllByRecursion (λ ρ. n.signature ≢ ρ) (signatures rest)
@@ -275,8 +275,8 @@ module _ (P : NamedProblem) (capacity : ℕ) where
     advance_keeps : {d d' : Desk} → Advances P.problem d d' → SequentialRun P.problem d.handled d.state d.last → Kept d → Kept d'
     advance_keeps (Advances.at_end f) run k = k
     advance_keeps (Advances.no_work f none) run k = k
-    advance_keeps (Advances.drops {d = d} f τ n w ready not) run k = let t : (n.signature ≡ τ) × Adds n (without_node n.index d.window) d.window = found_out d.window τ n ready.held (own_apart d k) in freed d k n (without_node n.index d.window) t.1 d.handled (le_refl d.handled) d.state d.last d.committed (d.dropped + 1) d.abandoned (left_waits d k n (without_node n.index d.window) t.1) n.index refl
-    advance_keeps (Advances.commits {d = d} f τ n w ready handles more) run k = let t : (n.signature ≡ τ) × Adds n (without_node n.index d.window) d.window = found_out d.window τ n ready.held (own_apart d k) in advance_keeps more (SequentialRun.handled run τ ready.next w.outcome handles) (freed d k n (without_node n.index d.window) t.1 (suc d.handled) (omega arith) (state_after d.state τ w.outcome) (Some τ) (d.committed + 1) d.dropped d.abandoned (still_waits d k run τ ready.next n (without_node n.index d.window) t.0 t.1 w.outcome handles) n.index refl)
+    advance_keeps (Advances.drops {d = d} f τ n w ready not) run k = let t : (n.signature ≡ τ) × Inserts n (without_node n.index d.window) d.window = found_out d.window τ n ready.held (own_apart d k) in freed d k n (without_node n.index d.window) t.1 d.handled (le_refl d.handled) d.state d.last d.committed (d.dropped + 1) d.abandoned (left_waits d k n (without_node n.index d.window) t.1) n.index refl
+    advance_keeps (Advances.commits {d = d} f τ n w ready handles more) run k = let t : (n.signature ≡ τ) × Inserts n (without_node n.index d.window) d.window = found_out d.window τ n ready.held (own_apart d k) in advance_keeps more (SequentialRun.handled run τ ready.next w.outcome handles) (freed d k n (without_node n.index d.window) t.1 (suc d.handled) (omega arith) (state_after d.state τ w.outcome) (Some τ) (d.committed + 1) d.dropped d.abandoned (still_waits d k run τ ready.next n (without_node n.index d.window) t.0 t.1 w.outcome handles) n.index refl)
 
     event_keeps : {d d' : Desk} {e : Event} → Does P d e d' → SequentialRun P.problem d.handled d.state d.last → Kept d → Kept d'
     event_keeps (Does.claims (Claims.is_finished f)) run k = k
@@ -300,7 +300,7 @@ module _ (P : NamedProblem) (capacity : ℕ) where
         go k = record { ascends = pairs_all (λ n m. IsLess P.problem.setting n.signature m.signature) d.window (pairs_mapped (λ n. n.signature) (IsLess P.problem.setting) d.window k.ascends); waits = λ n c. each_at (IsWaiting P.problem d.state d.last) (signatures d.window) k.waits n.signature (among_map (λ m. m.signature) n d.window (contains_among n d.window c)); indices = k.indices_are; claimed = λ n c. each_at (IsMade d.claimed) d.window k.claimed n (contains_among n d.window c); apart = pairs_all (λ n m. ¬ AreFromOneClaim n m) d.window k.apart; lawful = λ n w c e. (works k n c w e).0; own = λ n w c e. let t : IsLawful w × (w.problem ≡ P) × (w.number ≤ d.handled) × (w.signature ≡ n.signature) = works k n c w e in (t.1, t.2, t.3); full = λ l e τ next. among_held d τ (k.full l e τ next) }
 
     -- a work over the desk's own state is what handling gives there
-    pub own_work : {events : List Event} {d : Desk} → Plays P events (open_desk capacity) d → (τ : Monomial) (n : Node) (w : Work) → IsReady P.problem d τ n w → w.number ≡ d.handled → Handles P.problem.setting d.state τ w.outcome
+    pub own_work : {events : List Event} {d : Desk} → Plays P events (open_desk capacity) d → (τ : Monomial) (n : Node) (w : Work) → IsReadyWork P.problem d τ n w → w.number ≡ d.handled → Handles P.problem.setting d.state τ w.outcome
     own_work {d = d} plays τ n w ready e = go (play_keeps plays SequentialRun.opened opened_kept)
       where
         run : SequentialRun P.problem d.handled d.state d.last
@@ -309,5 +309,5 @@ module _ (P : NamedProblem) (capacity : ℕ) where
         go : Kept d → Handles P.problem.setting d.state τ w.outcome
         go k = at (found_out d.window τ n ready.held (own_apart d k)) (each_at (HoldsLawful d.handled) d.window k.works n (found d.window τ n ready.held) w ready.work)
           where
-            at : (n.signature ≡ τ) × Adds n (without_node n.index d.window) d.window → IsLawful w × (w.problem ≡ P) × (w.number ≤ d.handled) × (w.signature ≡ n.signature) → Handles P.problem.setting d.state τ w.outcome
+            at : (n.signature ≡ τ) × Inserts n (without_node n.index d.window) d.window → IsLawful w × (w.problem ≡ P) × (w.number ≤ d.handled) × (w.signature ≡ n.signature) → Handles P.problem.setting d.state τ w.outcome
             at (signed, out) (lawful, here, l, same) = subst (λ σ. Handles P.problem.setting d.state σ w.outcome) (same ∙ signed) (own_stands P field run w lawful here e)

@@ -2,7 +2,7 @@
 --
 -- An entry has at most one multiple with a given signature, so a search asks each entry once and
 -- keeps the better of two multiples. On equal words it keeps the first, since the earlier entry
--- wins. In `IsAt` entries count from 0, and in a `Best` from 1.
+-- wins. In `IsMultipleAt` entries count from 0, and in a `Best` from 1.
 use Rattle.nc_algebra.specs.Elements.{Setting}
 use Rattle.nc_algebra.specs.Monomials.{Monomial}
 use Rattle.nc_algebra.specs.Words.{IsWordLess, Word, compare_words}
@@ -13,9 +13,9 @@ use Rattle.std.specs.Ordering.{is_lt}
 use Rattle.std.specs.Prelude.{List, None, Option, Some, cond, ℕ, ◌≡◌, ◌≤◌, ◌⊎◌}
 
 -- the multiple of one entry with signature τ
-abbrev pub IsAt : (s : Setting) → List Entry → Monomial → ℕ → Option Best → Type 0
-IsAt s entries τ n None = (w : Word) (d : Divisor s entries w) → signature_at s entries w d ≡ τ → ¬ (d.listed.0 ≡ n)
-IsAt s entries τ n (Some b) = (d : Divisor s entries b.word) × (signature_at s entries b.word d ≡ τ) × (d.listed.0 ≡ n) × (d.left ≡ b.left) × (number_of s entries b.word d ≡ b.number) × (d.right ≡ b.right)
+abbrev pub IsMultipleAt : (s : Setting) → List Entry → Monomial → ℕ → Option Best → Type 0
+IsMultipleAt s entries τ n None = (w : Word) (d : Divisor s entries w) → signature_at s entries w d ≡ τ → ¬ (d.listed.0 ≡ n)
+IsMultipleAt s entries τ n (Some b) = (d : Divisor s entries b.word) × (signature_at s entries b.word d ≡ τ) × (d.listed.0 ≡ n) × (d.left ≡ b.left) × (number_of s entries b.word d ≡ b.number) × (d.right ≡ b.right)
 
 -- the best one of a set of divisors: the least word, and of those the earliest entry; None exactly where the set has none
 abbrev pub IsBestIn : (s : Setting) (entries : List Entry) → ((w : Word) → Divisor s entries w → Type 0) → Option Best → Type 0

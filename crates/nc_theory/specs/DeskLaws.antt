@@ -8,7 +8,7 @@
 use Rattle.nc_algebra.specs.Monomials.{Monomial}
 use Rattle.nc_algebra.specs.Problems.{NamedProblem, Problem}
 use Rattle.nc_algebra.specs.Primes.{IsPrime}
-use Rattle.nc_theory.specs.Desk.{Abandoned, Abandons, Advances, Claimed, Claims, Desk, Event, IsCounted, IsFinished, IsReady, Node, Plays, Submits, Submitted, Ticket, Work, after_committed, open_desk}
+use Rattle.nc_theory.specs.Desk.{Abandoned, Abandons, Advances, Claimed, Claims, Desk, Event, IsCounted, IsFinished, IsReadyWork, Node, Plays, Submits, Submitted, Ticket, Work, after_committed, open_desk}
 use Rattle.nc_theory.specs.Runs.{End, Handles, IsEnd, Outcome, SequentialRun}
 use Rattle.nc_theory.specs.Stale.{Extension, Unaffected}
 use Rattle.nc_theory.specs.States.{State}
@@ -57,6 +57,6 @@ DeskCounts = (P : NamedProblem) →
 
 -- a work over the desk's own state that is ready is what handling gives there: each advance that is not at the end commits it, and none drops it
 abbrev pub OwnWorkStands : Type 0
-OwnWorkStands = (P : NamedProblem) → IsPrime P.problem.setting.prime → (capacity : ℕ) (events : List Event) (d : Desk) → Plays P events (open_desk capacity) d → (τ : Monomial) (n : Node) (w : Work) → IsReady P.problem d τ n w → w.number ≡ d.handled →
+OwnWorkStands = (P : NamedProblem) → IsPrime P.problem.setting.prime → (capacity : ℕ) (events : List Event) (d : Desk) → Plays P events (open_desk capacity) d → (τ : Monomial) (n : Node) (w : Work) → IsReadyWork P.problem d τ n w → w.number ≡ d.handled →
     Handles P.problem.setting d.state τ w.outcome
     × (¬ IsFinished P.problem d → (d' : Desk) → Advances P.problem d d' → Advances P.problem (after_committed d τ n w.outcome) d')

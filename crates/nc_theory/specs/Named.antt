@@ -12,8 +12,8 @@ use Rattle.std.specs.List.{range_with_len}
 use Rattle.std.specs.Prelude.{Contains, List, length, map}
 
 -- the letters of an alphabet, in the order of their numbers
-abbrev pub letters_of : Alphabet → List Letter
-letters_of a = map (letter_at a) (range_with_len 0 (length a.names))
+abbrev pub alphabet_letters : Alphabet → List Letter
+alphabet_letters a = map (letter_at a) (range_with_len 0 (length a.names))
 
 -- both words of the monomial are over the alphabet
 abbrev pub IsMonomialIn : Alphabet → Monomial → Type 0

@@ -20,7 +20,7 @@ use Rattle.nc_algebra.specs.Primes.{IsPrime}
 use Rattle.nc_algebra.specs.Problems.{Bound, IsProblem, IsUnder, IsWithin, IsWithinBound, NamedProblem, Problem}
 use Rattle.nc_algebra.specs.Words.{Word}
 use Rattle.nc_theory.specs.EndBases.{AreCanonical, HasBases, HasBasesAt}
-use Rattle.nc_theory.specs.Named.{IsOverAlphabet, letters_of}
+use Rattle.nc_theory.specs.Named.{IsOverAlphabet, alphabet_letters}
 use Rattle.nc_theory.specs.Untraced.{IsEndOf, IsNextOfRun, IsRunOf, IsRunTo, IsSameDivisor, untraced, untraced_entry}
 use Rattle.nc_theory.specs.Usable.{IsUsable, IsUsableSignature}
 use Rattle.nc_theory.specs.Ambiguities.{Ambiguity, NewAmbiguity}
@@ -142,4 +142,4 @@ AlphabetLaw = (P : NamedProblem) → IsProblem P → IsPrime P.problem.setting.p
 
 -- and where as many steps are allowed as its bound has monomials, each end is complete
 abbrev pub EnoughSteps : Type 0
-EnoughSteps = (P : NamedProblem) → IsProblem P → IsPrime P.problem.setting.prime → length (monomials_within P.problem.setting P.problem.bound (letters_of P.alphabet)) ≤ P.problem.steps → (n : ℕ) (state : State) (ending : End) → IsEndOf P.problem n state ending → ending ≡ End.complete
+EnoughSteps = (P : NamedProblem) → IsProblem P → IsPrime P.problem.setting.prime → length (monomials_within P.problem.setting P.problem.bound (alphabet_letters P.alphabet)) ≤ P.problem.steps → (n : ℕ) (state : State) (ending : End) → IsEndOf P.problem n state ending → ending ≡ End.complete

@@ -6,19 +6,19 @@ use Rattle.nc_tokens.specs.declared.fault.Kind.{Kind}
 use Rattle.std.specs.Prelude.{ℕ}
 
 -- the number of a kind
-abbrev pub number_of : Kind → ℕ
-number_of BadByte = 1
-number_of WrongLine = 2
-number_of Missing = 3
-number_of Syntax = 4
-number_of LongLiteral = 5
-number_of BadPrime = 6
-number_of BadName = 7
-number_of DoubleName = 8
-number_of TooManyNames = 9
-number_of UnknownName = 10
-number_of LongWord = 11
-number_of ZeroGenerator = 12
-number_of OutOfRange = 13
-number_of TooManyGenerators = 14
-number_of LongLine = 15
+abbrev pub kind_number : Kind → ℕ
+kind_number BadByte = 1
+kind_number WrongLine = 2
+kind_number Missing = 3
+kind_number Syntax = 4
+kind_number LongLiteral = 5
+kind_number BadPrime = 6
+kind_number BadName = 7
+kind_number DoubleName = 8
+kind_number TooManyNames = 9
+kind_number UnknownName = 10
+kind_number LongWord = 11
+kind_number ZeroGenerator = 12
+kind_number OutOfRange = 13
+kind_number TooManyGenerators = 14
+kind_number LongLine = 15

@@ -10,6 +10,6 @@ use Rattle.std.specs.List.{list_all}
 use Rattle.std.specs.Prelude.{length, ℕ, ◌+◌, ◌≡◌, ◌≤◌}
 
 -- the next line of what is written; its number and the bytes behind it stay within the whole
-abbrev pub IsNext : ℕ → Written → Next → Type 0
-IsNext whole w (code.End n) = w ≡ End n
-IsNext whole w (code.Line n content rest) = (w ≡ Line n (list_all is_allowed content.now) (tokens content.now) (written (n + 1) (lines rest.now))) × (n + 1 + length rest.now ≤ whole)
+abbrev pub IsNextWritten : ℕ → Written → Next → Type 0
+IsNextWritten whole w (code.End n) = w ≡ End n
+IsNextWritten whole w (code.Line n content rest) = (w ≡ Line n (list_all is_allowed content.now) (tokens content.now) (written (n + 1) (lines rest.now))) × (n + 1 + length rest.now ≤ whole)

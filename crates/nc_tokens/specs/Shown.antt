@@ -1,7 +1,7 @@
 -- How the definitions see the tokens of the code.
 --
 -- The definitions have a list of all tokens of a line. Code reads them one by one, and has a token
--- of its own for the end of a line. `IsTaken` and `IsTakenLiteral` are on calls that take a token
+-- of its own for the end of a line. `IsTakenToken` and `IsTakenLiteral` are on calls that take a token
 -- only if it is the wanted one.
 use Rattle.nc_tokens.specs.declared.fault.LineError.{LineError}
 use Rattle.nc_tokens.specs.declared.fault.LineError.TheVariants as errors
@@ -41,9 +41,9 @@ abbrev pub IsMisplaced : shown.Token → LineError → Type 0
 IsMisplaced token fault = (rest : List Token) → fault ≡ errors.Fault (misplaced (before token rest))
 
 -- a token is taken if it comes next
-abbrev pub IsTaken : Token → List Token → List Token → Bool → Type 0
-IsTaken token old new true = old ≡ token ∷ new
-IsTaken token old new false = (new ≡ old) × ((rest : List Token) → old ≡ token ∷ rest → ⊥)
+abbrev pub IsTakenToken : Token → List Token → List Token → Bool → Type 0
+IsTakenToken token old new true = old ≡ token ∷ new
+IsTakenToken token old new false = (new ≡ old) × ((rest : List Token) → old ≡ token ∷ rest → ⊥)
 
 -- a literal is taken if it comes next
 abbrev pub IsTakenLiteral : List Token → List Token → Option ℕ → Type 0

@@ -1,7 +1,7 @@
 //! Why a text could not be read.
 
 ghost use Rattle.nc_tokens.specs.Gives.{IsAt};
-ghost use Rattle.nc_tokens.specs.Kinds.{number_of};
+ghost use Rattle.nc_tokens.specs.Kinds.{kind_number};
 ghost use Rattle.nc_tokens.specs.declared.fault.LineError.TheVariants.{Memory};
 ghost use Rattle.nc_tokens.specs.declared.fault.ReadFault.TheVariants.{OutOfMemory};
 ghost use Rattle.std.specs.Prelude.{◌≡◌};
@@ -50,7 +50,7 @@ pub enum Kind {
 impl Kind {
     /// The number under which reports name the kind.
     pub fn number(self) -> u8
-        ensures { result ≡ number_of self }
+        ensures { result ≡ kind_number self }
     {
         match self {
             Kind::BadByte => 1,

@@ -1,7 +1,7 @@
 //! The lines of a text.
 
 ghost use Rattle.nc_tokens.specs.Lines.{content, is_allowed, lines, written};
-ghost use Rattle.nc_tokens.specs.Next.{IsNext};
+ghost use Rattle.nc_tokens.specs.Next.{IsNextWritten};
 ghost use Rattle.nc_tokens.specs.Tokens.{is_blank};
 ghost use Rattle.std.specs.List.{list_all, prefix_len};
 ghost use Rattle.std.specs.Prelude.{length, not, ◌+◌, ◌<◌, ◌==◌, ◌^◌, ◌∷◌, ◌≡◌, ◌≤◌};
@@ -74,7 +74,7 @@ pub enum Next<'a> {
 /// The next line that is not blank.
 pub fn next_line(bytes: &[u8], number: u64) -> Next<'_>
     requires { number + length bytes.now < 2 ^ 64 }
-    ensures { IsNext (number + length bytes.now) (written number (lines bytes.now)) result }
+    ensures { IsNextWritten (number + length bytes.now) (written number (lines bytes.now)) result }
 {
     let mut rest = bytes;
     let mut at = number;

@@ -2,7 +2,7 @@
 
 ghost use Rattle.nc_tokens.specs.Gives.{Gives};
 ghost use Rattle.nc_tokens.specs.Wanted.{close_at, close_brace_at, end_at, exponent_at, literal_at, name_at, open_at, sign_at};
-ghost use Rattle.nc_tokens.specs.Shown.{IsMisplaced, IsTaken, IsTakenLiteral, before};
+ghost use Rattle.nc_tokens.specs.Shown.{IsMisplaced, IsTakenToken, IsTakenLiteral, before};
 ghost use Rattle.nc_tokens.specs.Tokens as spec;
 ghost use Rattle.nc_tokens.specs.Tokens.{tokens};
 ghost use Rattle.std.specs.Prelude.{◌≡◌};
@@ -55,7 +55,7 @@ impl<'a> Tokens<'a> {
 
     /// Takes a `*`, if it comes next.
     pub fn takes_times(&mut self) -> bool
-        ensures { IsTaken spec.Times self.old self.new result }
+        ensures { IsTakenToken spec.Times self.old self.new result }
     {
         let (token, rest) = next_token(self.rest);
         match token {
@@ -146,7 +146,7 @@ impl<'a> Tokens<'a> {
 
     /// Takes a `{`, if it comes next.
     pub fn takes_brace(&mut self) -> bool
-        ensures { IsTaken spec.OpenBrace self.old self.new result }
+        ensures { IsTakenToken spec.OpenBrace self.old self.new result }
     {
         let (token, rest) = next_token(self.rest);
         match token {

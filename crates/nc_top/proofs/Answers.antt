@@ -17,7 +17,7 @@ use Rattle.nc_options.specs.declared.options.MemberOptions.{MemberOptions}
 use Rattle.nc_options.specs.declared.options.Options.{Options}
 use Rattle.nc_options.specs.declared.options.Options.TheVariants.{Basis, Check, Demo, Member}
 use Rattle.nc_theory.proofs.Named.{complete}
-use Rattle.nc_theory.specs.Named.{letters_of}
+use Rattle.nc_theory.specs.Named.{alphabet_letters}
 use Rattle.nc_theory.specs.Untraced.{untraced}
 use Rattle.nc_theory.specs.Bases.{HasRepresentation}
 use Rattle.nc_theory.specs.Runs.{End, IsEnd}
@@ -27,7 +27,7 @@ use Rattle.nc_top.proofs.Inputs.{err_or_ok}
 use Rattle.nc_top.proofs.MemberAnswers.{member_answer, one_member, same_claims}
 use Rattle.nc_top.proofs.Claims.{problem_is}
 use Rattle.nc_top.proofs.Remainders.{is_represented}
-use Rattle.nc_top.specs.Member.{Ended, IsCertified, IsCertifiedAs, IsClaimText, IsEnded, IsMemberAnswer, IsNotBelow, IsTooManyAs, IsTooManyTermsOf}
+use Rattle.nc_top.specs.Member.{ClaimAtEnd, IsCertified, IsCertifiedAs, IsClaimText, IsClaimAtEnd, IsMemberAnswer, IsNotBelow, IsTooManyAs, IsTooManyTermsOf}
 use Rattle.nc_snapshot.specs.declared.outcome.Listed.{Listed}
 use Rattle.nc_top.specs.Basis.{IsBasis, IsComplete, IsProblemText, IsTooManyTerms, status_at}
 use Rattle.nc_top.specs.Laws.{CompleteMembers, CompleteRuns, FaultlessRuns, OneAnswer}
@@ -89,12 +89,12 @@ faultless_runs options runs bytes left_after written_before written_after source
 
 -- ---- runs with enough steps
 
-module _ (options : BasisOptions) (bytes : List ℕ) (P : NamedProblem) (text : IsProblemText bytes P) (enough : length (monomials_within P.problem.setting P.problem.bound (letters_of P.alphabet)) ≤ P.problem.steps) where
+module _ (options : BasisOptions) (bytes : List ℕ) (P : NamedProblem) (text : IsProblemText bytes P) (enough : length (monomials_within P.problem.setting P.problem.bound (alphabet_letters P.alphabet)) ≤ P.problem.steps) where
   complete_end : (e : End) (report : List ℕ) → IsBasis options bytes e report → e ≡ End.complete
   complete_end e report h = subst Ends (same_problem bytes h.problem P h.text text) (λ is few. complete h.problem is (prime_of h.problem is) few h.handled (untraced h.run) e (record { run = h.run; ends = h.ends; stands = refl })) (problem_of_text bytes P text) enough
     where
       Ends : NamedProblem → Type 0
-      Ends Q = IsProblem Q → length (monomials_within Q.problem.setting Q.problem.bound (letters_of Q.alphabet)) ≤ Q.problem.steps → e ≡ End.complete
+      Ends Q = IsProblem Q → length (monomials_within Q.problem.setting Q.problem.bound (alphabet_letters Q.alphabet)) ≤ Q.problem.steps → e ≡ End.complete
 
   abbrev Whole : Status → List ℕ → Type 0
   Whole status report = ((status ≡ Done) × IsComplete options bytes report) ⊎ ((named : Listed) × (terms : ℕ) × (status ≡ TooMany named terms) × IsTooManyTerms options bytes named terms report)
@@ -125,12 +125,12 @@ complete_runs options bytes P text enough left_after written_before written_afte
 
 -- ---- claims of problems with enough steps
 
-module _ (options : MemberOptions) (bytes : List ℕ) (P : NamedProblem) (claim : Polynomial) (text : IsClaimText bytes P claim) (enough : length (monomials_within P.problem.setting P.problem.bound (letters_of P.alphabet)) ≤ P.problem.steps) where
+module _ (options : MemberOptions) (bytes : List ℕ) (P : NamedProblem) (claim : Polynomial) (text : IsClaimText bytes P claim) (enough : length (monomials_within P.problem.setting P.problem.bound (alphabet_letters P.alphabet)) ≤ P.problem.steps) where
   -- the claim has a representation within the bound
   abbrev IsBelow : Type 0
   IsBelow = HasRepresentation P.problem.setting (IsWithin P.problem) claim
 
-  module _ (e : Ended) (is : IsEnded bytes e) where
+  module _ (e : ClaimAtEnd) (is : IsClaimAtEnd bytes e) where
     same : (e.problem ≡ P) × (e.claim ≡ claim)
     same = same_claims bytes e.problem P e.claim claim is.text text
 
@@ -141,10 +141,10 @@ module _ (options : MemberOptions) (bytes : List ℕ) (P : NamedProblem) (claim 
     member_complete = subst Ends (sym same.0) (λ at few ends. complete P at (prime_of P at) few e.handled (untraced is.run) e.ending (record { run = is.run; ends = ends; stands = refl })) here enough_there is.ends
       where
         Ends : NamedProblem → Type 0
-        Ends Q = IsProblem Q → length (monomials_within Q.problem.setting Q.problem.bound (letters_of Q.alphabet)) ≤ Q.problem.steps → IsEnd Q.problem e.handled is.run e.ending → e.ending ≡ End.complete
+        Ends Q = IsProblem Q → length (monomials_within Q.problem.setting Q.problem.bound (alphabet_letters Q.alphabet)) ≤ Q.problem.steps → IsEnd Q.problem e.handled is.run e.ending → e.ending ≡ End.complete
 
-        enough_there : length (monomials_within e.problem.problem.setting e.problem.problem.bound (letters_of e.problem.alphabet)) ≤ e.problem.problem.steps
-        enough_there = subst (λ (Q : NamedProblem). length (monomials_within Q.problem.setting Q.problem.bound (letters_of Q.alphabet)) ≤ Q.problem.steps) (sym same.0) enough
+        enough_there : length (monomials_within e.problem.problem.setting e.problem.problem.bound (alphabet_letters e.problem.alphabet)) ≤ e.problem.problem.steps
+        enough_there = subst (λ (Q : NamedProblem). length (monomials_within Q.problem.setting Q.problem.bound (alphabet_letters Q.alphabet)) ≤ Q.problem.steps) (sym same.0) enough
 
     moved : HasRepresentation e.problem.problem.setting (IsWithin e.problem.problem) e.claim → IsBelow
     moved has = subst₂ (λ (Q : NamedProblem) (f : Polynomial). HasRepresentation Q.problem.setting (IsWithin Q.problem) f) same.0 same.1 has
@@ -159,18 +159,18 @@ module _ (options : MemberOptions) (bytes : List ℕ) (P : NamedProblem) (claim 
       ⊎ (¬ IsBelow × (status ≡ NotBelow) × IsNotBelow bytes report))
 
   done_below : (form : Form) (report : List ℕ) → IsCertifiedAs form options.limit bytes report → IsBelow
-  done_below Terms report t = moved t.ended t.is (element_of t.m, t.represented.lies, t.represented.evaluates)
-  done_below Lines report t = moved t.ended t.is t.proved.has
+  done_below Terms report t = moved t.at_end t.is (element_of t.m, t.represented.lies, t.represented.evaluates)
+  done_below Lines report t = moved t.at_end t.is t.proved.has
 
   many_below : (form : Form) (named : Listed) (terms : ℕ) (report : List ℕ) → IsTooManyAs form options.limit bytes named terms report → IsBelow
-  many_below Terms named terms report t = moved t.ended t.is (is_represented t.ended.problem (here t.ended t.is) t.many.rest.runs t.ended.claim [] t.many.steps t.many.rest.reduces refl)
+  many_below Terms named terms report t = moved t.at_end t.is (is_represented t.at_end.problem (here t.at_end t.is) t.many.rest.runs t.at_end.claim [] t.many.steps t.many.rest.reduces refl)
   many_below Lines named terms report t = absurd t
 
   decided : (status : Status) (report : List ℕ) → IsMemberAnswer options bytes status report → IsDecided status report
   decided Done report h = inl (done_below options.form report h, refl, h)
   decided (TooMany named terms) report h = inr (inl (many_below options.form named terms report h, (named, terms, refl, h)))
-  decided NotBelow report h = inr (inr (λ has. h.left.none (moved_back h.ended h.is has), refl, h))
-  decided Budget report h = let both : End.complete ≡ End.budget h.left.next = sym (member_complete h.ended h.is) ∙ h.left.budget in absurd cc
+  decided NotBelow report h = inr (inr (λ has. h.left.none (moved_back h.at_end h.is has), refl, h))
+  decided Budget report h = let both : End.complete ≡ End.budget h.left.next = sym (member_complete h.at_end h.is) ∙ h.left.budget in absurd cc
   decided (BadText line kind) report h = absurd (err_or_ok (sym h.read ∙ text.read))
   decided TooLarge report h = absurd (omega (arith, h.large, text.small))
   decided Invalid report h = absurd h

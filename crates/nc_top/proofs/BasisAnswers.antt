@@ -21,7 +21,7 @@ use Rattle.nc_options.specs.declared.options.BasisOptions.{BasisOptions}
 use Rattle.nc_options.specs.declared.options.Cofactors.{Cofactors}
 use Rattle.nc_options.specs.declared.options.Cofactors.TheVariants.{Full, Omitted, Trace as TraceOf}
 use Rattle.nc_print.specs.Printing.{ended}
-use Rattle.nc_report.specs.Reports.{counts_line, end_line, entry_line, numbered, syzygy_line}
+use Rattle.nc_report.specs.Reports.{counts_line, ending_line, entry_line, numbered, syzygy_line}
 use Rattle.nc_theory.proofs.UntracedBases.{moved_bases_at}
 use Rattle.nc_theory.proofs.UntracedEnds.{end_facts}
 use Rattle.nc_theory.proofs.UntracedStates.{untraced_twice}
@@ -37,7 +37,7 @@ use Rattle.nc_theory.proofs.Uniqueness.{entry_canonical, entry_unique}
 use Rattle.nc_theory.specs.Labels.{label_at, labels_of, trace_label}
 use Rattle.nc_theory.specs.Runs.{End, IsEnd, SequentialRun}
 use Rattle.nc_theory.specs.States.{State, Syzygy}
-use Rattle.nc_tokens.specs.Kinds.{number_of}
+use Rattle.nc_tokens.specs.Kinds.{kind_number}
 use Rattle.nc_tokens.specs.declared.fault.TextFault.{TextFault}
 use Rattle.nc_top.proofs.Inputs.{err_or_ok, same_fault}
 use Rattle.nc_top.specs.Basis.{AreLabelled, AreShort, AreShown, IsBasis, IsBasisAnswer, IsProblemText, IsTooManyTerms, reads_relations, status_at}
@@ -70,7 +70,7 @@ module _ (s : Setting) (prime : IsPrime s.prime) (run : State) (labels labels' :
   same_report Omitted names n e a b = refl
   same_report TraceOf names n e a b = refl
   same_report Full names n e a b =
-      ap₂ (λ (es hs : List (List ℕ)). ended (end_line names e ∷ counts_line n run ∷ (es ++ hs)))
+      ap₂ (λ (es hs : List (List ℕ)). ended (ending_line names e ∷ counts_line n run ∷ (es ++ hs)))
       (same_numbered (entry_lines Full names labels) (entry_lines Full names labels') 1 run.entries (λ i x at. ap (λ (l : Element). entry_line names (1 + i) x ∷ cofactor_lines Full names x.trace l) (same_label (EntryOf (1 + i)) a b (omega (arith), omega (arith, slice_get_within run.entries i x at)))))
       (same_numbered (syzygy_lines Full names labels) (syzygy_lines Full names labels') 1 run.syzygies (λ i x at. ap (λ (l : Element). syzygy_line names (1 + i) x ∷ cofactor_lines Full names x.trace l) (same_label (SyzygyOf (1 + i)) a b (omega (arith), omega (arith, slice_get_within run.syzygies i x at)))))
 
@@ -285,7 +285,7 @@ basis_answer options bytes = by_size (cases_lt 16777216 (length bytes))
     Answer = (status : Status) × (report : List ℕ) × IsBasisAnswer options bytes status report
 
     by_read : (r : Result ProblemText TextFault) → length bytes ≤ 16777216 → reads_relations bytes ≡ r → Answer
-    by_read (Err fault) small read = (BadText fault.line (number_of fault.kind), bad_text_report fault.line (number_of fault.kind), record { fault = fault; small = small; read = read; at_line = refl; of_kind = refl; written = refl })
+    by_read (Err fault) small read = (BadText fault.line (kind_number fault.kind), bad_text_report fault.line (kind_number fault.kind), record { fault = fault; small = small; read = read; at_line = refl; of_kind = refl; written = refl })
     by_read (Ok t) small read = go (end_exists P.problem (field_of P (problem_of_text bytes P text)))
       where
         P : NamedProblem

@@ -6,7 +6,7 @@ use Rattle.nc_algebra.specs.Certificates.{Certificate, rest_of}
 use Rattle.nc_algebra.specs.Polynomials.{Polynomial}
 use Rattle.nc_text.proofs.ReadCertificates.{reads_certificates}
 use Rattle.nc_text.specs.Certificates.{reads_certificate}
-use Rattle.nc_tokens.specs.Kinds.{number_of}
+use Rattle.nc_tokens.specs.Kinds.{kind_number}
 use Rattle.nc_tokens.specs.declared.fault.TextFault.{TextFault}
 use Rattle.nc_cert.proofs.Beyond.{much_found, within_none}
 use Rattle.nc_cert.proofs.Limits.{limit_law}
@@ -38,7 +38,7 @@ status_of_work None rest = status_of_rest rest
 -- the work and what is left of the claim of a certificate, or the fault of a text that is none
 abbrev status_of_text : Result Certificate TextFault → Status
 status_of_text (Ok c) = status_of_work (first_beyond 100000000 0 (certificate_charges c)) (rest_of c.setting.setting c.claim c.lines)
-status_of_text (Err fault) = BadText fault.line (number_of fault.kind)
+status_of_text (Err fault) = BadText fault.line (kind_number fault.kind)
 
 -- the size is told before the text is looked at
 abbrev status_of : List ℕ → Status
@@ -54,7 +54,7 @@ report_of_work names None rest = report_of_rest names rest
 
 abbrev report_of_text : Result Certificate TextFault → List ℕ
 report_of_text (Ok c) = report_of_work c.setting.alphabet.names (first_beyond 100000000 0 (certificate_charges c)) (rest_of c.setting.setting c.claim c.lines)
-report_of_text (Err fault) = bad_text_report fault.line (number_of fault.kind)
+report_of_text (Err fault) = bad_text_report fault.line (kind_number fault.kind)
 
 abbrev report_of : List ℕ → List ℕ
 report_of bytes = if nat_lt 16777216 (length bytes) then codes "too large\n" else report_of_text (reads_certificate bytes)

@@ -13,7 +13,7 @@ use Rattle.nc_cofactor.proofs.Letters.{sum_over}
 use Rattle.nc_cofactor.specs.Sums.{IsSum}
 use Rattle.nc_theory.proofs.Normal.{kept_normal}
 use Rattle.nc_theory.proofs.OverAlphabet.{generator_over, polynomial_in, polynomial_over}
-use Rattle.nc_theory.specs.Named.{letters_of}
+use Rattle.nc_theory.specs.Named.{alphabet_letters}
 use Rattle.nc_text.proofs.ReadCertificates.{claim_line_reads, setting_lines_read}
 use Rattle.nc_text.specs.Certificates.{claim_line}
 use Rattle.nc_text.specs.Problems.{ProblemText, bound_line, problem_at, steps_line, wanted_claim}
@@ -88,7 +88,7 @@ module _ (P : NamedProblem) (is : IsProblem P) {n : ℕ} {run : State} {last : O
   field = field_of P is
 
   abbrev letters : List Letter
-  letters = letters_of P.alphabet
+  letters = alphabet_letters P.alphabet
 
   inputs : (i : ℕ) → WordsAre P.problem.setting (IsOver letters) (generator P.problem.setting i)
   inputs = generator_over (setting_of P) is.setting

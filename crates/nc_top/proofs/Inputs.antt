@@ -1,5 +1,5 @@
 -- An input is a text or has a fault, and its first fault is told once.
-use Rattle.nc_tokens.specs.Kinds.{number_of}
+use Rattle.nc_tokens.specs.Kinds.{kind_number}
 use Rattle.nc_tokens.specs.declared.fault.TextFault.{TextFault}
 use Rattle.nc_top.specs.Inputs.{IsBadText}
 use Rattle.nc_top.specs.Reports.{bad_text_report}
@@ -15,7 +15,7 @@ module _ {T : Type 0} where
   same_fault reads bytes l k l' k' r r' a b =
       let one : a.fault ≡ b.fault = ap fault_in (sym a.read ∙ b.read) in
       let line : l ≡ l' = a.at_line ∙ (ap (λ (f : TextFault). f.line) one ∙ sym b.at_line) in
-      let kind : k ≡ k' = a.of_kind ∙ (ap (λ (f : TextFault). number_of f.kind) one ∙ sym b.of_kind) in
+      let kind : k ≡ k' = a.of_kind ∙ (ap (λ (f : TextFault). kind_number f.kind) one ∙ sym b.of_kind) in
       (ap₂ BadText line kind, a.written ∙ (ap₂ bad_text_report line kind ∙ sym b.written))
     where
       fault_in : Result T TextFault → TextFault

@@ -8,7 +8,7 @@ pub mod Claims
 pub mod Needed
 pub mod Sums
 pub mod Forms
-pub mod Told
+pub mod AtEnd
 pub mod MemberEnds
 pub mod MemberLines
 pub mod Remainders

@@ -27,7 +27,7 @@ use Rattle.nc_theory.specs.Labels.{labels_of, step_multiples}
 use Rattle.nc_theory.specs.Reductions.{Reduction}
 use Rattle.nc_theory.specs.Runs.{End, IsEnd, SequentialRun}
 use Rattle.nc_theory.specs.States.{State, Step, Trace}
-use Rattle.nc_tokens.specs.Kinds.{number_of}
+use Rattle.nc_tokens.specs.Kinds.{kind_number}
 use Rattle.nc_tokens.specs.declared.fault.TextFault.{TextFault}
 use Rattle.nc_top.proofs.BasisAnswers.{ended_run, field_of, prime_of}
 use Rattle.nc_top.proofs.Claims.{claim_in, has_claim, problem_is}
@@ -36,7 +36,7 @@ use Rattle.nc_top.proofs.Inputs.{err_or_ok, same_fault}
 use Rattle.nc_top.proofs.MemberLines.{proof_holds}
 use Rattle.nc_top.proofs.Needed.{AreListed, needed_dec, needed_list, needed_once, needed_within, numbers_within}
 use Rattle.nc_top.proofs.Remainders.{not_represented, rest_exists, rest_once, terms_evaluate, terms_lie}
-use Rattle.nc_top.proofs.Told.{AreProof, IsRemainder, Remainder, Represents, at_end, ended, is_at_end, is_ended, many_at_end, many_of, open_of, proof_at_end, proved_of, represented_of, terms_at_end, unrepresented_of}
+use Rattle.nc_top.proofs.AtEnd.{AreProof, IsRemainder, Remainder, Represents, remainder_at, claim_at_end, is_remainder_at, is_claim_at_end, many_at_end, many_of, open_of, proof_at_end, proved_of, represented_of, terms_at_end, unrepresented_of}
 use Rattle.nc_top.proofs.Sums.{first_or_within, never_both, too_many_once}
 use Rattle.nc_top.specs.Inputs.{IsBadText, IsTooLarge}
 use Rattle.nc_top.specs.Member.{IsCertifiedAs, IsClaimText, IsMemberAnswer, IsTooManyAs, certificate_with, reads_claim}
@@ -87,18 +87,18 @@ same_remainders bytes r r' a b = λ j. record { problem = texts.0 j; claim = tex
 
 data Told (options : MemberOptions) (r : Remainder) : Status → List ℕ → Type 0 where
   by_terms : {report : List ℕ} → options.form ≡ Terms → r.rest ≡ [] → (m : List (Term Sig)) → Represents r options.limit m → report ≡ terms_text (setting_of r.problem) r.claim (element_of m) → Told options r Done report
-  by_lines : {report : List ℕ} → options.form ≡ Lines → r.rest ≡ [] → (needed : List (ℕ × Trace)) (lines : List Line) → AreProof r needed lines → report ≡ certificate_text (certificate_with (ended r) lines) → Told options r Done report
+  by_lines : {report : List ℕ} → options.form ≡ Lines → r.rest ≡ [] → (needed : List (ℕ × Trace)) (lines : List Line) → AreProof r needed lines → report ≡ certificate_text (certificate_with (claim_at_end r) lines) → Told options r Done report
   by_many : {report : List ℕ} → options.form ≡ Terms → r.rest ≡ [] → (named : Listed) (terms : ℕ) → IsTooManyFor r.problem.problem.setting.prime r.run r.steps options.limit named terms → report ≡ too_many_report named terms → Told options r (TooMany named terms) report
   by_none : {report : List ℕ} → r.ending ≡ End.complete → r.rest ≢ [] → ¬ HasRepresentation r.problem.problem.setting (IsWithin r.problem.problem) r.claim → report ≡ not_below_report r.problem.alphabet.names r.rest → Told options r NotBelow report
   by_budget : {report : List ℕ} (τ : Monomial) → r.ending ≡ End.budget τ → r.rest ≢ [] → report ≡ undecided_report r.problem.alphabet.names τ r.rest → Told options r Budget report
 
 done : (options : MemberOptions) (bytes : List ℕ) (report : List ℕ) (form : Form) → options.form ≡ form → IsCertifiedAs form options.limit bytes report → (r : Remainder) × IsRemainder bytes r × Told options r Done report
-done options bytes report Terms is t = (at_end bytes t.ended t.is [] t.represented.steps, is_at_end bytes t.ended t.is [] t.represented.steps t.represented.rest, Told.by_terms is refl t.m (terms_at_end bytes t.ended t.is options.limit t.m t.represented) t.written)
-done options bytes report Lines is t = (at_end bytes t.ended t.is [] t.proved.steps, is_at_end bytes t.ended t.is [] t.proved.steps t.proved.rest, Told.by_lines is refl t.proved.needed t.lines (proof_at_end bytes t.ended t.is t.lines t.keeps t.proved) t.written)
+done options bytes report Terms is t = (remainder_at bytes t.at_end t.is [] t.represented.steps, is_remainder_at bytes t.at_end t.is [] t.represented.steps t.represented.rest, Told.by_terms is refl t.m (terms_at_end bytes t.at_end t.is options.limit t.m t.represented) t.written)
+done options bytes report Lines is t = (remainder_at bytes t.at_end t.is [] t.proved.steps, is_remainder_at bytes t.at_end t.is [] t.proved.steps t.proved.rest, Told.by_lines is refl t.proved.needed t.lines (proof_at_end bytes t.at_end t.is t.lines t.keeps t.proved) t.written)
 
 too_many : (options : MemberOptions) (bytes : List ℕ) (named : Listed) (terms : ℕ) (report : List ℕ) (form : Form) → options.form ≡ form → IsTooManyAs form options.limit bytes named terms report
     → (r : Remainder) × IsRemainder bytes r × Told options r (TooMany named terms) report
-too_many options bytes named terms report Terms is t = (at_end bytes t.ended t.is [] t.many.steps, is_at_end bytes t.ended t.is [] t.many.steps t.many.rest, Told.by_many is refl named terms (many_at_end bytes t.ended t.is options.limit named terms t.many) t.written)
+too_many options bytes named terms report Terms is t = (remainder_at bytes t.at_end t.is [] t.many.steps, is_remainder_at bytes t.at_end t.is [] t.many.steps t.many.rest, Told.by_many is refl named terms (many_at_end bytes t.at_end t.is options.limit named terms t.many) t.written)
 too_many options bytes named terms report Lines is t = absurd t
 
 -- what an answer comes from: too many bytes, a fault, or the remainder of a claim
@@ -109,8 +109,8 @@ data Known (options : MemberOptions) (bytes : List ℕ) : Status → List ℕ �
 
 known : (options : MemberOptions) (bytes : List ℕ) (status : Status) (report : List ℕ) → IsMemberAnswer options bytes status report → Known options bytes status report
 known options bytes Done report h = Known.remains (done options bytes report options.form refl h)
-known options bytes NotBelow report h = Known.remains (at_end bytes h.ended h.is h.rest h.left.steps, is_at_end bytes h.ended h.is h.rest h.left.steps h.left.is, Told.by_none h.left.complete h.left.some h.left.none h.written)
-known options bytes Budget report h = Known.remains (at_end bytes h.ended h.is h.rest h.left.steps, is_at_end bytes h.ended h.is h.rest h.left.steps h.left.is, Told.by_budget h.left.next h.left.budget h.left.some h.written)
+known options bytes NotBelow report h = Known.remains (remainder_at bytes h.at_end h.is h.rest h.left.steps, is_remainder_at bytes h.at_end h.is h.rest h.left.steps h.left.is, Told.by_none h.left.complete h.left.some h.left.none h.written)
+known options bytes Budget report h = Known.remains (remainder_at bytes h.at_end h.is h.rest h.left.steps, is_remainder_at bytes h.at_end h.is h.rest h.left.steps h.left.is, Told.by_budget h.left.next h.left.budget h.left.some h.written)
 known options bytes (TooMany named terms) report h = Known.remains (too_many options bytes named terms report options.form refl h)
 known options bytes (BadText line kind) report h = Known.is_bad line kind h
 known options bytes TooLarge report h = Known.is_large h
@@ -122,11 +122,11 @@ known options bytes WriteFault report h = absurd h
 known options bytes OutOfMemory report h = absurd h
 
 answered : (options : MemberOptions) (bytes : List ℕ) (status : Status) (report : List ℕ) (r : Remainder) → IsRemainder bytes r → Told options r status report → IsMemberAnswer options bytes status report
-answered options bytes s report r is (Told.by_terms form nothing m represents written) = as_terms options bytes report form (record { ended = ended r; is = is_ended bytes r is; m = m; represented = represented_of bytes r is nothing options.limit m represents; written = written })
-answered options bytes s report r is (Told.by_lines form nothing needed lines proof written) = as_lines options bytes report form (record { ended = ended r; is = is_ended bytes r is; lines = lines; proved = proved_of bytes r is nothing needed lines proof; keeps = proof.keeps; written = written })
-answered options bytes s report r is (Told.by_many form nothing named terms many written) = as_too_many options bytes report named terms form (record { ended = ended r; is = is_ended bytes r is; many = many_of bytes r is nothing options.limit named terms many; written = written })
-answered options bytes s report r is (Told.by_none complete some none written) = record { ended = ended r; is = is_ended bytes r is; rest = r.rest; left = unrepresented_of bytes r is complete some none; written = written }
-answered options bytes s report r is (Told.by_budget τ budget some written) = record { ended = ended r; is = is_ended bytes r is; rest = r.rest; left = open_of bytes r is τ budget some; written = written }
+answered options bytes s report r is (Told.by_terms form nothing m represents written) = as_terms options bytes report form (record { at_end = claim_at_end r; is = is_claim_at_end bytes r is; m = m; represented = represented_of bytes r is nothing options.limit m represents; written = written })
+answered options bytes s report r is (Told.by_lines form nothing needed lines proof written) = as_lines options bytes report form (record { at_end = claim_at_end r; is = is_claim_at_end bytes r is; lines = lines; proved = proved_of bytes r is nothing needed lines proof; keeps = proof.keeps; written = written })
+answered options bytes s report r is (Told.by_many form nothing named terms many written) = as_too_many options bytes report named terms form (record { at_end = claim_at_end r; is = is_claim_at_end bytes r is; many = many_of bytes r is nothing options.limit named terms many; written = written })
+answered options bytes s report r is (Told.by_none complete some none written) = record { at_end = claim_at_end r; is = is_claim_at_end bytes r is; rest = r.rest; left = unrepresented_of bytes r is complete some none; written = written }
+answered options bytes s report r is (Told.by_budget τ budget some written) = record { at_end = claim_at_end r; is = is_claim_at_end bytes r is; rest = r.rest; left = open_of bytes r is τ budget some; written = written }
 
 -- ---- one answer
 
@@ -155,7 +155,7 @@ module _ (options : MemberOptions) (r : Remainder) (some : 0 < r.problem.problem
   told_once s s' q q' (Told.by_terms form nothing m a w) (Told.by_none complete left none w') = absurd (left nothing)
   told_once s s' q q' (Told.by_terms form nothing m a w) (Told.by_budget τ budget left w') = absurd (left nothing)
   told_once s s' q q' (Told.by_lines form nothing needed lines a w) (Told.by_terms form' nothing' m b w') = absurd (other_form form' form)
-  told_once s s' q q' (Told.by_lines form nothing needed lines a w) (Told.by_lines form' nothing' needed' lines' b w') = (refl, w ∙ (ap (λ (l : List Line). certificate_text (certificate_with (ended r) l)) (same_lines needed needed' lines lines' a b) ∙ sym w'))
+  told_once s s' q q' (Told.by_lines form nothing needed lines a w) (Told.by_lines form' nothing' needed' lines' b w') = (refl, w ∙ (ap (λ (l : List Line). certificate_text (certificate_with (claim_at_end r) l)) (same_lines needed needed' lines lines' a b) ∙ sym w'))
   told_once s s' q q' (Told.by_lines form nothing needed lines a w) (Told.by_many form' nothing' named terms b w') = absurd (other_form form' form)
   told_once s s' q q' (Told.by_lines form nothing needed lines a w) (Told.by_none complete left none w') = absurd (left nothing)
   told_once s s' q q' (Told.by_lines form nothing needed lines a w) (Told.by_budget τ budget left w') = absurd (left nothing)
@@ -240,7 +240,7 @@ module _ (options : MemberOptions) (bytes : List ℕ) (r : Remainder) (is : IsRe
             let lines : List Line = proof_lines r.problem.problem.setting.prime needed r.steps in
             let holds = proof_holds r.problem problem r.handled r.run runs.0 runs.1 r.claim r.steps (claim_in bytes r.problem r.claim is.text) (subst (λ (f : Polynomial). Reduction r.problem.problem.setting r.run.entries (IsWithin r.problem.problem) r.claim f r.steps) nothing is.reduces) needed listed.lists listed.traces in (
               Done,
-              certificate_text (certificate_with (ended r) lines),
+              certificate_text (certificate_with (claim_at_end r) lines),
               Told.by_lines form nothing needed lines (record {
                 lists = listed.lists;
                 traces = listed.traces;
@@ -285,7 +285,7 @@ member_answer options bytes = by_size (cases_lt 16777216 (length bytes))
     by_remainder (r, is) = let t = tells options bytes r is in (t.0, t.1, answered options bytes t.0 t.1 r is t.2)
 
     by_read : (x : Result ProblemText TextFault) → length bytes ≤ 16777216 → reads_claim bytes ≡ x → (status : Status) × (report : List ℕ) × IsMemberAnswer options bytes status report
-    by_read (Err fault) small read = (BadText fault.line (number_of fault.kind), bad_text_report fault.line (number_of fault.kind), record { fault = fault; small = small; read = read; at_line = refl; of_kind = refl; written = refl })
+    by_read (Err fault) small read = (BadText fault.line (kind_number fault.kind), bad_text_report fault.line (kind_number fault.kind), record { fault = fault; small = small; read = read; at_line = refl; of_kind = refl; written = refl })
     by_read (Ok t) small read =
         let c = has_claim bytes t read in
         by_remainder (remainder_exists bytes t.problem c.0 (record { small = small; read = read ∙ ap (λ (o : Option Polynomial). Ok (record { problem = t.problem; claim = o })) c.1.0 }))

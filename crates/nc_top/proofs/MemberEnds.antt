@@ -18,7 +18,7 @@ use Rattle.nc_theory.specs.Runs.{End}
 use Rattle.nc_theory.specs.States.{State, Step}
 use Rattle.nc_top.proofs.Claims.{claim_in, claim_named, rest_named, terms_left, terms_right}
 use Rattle.nc_report.proofs.Showing.{one_run}
-use Rattle.nc_top.specs.Member.{Ended, IsClaimText, IsEnded, IsLines, IsNotBelow, IsTerms, IsTooManyInSum, IsUndecided}
+use Rattle.nc_top.specs.Member.{ClaimAtEnd, IsClaimText, IsClaimAtEnd, IsLines, IsNotBelow, IsTerms, IsTooManyInSum, IsUndecided}
 use Rattle.nc_top.specs.Reports.{not_below_report, too_many_report, undecided_report}
 use Rattle.std.proofs.Common.{All, List, [], ap, length, refl, subst, sym, ℕ, ◌++◌, ◌<◌, ◌∙◌, ◌≡◌}
 
@@ -30,11 +30,11 @@ module _ (s : Snapshot) (h : IsSnapshot s) (ending : End) (e : IsEndAt s ending)
   abbrev p : ℕ
   p = s.problem.problem.setting.prime
 
-  abbrev ended : Ended
-  ended = record { problem = s.problem; claim = claim; handled = s.handled; ending = ending }
+  abbrev at_end : ClaimAtEnd
+  at_end = record { problem = s.problem; claim = claim; handled = s.handled; ending = ending }
 
-  is_ended : IsEnded bytes ended
-  is_ended = record { text = text; run = e.run; ends = e.ends }
+  is_at_end : IsClaimAtEnd bytes at_end
+  is_at_end = record { text = text; run = e.run; ends = e.ends }
 
   -- ---- letters
 
@@ -58,8 +58,8 @@ module _ (s : Snapshot) (h : IsSnapshot s) (ending : End) (e : IsEndAt s ending)
 
     pub not_below_at : (rest : Polynomial) (report : List ℕ) → IsUnrepresented s.problem.problem s.handled ending claim rest → report ≡ not_below_report names rest → IsNotBelow bytes report
     not_below_at rest report u written = record {
-      ended = ended;
-      is = is_ended;
+      at_end = at_end;
+      is = is_at_end;
       rest = rest;
       left = u;
       written = written ∙ ap (λ (ns : List (List ℕ)). not_below_report ns rest) same;
@@ -67,8 +67,8 @@ module _ (s : Snapshot) (h : IsSnapshot s) (ending : End) (e : IsEndAt s ending)
 
     pub undecided_at : (rest : Polynomial) (τ : Monomial) (report : List ℕ) → IsOpen s.problem.problem s.handled ending claim rest → End.budget τ ≡ ending → report ≡ undecided_report names τ rest → IsUndecided bytes report
     undecided_at rest τ report o budget written = record {
-      ended = ended;
-      is = is_ended;
+      at_end = at_end;
+      is = is_at_end;
       rest = rest;
       left = o;
       written = written ∙ (ap (λ (ns : List (List ℕ)). undecided_report ns τ rest) same ∙ ap (λ (σ : Monomial). undecided_report s.problem.alphabet.names σ rest) next);
@@ -95,8 +95,8 @@ module _ (s : Snapshot) (h : IsSnapshot s) (ending : End) (e : IsEndAt s ending)
 
       pub lines_at : (report : List ℕ) → report ≡ certificate_text (record { setting = setting; claim = claim; lines = lines }) → IsLines bytes report
       lines_at report written = record {
-        ended = ended;
-        is = is_ended;
+        at_end = at_end;
+        is = is_at_end;
         lines = lines;
         proved = proved;
         keeps = record { setting = h.problem.setting; claim = claim_in bytes s.problem claim text; lines = proved.keeps };
@@ -124,12 +124,12 @@ module _ (s : Snapshot) (h : IsSnapshot s) (ending : End) (e : IsEndAt s ending)
 
       pub terms_at : (report : List ℕ) → report ≡ terms_text setting claim (element_of m) → IsTerms limit bytes report
       terms_at report written = record {
-        ended = ended;
-        is = is_ended;
+        at_end = at_end;
+        is = is_at_end;
         m = m;
         represented = represented;
         written = written ∙ ap (λ (x : NamedSetting). terms_text x claim (element_of m)) same;
       }
 
   pub many_at : (limit : ℕ) (named : Listed) (terms : ℕ) (report : List ℕ) → IsTooManyOf s.problem.problem s.handled claim limit named terms → report ≡ too_many_report named terms → IsTooManyInSum limit bytes named terms report
-  many_at limit named terms report many written = record { ended = ended; is = is_ended; many = many; written = written }
+  many_at limit named terms report many written = record { at_end = at_end; is = is_at_end; many = many; written = written }

@@ -5,7 +5,7 @@
 -- validity. A certificate over the limit is neither called valid nor invalid. The values are those
 -- of `Certificates.antt` of nc_algebra, so nothing here depends on how the check is carried out.
 use Rattle.nc_algebra.specs.Certificates.{Certificate, rest_of}
-use Rattle.nc_cert.specs.Charges.{IsTooMuch, IsWithinLimit}
+use Rattle.nc_cert.specs.Charges.{IsTooMuch, IsChargeWithin}
 use Rattle.nc_cert.specs.Checking.{IsValidCertificate, certificate_charges}
 use Rattle.nc_text.specs.Certificates.{reads_certificate}
 use Rattle.nc_top.specs.Inputs.{IsBadText, IsTooLarge}
@@ -21,7 +21,7 @@ pub record IsText (bytes : List ℕ) (c : Certificate) : Type 0 where
 
 -- checking the certificate asks for no more work than the limit
 abbrev pub IsWithinWork : Certificate → Type 0
-IsWithinWork c = IsWithinLimit 100000000 (certificate_charges c)
+IsWithinWork c = IsChargeWithin 100000000 (certificate_charges c)
 
 -- the bytes are a text of a certificate that is valid
 pub record IsDone (bytes report : List ℕ) : Type 0 where

@@ -2,7 +2,7 @@
 --
 -- A text has at most 16,777,216 bytes. The length comes first: a text that is too long is not read,
 -- whatever it has.
-use Rattle.nc_tokens.specs.Kinds.{number_of}
+use Rattle.nc_tokens.specs.Kinds.{kind_number}
 use Rattle.nc_tokens.specs.declared.fault.TextFault.{TextFault}
 use Rattle.nc_top.specs.Reports.{bad_text_report}
 use Rattle.std.specs.Prelude.{Err, List, codes, length, ℕ, ◌<◌, ◌≡◌, ◌≤◌}
@@ -14,7 +14,7 @@ pub record IsBadText {T : Type 0} (reads : List ℕ → Result T TextFault) (byt
   pub small : length bytes ≤ 16777216
   pub read : reads bytes ≡ Err fault
   pub at_line : line ≡ fault.line
-  pub of_kind : kind ≡ number_of fault.kind
+  pub of_kind : kind ≡ kind_number fault.kind
   pub written : report ≡ bad_text_report line kind
 
 -- the bytes are too many, whatever they are

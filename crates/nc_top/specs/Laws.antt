@@ -14,7 +14,7 @@ use Rattle.nc_options.specs.declared.options.BasisOptions.{BasisOptions}
 use Rattle.nc_options.specs.declared.options.MemberOptions.{MemberOptions}
 use Rattle.nc_options.specs.declared.options.Options.{Options}
 use Rattle.nc_options.specs.declared.options.Options.TheVariants.{Basis, Member}
-use Rattle.nc_theory.specs.Named.{letters_of}
+use Rattle.nc_theory.specs.Named.{alphabet_letters}
 use Rattle.nc_snapshot.specs.declared.outcome.Listed.{Listed}
 use Rattle.nc_top.specs.Basis.{IsComplete, IsProblemText, IsTooManyTerms}
 use Rattle.nc_theory.specs.Bases.{HasRepresentation}
@@ -41,7 +41,7 @@ FaultlessRuns = (options : Options) → Runs options → (bytes : List ℕ) (lef
 -- or names a label that is to be shown and has too many terms
 abbrev pub CompleteRuns : Type 0
 CompleteRuns = (options : BasisOptions) (bytes : List ℕ) (P : NamedProblem) → IsProblemText bytes P
-    → length (monomials_within P.problem.setting P.problem.bound (letters_of P.alphabet)) ≤ P.problem.steps
+    → length (monomials_within P.problem.setting P.problem.bound (alphabet_letters P.alphabet)) ≤ P.problem.steps
     → (left_after written_before written_after : Option (List ℕ)) (source sink : ℕ) (result : Status)
     → Ran (Basis options) (Some bytes) left_after written_before written_after source source sink sink result
     → ((result ≡ OutOfMemory) × Adds written_before written_after [])
@@ -52,7 +52,7 @@ CompleteRuns = (options : BasisOptions) (bytes : List ℕ) (P : NamedProblem) �
 -- the claim has a representation within the bound, and tells that it has none where it has none
 abbrev pub CompleteMembers : Type 0
 CompleteMembers = (options : MemberOptions) (bytes : List ℕ) (P : NamedProblem) (claim : Polynomial) → IsClaimText bytes P claim
-    → length (monomials_within P.problem.setting P.problem.bound (letters_of P.alphabet)) ≤ P.problem.steps
+    → length (monomials_within P.problem.setting P.problem.bound (alphabet_letters P.alphabet)) ≤ P.problem.steps
     → (left_after written_before written_after : Option (List ℕ)) (source sink : ℕ) (result : Status)
     → Ran (Member options) (Some bytes) left_after written_before written_after source source sink sink result
     → ((result ≡ OutOfMemory) × Adds written_before written_after [])

@@ -44,14 +44,14 @@ pub record IsClaimText (bytes : List ℕ) (P : NamedProblem) (claim : Polynomial
 -- ---- the end of the run
 
 -- a problem with a claim, and the end of the problem's run: after how many signatures it comes, and how
-pub record Ended : Type 0 where
+pub record ClaimAtEnd : Type 0 where
   pub problem : NamedProblem
   pub claim : Polynomial
   pub handled : ℕ
   pub ending : End
 
 -- the bytes are a text of the problem and the claim, and the problem's run ends so
-pub record IsEnded (bytes : List ℕ) (e : Ended) : Type 0 where
+pub record IsClaimAtEnd (bytes : List ℕ) (e : ClaimAtEnd) : Type 0 where
   pub text : IsClaimText bytes e.problem e.claim
   pub run : State
   pub ends : IsEnd e.problem.problem e.handled run e.ending
@@ -59,48 +59,48 @@ pub record IsEnded (bytes : List ℕ) (e : Ended) : Type 0 where
 -- ---- what is told of the claim
 
 -- the certificate of the claim with these lines
-abbrev pub certificate_with : Ended → List Line → Certificate
+abbrev pub certificate_with : ClaimAtEnd → List Line → Certificate
 certificate_with e lines = record { setting = setting_of e.problem; claim = e.claim; lines = lines }
 
 -- the report is the certificate with the lines that prove the claim
 pub record IsLines (bytes report : List ℕ) : Type 0 where
-  pub ended : Ended
-  pub is : IsEnded bytes ended
+  pub at_end : ClaimAtEnd
+  pub is : IsClaimAtEnd bytes at_end
   pub lines : List Line
-  pub proved : IsProved ended.problem ended.handled ended.claim lines
-  pub keeps : IsCertificate (certificate_with ended lines)
-  pub written : report ≡ certificate_text (certificate_with ended lines)
+  pub proved : IsProved at_end.problem at_end.handled at_end.claim lines
+  pub keeps : IsCertificate (certificate_with at_end lines)
+  pub written : report ≡ certificate_text (certificate_with at_end lines)
 
 -- the report is the certificate with the terms of a representation of the claim
 pub record IsTerms (limit : ℕ) (bytes report : List ℕ) : Type 0 where
-  pub ended : Ended
-  pub is : IsEnded bytes ended
+  pub at_end : ClaimAtEnd
+  pub is : IsClaimAtEnd bytes at_end
   pub m : List (Term Sig)
-  pub represented : IsRepresented ended.problem.problem ended.handled ended.claim limit m
-  pub written : report ≡ terms_text (setting_of ended.problem) ended.claim (element_of m)
+  pub represented : IsRepresented at_end.problem.problem at_end.handled at_end.claim limit m
+  pub written : report ≡ terms_text (setting_of at_end.problem) at_end.claim (element_of m)
 
 -- the label of this entry that is needed, or else the representation, has more terms than the limit
 pub record IsTooManyInSum (limit : ℕ) (bytes : List ℕ) (named : Listed) (terms : ℕ) (report : List ℕ) : Type 0 where
-  pub ended : Ended
-  pub is : IsEnded bytes ended
-  pub many : IsTooManyOf ended.problem.problem ended.handled ended.claim limit named terms
+  pub at_end : ClaimAtEnd
+  pub is : IsClaimAtEnd bytes at_end
+  pub many : IsTooManyOf at_end.problem.problem at_end.handled at_end.claim limit named terms
   pub written : report ≡ too_many_report named terms
 
 -- the claim has no representation within the bound, and this is what is left of it
 pub record IsNotBelow (bytes report : List ℕ) : Type 0 where
-  pub ended : Ended
-  pub is : IsEnded bytes ended
+  pub at_end : ClaimAtEnd
+  pub is : IsClaimAtEnd bytes at_end
   pub rest : Polynomial
-  pub left : IsUnrepresented ended.problem.problem ended.handled ended.ending ended.claim rest
-  pub written : report ≡ not_below_report ended.problem.alphabet.names rest
+  pub left : IsUnrepresented at_end.problem.problem at_end.handled at_end.ending at_end.claim rest
+  pub written : report ≡ not_below_report at_end.problem.alphabet.names rest
 
 -- the steps were used up before a next signature, and this is what is left of the claim
 pub record IsUndecided (bytes report : List ℕ) : Type 0 where
-  pub ended : Ended
-  pub is : IsEnded bytes ended
+  pub at_end : ClaimAtEnd
+  pub is : IsClaimAtEnd bytes at_end
   pub rest : Polynomial
-  pub left : IsOpen ended.problem.problem ended.handled ended.ending ended.claim rest
-  pub written : report ≡ undecided_report ended.problem.alphabet.names left.next rest
+  pub left : IsOpen at_end.problem.problem at_end.handled at_end.ending at_end.claim rest
+  pub written : report ≡ undecided_report at_end.problem.alphabet.names left.next rest
 
 -- ---- answers
 

@@ -5,9 +5,9 @@ use Rattle.nc_cert.proofs.Charges.{too_much_before, too_much_last, within_last}
 use Rattle.nc_cert.proofs.Lines.{lines_before}
 use Rattle.nc_cert.proofs.Rests.{rest_of_claim, rest_of_lines}
 use Rattle.nc_cert.proofs.Values.{ready_behind}
-use Rattle.nc_cert.specs.Charges.{IsTooMuch, IsWithinLimit, charges_after, charges_of}
+use Rattle.nc_cert.specs.Charges.{IsTooMuch, IsChargeWithin, charges_after, charges_of}
 use Rattle.nc_cert.specs.Checking.{IsTaken}
-use Rattle.nc_cert.specs.Ready.{IsReady}
+use Rattle.nc_cert.specs.Ready.{IsReadyPart}
 use Rattle.std.proofs.Common.{List, [], ap, arith, subst, sym, ◌++◌, ◌∙◌, ◌∷◌, ◌≡◌}
 use Rattle.std.proofs.lemmas.List.{nil_from_length}
 use Rattle.std.specs.List.{All}
@@ -17,7 +17,7 @@ pub returns-in-None : goal.returns-in-None
 unfolding charges_after
 returns-in-None c =
     let none : c.args.lines.now ≡ [] = nil_from_length c.args.lines.now c.in-None.ensures.cases in (
-      subst (λ (lines : List Line). IsWithinLimit c.args.limit (charges_of c.args.setting.now.setting lines)) (sym none) (omega arith),
+      subst (λ (lines : List Line). IsChargeWithin c.args.limit (charges_of c.args.setting.now.setting lines)) (sym none) (omega arith),
       c.in_ok-copy-in-None.ensures
           ∙ (rest_of_claim c.args.setting.now c.requires.setting c.args.claim.now c.requires.claim
           ∙ ap (λ (lines : List Line). rest_of c.args.setting.now.setting c.args.claim.now lines) (sym none)),
@@ -36,7 +36,7 @@ returns-in-TooMuch c =
 pub spend-requires-clause-ready : goal.spend-requires-clause-ready
 spend-requires-clause-ready c =
     let taken = subst (IsTaken c.args.limit c.args.setting.now.setting c.in-Some.parts.1.now) c.in-All.is c.in_ok-kept.ensures in
-    subst (λ (values : List Polynomial). All (IsReady c.args.setting.now.setting values) c.in-Some.parts.0.now) (sym (c.deref-2.ensures.value ∙ taken.0))
+    subst (λ (values : List Polynomial). All (IsReadyPart c.args.setting.now.setting values) c.in-Some.parts.0.now) (sym (c.deref-2.ensures.value ∙ taken.0))
     (ready_behind c.args.setting.now c.requires.setting c.in-Some.parts.1.now c.in-Some.parts.0.now [] (subst (AreLines c.args.setting.now []) c.in-Some.ensures.cases.0 c.requires.lines))
 
 pub returns-in-Beyond : goal.returns-in-Beyond
@@ -48,7 +48,7 @@ returns-in-Beyond c =
 pub minus_line-requires-clause-ready : goal.minus_line-requires-clause-ready
 minus_line-requires-clause-ready c =
     let taken = subst (IsTaken c.args.limit c.args.setting.now.setting c.in-Some.parts.1.now) c.in-All.is c.in_ok-kept.ensures in
-    subst (λ (values : List Polynomial). All (IsReady c.args.setting.now.setting values) c.in-Some.parts.0.now) (sym (c.deref-in-Within.ensures.value ∙ taken.0))
+    subst (λ (values : List Polynomial). All (IsReadyPart c.args.setting.now.setting values) c.in-Some.parts.0.now) (sym (c.deref-in-Within.ensures.value ∙ taken.0))
     (ready_behind c.args.setting.now c.requires.setting c.in-Some.parts.1.now c.in-Some.parts.0.now [] (subst (AreLines c.args.setting.now []) c.in-Some.ensures.cases.0 c.requires.lines))
 
 pub returns : goal.returns

@@ -4,8 +4,8 @@ use Rattle.nc_algebra.specs.Sums.{minus}
 use Rattle.nc_cert.proofs.Charges.{place, spent_step, too_much_at}
 use Rattle.nc_cert.proofs.Values.{ready_at, value_step}
 use Rattle.nc_cert.specs.Charges.{charges_after}
-use Rattle.nc_cert.specs.Ready.{IsReady}
-use Rattle.nc_cert.specs.Spent.{IsBeyond, kept_charge, letters_of}
+use Rattle.nc_cert.specs.Ready.{IsReadyPart}
+use Rattle.nc_cert.specs.Spent.{IsBeyond, kept_charge, letter_count}
 use Rattle.std.proofs.Common.{List, [], ap, ap₂, arith, map, refl, subst, sum_by, sym, ℕ, ◌%◌, ◌+◌, ◌++◌, ◌-◌, ◌∙◌, ◌∷◌}
 use Rattle.std.proofs.lemmas.List.{map-append}
 use Rattle.std.specs.List.{All}
@@ -15,14 +15,14 @@ pub loop-line-init : goal.loop-line-init
 unfolding values_after charges_after
 loop-line-init c = record {
   values = c.in_ok-values.ensures.items;
-  letters = c.in_ok-letters.ensures.items ∙ sym (ap (map letters_of) c.in_ok-values.ensures.items);
+  letters = c.in_ok-letters.ensures.items ∙ sym (ap (map letter_count) c.in_ok-values.ensures.items);
   spent = refl;
   within = omega arith;
 }
 
 pub spend-requires-clause-ready : goal.spend-requires-clause-ready
 spend-requires-clause-ready c =
-    subst (λ (values : List Polynomial). All (IsReady c.args.setting.now.setting values) c.line-item.result) (sym (c.deref.ensures.value ∙ c.loop-line.invariant.values))
+    subst (λ (values : List Polynomial). All (IsReadyPart c.args.setting.now.setting values) c.line-item.result) (sym (c.deref.ensures.value ∙ c.loop-line.invariant.values))
     (ready_at c.args.setting.now c.prime.ensures.setting c.args.lines.now c.loop-line.line-index c.line-item.result (omega arith) c.line-item.is c.requires.lines)
 
 pub overflow_cast-line : goal.overflow_cast-line
@@ -39,7 +39,7 @@ returns-in-Beyond c =
 
 pub minus_line-requires-clause-ready : goal.minus_line-requires-clause-ready
 minus_line-requires-clause-ready c =
-    subst (λ (values : List Polynomial). All (IsReady c.args.setting.now.setting values) c.line-item.result) (sym (c.deref-in-loop-line-2.ensures.value ∙ c.loop-line.invariant.values))
+    subst (λ (values : List Polynomial). All (IsReadyPart c.args.setting.now.setting values) c.line-item.result) (sym (c.deref-in-loop-line-2.ensures.value ∙ c.loop-line.invariant.values))
     (ready_at c.args.setting.now c.prime.ensures.setting c.args.lines.now c.loop-line.line-index c.line-item.result (omega arith) c.line-item.is c.requires.lines)
 
 pub loop-line-preserved : goal.loop-line-preserved
@@ -57,9 +57,9 @@ loop-line-preserved c =
           ∙ ap (λ (values : List Polynomial). normal_form s.prime (minus s.prime [] ((s.prime - 1) % s.prime) (line_value s values c.line-item.result))) (c.deref-in-loop-line-2.ensures.value ∙ c.loop-line.invariant.values)))));
       letters =
           c.in_ok-push.ensures.items
-          ∙ (ap₂ (λ (letters : List ℕ) n. letters ++ n ∷ []) c.loop-line.invariant.letters c.letters_of.ensures
-          ∙ (sym (map-append letters_of c.loop-line.values.items (value ∷ []))
-          ∙ ap (map letters_of) (sym c.in_ok-push-2.ensures.items)));
+          ∙ (ap₂ (λ (letters : List ℕ) n. letters ++ n ∷ []) c.loop-line.invariant.letters c.letter_count.ensures
+          ∙ (sym (map-append letter_count c.loop-line.values.items (value ∷ []))
+          ∙ ap (map letter_count) (sym c.in_ok-push-2.ensures.items)));
       spent =
           spent_step c.args.setting.now c.prime.ensures.setting c.args.lines.now c.loop-line.line-index c.line-item.result c.loop-line.values.items c.loop-line.spent c.in-Within.now
           (omega arith) c.line-item.is c.loop-line.invariant.values c.loop-line.invariant.spent

@@ -1,7 +1,7 @@
 use Rattle.nc_algebra.specs.Polynomials.{Polynomial}
 use Rattle.nc_cert.proofs.Sizes.{letters_more}
 use Rattle.std.proofs.Common.{ap, arith, get_or, length, ◌∙◌}
-use Rattle.nc_cert.proofs.charge.letters_of.Goals as goal
+use Rattle.nc_cert.proofs.charge.letter_count.Goals as goal
 
 pub loop-term-preserved : goal.loop-term-preserved
 loop-term-preserved c = record {

@@ -3,7 +3,7 @@ use Rattle.std.proofs.lemmas.List.{length-append}
 use Rattle.std.proofs.lemmas.Result.{err_from_is_err_and}
 use Rattle.nc_tokens.specs.declared.fault.Kind.TheVariants.{Syntax}
 use Rattle.nc_text.proofs.Letters.{goes_on, name_fails, ends, is_wrong}
-use Rattle.nc_text.proofs.rows.letters_of.Goals as goal
+use Rattle.nc_text.proofs.rows.letter_names.Goals as goal
 
 pub returns-then-is_empty-clause-reads : goal.returns-then-is_empty-clause-reads
 returns-then-is_empty-clause-reads c =

@@ -1,7 +1,7 @@
 use Rattle.std.proofs.Common.{◌≤◌, [], length}
 use Rattle.nc_text.specs.Rows.{letters_at}
 use Rattle.nc_text.proofs.Letters.{IsOnTheWay}
-use Rattle.nc_text.proofs.rows.letters_of.Given as goal
+use Rattle.nc_text.proofs.rows.letter_names.Given as goal
 
 abbrev pub invariant-names : goal.invariant-names
 invariant-names l = record {

@@ -23,7 +23,7 @@ use Rattle.nc_theory.specs.Runs.{End, IsEnd, SequentialRun}
 use Rattle.nc_theory.specs.States.{State, Step, Trace}
 use Rattle.nc_top.proofs.BasisAnswers.{ended_run, field_of}
 use Rattle.nc_top.proofs.Claims.{problem_is}
-use Rattle.nc_top.specs.Member.{Ended, IsClaimText, IsEnded, certificate_with}
+use Rattle.nc_top.specs.Member.{ClaimAtEnd, IsClaimText, IsClaimAtEnd, certificate_with}
 use Rattle.std.proofs.Common.{All, List, Option, [], map, subst, ℕ, ◌≡◌, ◌≢◌}
 
 -- a claim at the end of a problem's run: what is left of it, and what was subtracted
@@ -43,15 +43,15 @@ pub record IsRemainder (bytes : List ℕ) (r : Remainder) : Type 0 where
   pub reduces : Reduction r.problem.problem.setting r.run.entries (IsWithin r.problem.problem) r.claim r.rest r.steps
 
 -- the problem, the claim and the end
-abbrev pub ended : Remainder → Ended
-ended r = record { problem = r.problem; claim = r.claim; handled = r.handled; ending = r.ending }
+abbrev pub claim_at_end : Remainder → ClaimAtEnd
+claim_at_end r = record { problem = r.problem; claim = r.claim; handled = r.handled; ending = r.ending }
 
 -- the lines prove the claim, with these entries needed in this run
 pub record AreProof (r : Remainder) (needed : List (ℕ × Trace)) (lines : List Line) : Type 0 where
   pub lists : ListsNeeded r.run.entries (numbers_of r.steps) (map (λ x. x.0) needed)
   pub traces : All (λ x. IsTraceIn r.run (EntryOf x.0) x.1) needed
   pub are : lines ≡ proof_lines r.problem.problem.setting.prime needed r.steps
-  pub keeps : IsCertificate (certificate_with (ended r) lines)
+  pub keeps : IsCertificate (certificate_with (claim_at_end r) lines)
   pub valid : IsValid r.problem.problem.setting r.claim lines
   pub has : HasRepresentation r.problem.problem.setting (IsWithin r.problem.problem) r.claim
 
@@ -64,24 +64,24 @@ pub record Represents (r : Remainder) (limit : ℕ) (m : List (Term Sig)) : Type
 
 -- ---- from the records
 
-module _ (bytes : List ℕ) (e : Ended) (is : IsEnded bytes e) where
+module _ (bytes : List ℕ) (e : ClaimAtEnd) (is : IsClaimAtEnd bytes e) where
   problem : IsProblem e.problem
   problem = problem_is bytes e.problem e.claim is.text
 
   the_one : {run : State} {last : Option Monomial} → SequentialRun e.problem.problem e.handled run last → run ≡ is.run
   the_one runs = (run_unique e.problem.problem (field_of e.problem problem) runs (ended_run e.problem.problem is.ends).1).0
 
-  abbrev pub at_end : Polynomial → List Step → Remainder
-  at_end rest steps = record { problem = e.problem; claim = e.claim; handled = e.handled; run = is.run; ending = e.ending; rest = rest; steps = steps }
+  abbrev pub remainder_at : Polynomial → List Step → Remainder
+  remainder_at rest steps = record { problem = e.problem; claim = e.claim; handled = e.handled; run = is.run; ending = e.ending; rest = rest; steps = steps }
 
-  pub is_at_end : (rest : Polynomial) (steps : List Step) → IsRestOf e.problem.problem e.handled e.claim rest steps → IsRemainder bytes (at_end rest steps)
-  is_at_end rest steps r = record {
+  pub is_remainder_at : (rest : Polynomial) (steps : List Step) → IsRestOf e.problem.problem e.handled e.claim rest steps → IsRemainder bytes (remainder_at rest steps)
+  is_remainder_at rest steps r = record {
     text = is.text;
     ends = is.ends;
     reduces = subst (λ (run : State). Reduction e.problem.problem.setting run.entries (IsWithin e.problem.problem) e.claim rest steps) (the_one r.runs) r.reduces;
   }
 
-  pub proof_at_end : (lines : List Line) → IsCertificate (certificate_with e lines) → (p : IsProved e.problem e.handled e.claim lines) → AreProof (at_end [] p.steps) p.needed lines
+  pub proof_at_end : (lines : List Line) → IsCertificate (certificate_with e lines) → (p : IsProved e.problem e.handled e.claim lines) → AreProof (remainder_at [] p.steps) p.needed lines
   proof_at_end lines keeps p = record {
     lists = subst (λ (run : State). ListsNeeded run.entries (numbers_of p.steps) (map (λ x. x.0) p.needed)) (the_one p.traces.runs) p.traces.lists;
     traces = subst (λ (run : State). All (λ x. IsTraceIn run (EntryOf x.0) x.1) p.needed) (the_one p.traces.runs) p.traces.traces;
@@ -91,7 +91,7 @@ module _ (bytes : List ℕ) (e : Ended) (is : IsEnded bytes e) where
     has = p.has;
   }
 
-  pub terms_at_end : (limit : ℕ) (m : List (Term Sig)) → (r : IsRepresented e.problem.problem e.handled e.claim limit m) → Represents (at_end [] r.steps) limit m
+  pub terms_at_end : (limit : ℕ) (m : List (Term Sig)) → (r : IsRepresented e.problem.problem e.handled e.claim limit m) → Represents (remainder_at [] r.steps) limit m
   terms_at_end limit m r = record {
     is = subst (λ (run : State). IsSum e.problem.problem.setting (step_multiples (labels_of e.problem.problem.setting.prime run.entries) r.steps) m) (the_one r.is.runs) r.is.is;
     lies = r.lies;
@@ -108,8 +108,8 @@ module _ (bytes : List ℕ) (r : Remainder) (is : IsRemainder bytes r) where
   runs : (last : Option Monomial) × SequentialRun r.problem.problem r.handled r.run last
   runs = ended_run r.problem.problem is.ends
 
-  pub is_ended : IsEnded bytes (ended r)
-  is_ended = record { text = is.text; run = r.run; ends = is.ends }
+  pub is_claim_at_end : IsClaimAtEnd bytes (claim_at_end r)
+  is_claim_at_end = record { text = is.text; run = r.run; ends = is.ends }
 
   pub rest_of : IsRestOf r.problem.problem r.handled r.claim r.rest r.steps
   rest_of = record { run = r.run; last = runs.0; runs = runs.1; reduces = is.reduces }
