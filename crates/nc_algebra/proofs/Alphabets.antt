@@ -7,8 +7,10 @@ use Rattle.std.specs.List.{AllByRecursion}
 
 module _ (a : Alphabet) (h : IsAlphabet a) where
   -- a letter weighs at most 100
-  pub letter_light : (x : Rattle.nc_algebra.specs.Words.Letter) → IsLetterIn a x → letter_weight x ≤ 100
-  letter_light x l = omega (arith, ap letter_weight l.1, (h.weights x.index 1 (omega (arith, l.0, h.each))).1)
+  pub letter_light : (x : Rattle.nc_algebra.specs.Words.Letter) → IsLetterIn a x
+      → letter_weight x ≤ 100
+  letter_light x l =
+      omega (arith, ap letter_weight l.1, (h.weights x.index 1 (omega (arith, l.0, h.each))).1)
 
   letters_weigh : (w : Word) → AllByRecursion (IsLetterIn a) w → word_weight w ≤ 100 * length w
   letters_weigh [] l = omega arith

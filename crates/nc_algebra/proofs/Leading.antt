@@ -23,58 +23,90 @@ occurs p (t ∷ f) x n = go (key_dec same_word IsWordLess word_laws x t.key) (oc
   where
     go : (x ≡ t.key) ⊎ (x ≢ t.key) → (¬ IsZero p (coefficient f x) → Occurs x f) → Occurs x (t ∷ f)
     go (inl e) h = inl e
-    go (inr d) h = inr (h (λ z. n (subst (IsZero p) (sym (omega (arith, ap (λ m. t.coefficient * m) (at_other same_word IsWordLess word_laws x t.key d)))) z)))
+    go (inr d) h =
+        inr (h (λ z. n (subst (IsZero p)
+              (sym (omega (arith, ap (λ m. t.coefficient * m)
+                (at_other same_word IsWordLess word_laws x t.key d)))) z)))
 
 abbrev IsAtMost : Word → Word → Type 0
 IsAtMost x y = (x ≡ y) ⊎ IsWordLess x y
 
-among_most : (p : ℕ) (f g : Polynomial) (x : Word) → ¬ IsZero p (coefficient f x) → Occurs x g → IsAtMost x (leading_among p f g)
+among_most : (p : ℕ) (f g : Polynomial) (x : Word) → ¬ IsZero p (coefficient f x) → Occurs x g
+    → IsAtMost x (leading_among p f g)
 unfolding Occurs
 among_most p f [] x n o = absurd o
-among_most p f (t ∷ g) x n o = go (nat_eq (coefficient f t.key % p) 0) refl (is_lt (compare_words t.key (leading_among p f g))) refl o (among_most p f g x n)
+among_most p f (t ∷ g) x n o =
+    go (nat_eq (coefficient f t.key % p) 0) refl (is_lt (compare_words t.key (leading_among p f g)))
+    refl o (among_most p f g x n)
   where
-    last : is_lt (compare_words t.key (leading_among p f g)) ≡ false → IsAtMost x (leading_among p f g) → IsWordLess t.key (leading_among p f g) ⊎ ((t.key ≡ leading_among p f g) ⊎ IsWordLess (leading_among p f g) t.key) → IsAtMost x t.key
-    last d k (inl l) = absurd (false≢true (sym d ∙ word_less_complete t.key (leading_among p f g) l))
+    last : is_lt (compare_words t.key (leading_among p f g)) ≡ false
+        → IsAtMost x (leading_among p f g) → IsWordLess t.key (leading_among p f g)
+        ⊎ ((t.key ≡ leading_among p f g) ⊎ IsWordLess (leading_among p f g) t.key)
+        → IsAtMost x t.key
+    last d k (inl l) =
+        absurd (false≢true (sym d ∙ word_less_complete t.key (leading_among p f g) l))
     last d k (inr (inl e)) = subst (IsAtMost x) (sym e) k
     last d (inl e) (inr (inr l)) = inr (subst (λ y. IsWordLess y t.key) (sym e) l)
     last d (inr h) (inr (inr l)) = inr (word_trans x (leading_among p f g) t.key h l)
 
-    go : (b : Bool) → nat_eq (coefficient f t.key % p) 0 ≡ b → (c : Bool) → is_lt (compare_words t.key (leading_among p f g)) ≡ c → (x ≡ t.key) ⊎ Occurs x g → (Occurs x g → IsAtMost x (leading_among p f g)) → IsAtMost x (leading_among p f (t ∷ g))
-    go true e c d (inl i) h = absurd (n (subst (λ y. IsZero p (coefficient f y)) (sym i) (eqb-true (coefficient f t.key % p) 0 e)))
+    go : (b : Bool) → nat_eq (coefficient f t.key % p) 0 ≡ b → (c : Bool)
+        → is_lt (compare_words t.key (leading_among p f g)) ≡ c → (x ≡ t.key) ⊎ Occurs x g
+        → (Occurs x g → IsAtMost x (leading_among p f g)) → IsAtMost x (leading_among p f (t ∷ g))
+    go true e c d (inl i) h =
+        absurd (n (subst (λ y. IsZero p (coefficient f y)) (sym i)
+            (eqb-true (coefficient f t.key % p) 0 e)))
     go true e c d (inr k) h = rw e (h k)
-    go false e true d (inl i) h = rw (e, d) (inr (subst (λ y. IsWordLess y (leading_among p f g)) (sym i) (word_less_sound t.key (leading_among p f g) d)))
+    go false e true d (inl i) h =
+        rw (e, d) (inr (subst (λ y. IsWordLess y (leading_among p f g)) (sym i)
+            (word_less_sound t.key (leading_among p f g) d)))
     go false e true d (inr k) h = rw (e, d) (h k)
     go false e false d (inl i) h = rw (e, d) (inl i)
     go false e false d (inr k) h = rw (e, d) (last d (h k) (word_total t.key (leading_among p f g)))
 
-among_counts : (p : ℕ) (f g : Polynomial) → (leading_among p f g ≡ []) ⊎ ¬ IsZero p (coefficient f (leading_among p f g))
+among_counts : (p : ℕ) (f g : Polynomial) → (leading_among p f g ≡ [])
+    ⊎ ¬ IsZero p (coefficient f (leading_among p f g))
 among_counts p f [] = inl refl
-among_counts p f (t ∷ g) = go (nat_eq (coefficient f t.key % p) 0) refl (is_lt (compare_words t.key (leading_among p f g))) refl (among_counts p f g)
+among_counts p f (t ∷ g) =
+    go (nat_eq (coefficient f t.key % p) 0) refl (is_lt (compare_words t.key (leading_among p f g)))
+    refl (among_counts p f g)
   where
     Goal : Word → Type 0
     Goal w = (w ≡ []) ⊎ ¬ IsZero p (coefficient f w)
 
-    go : (b : Bool) → nat_eq (coefficient f t.key % p) 0 ≡ b → (c : Bool) → is_lt (compare_words t.key (leading_among p f g)) ≡ c → (leading_among p f g ≡ []) ⊎ ¬ IsZero p (coefficient f (leading_among p f g)) → (leading_among p f (t ∷ g) ≡ []) ⊎ ¬ IsZero p (coefficient f (leading_among p f (t ∷ g)))
+    go : (b : Bool) → nat_eq (coefficient f t.key % p) 0 ≡ b → (c : Bool)
+        → is_lt (compare_words t.key (leading_among p f g)) ≡ c → (leading_among p f g ≡ [])
+        ⊎ ¬ IsZero p (coefficient f (leading_among p f g)) → (leading_among p f (t ∷ g) ≡ [])
+        ⊎ ¬ IsZero p (coefficient f (leading_among p f (t ∷ g)))
     go true e c d h = rw e h
     go false e true d h = rw (e, d) h
-    go false e false d h = rw (e, d) (inr (λ z. false≢true (sym e ∙ eq-eqb (coefficient f t.key % p) 0 z)))
+    go false e false d h =
+        rw (e, d) (inr (λ z. false≢true (sym e ∙ eq-eqb (coefficient f t.key % p) 0 z)))
 
-pub lead_leads : (p : ℕ) (f : Polynomial) → ¬ ((w : Word) → IsZero p (coefficient f w)) → IsLeadingKey same_word IsWordLess p f (leading p f)
+pub lead_leads : (p : ℕ) (f : Polynomial) → ¬ ((w : Word) → IsZero p (coefficient f w))
+    → IsLeadingKey same_word IsWordLess p f (leading p f)
 unfolding leading
 lead_leads p f n = go (top same_word IsWordLess word_laws p f)
   where
-    place : (k : Word) → IsLeadingKey same_word IsWordLess p f k → IsAtMost k (leading_among p f f) → (leading_among p f f ≡ []) ⊎ ¬ IsZero p (coefficient f (leading_among p f f)) → IsLeadingKey same_word IsWordLess p f (leading_among p f f)
+    place : (k : Word) → IsLeadingKey same_word IsWordLess p f k → IsAtMost k (leading_among p f f)
+        → (leading_among p f f ≡ []) ⊎ ¬ IsZero p (coefficient f (leading_among p f f))
+        → IsLeadingKey same_word IsWordLess p f (leading_among p f f)
     place k d (inl e) o = subst (IsLeadingKey same_word IsWordLess p f) e d
     place k d (inr h) (inl e) = absurd (not_below_empty k (subst (IsWordLess k) e h))
     place k d (inr h) (inr m) = absurd (m (d.above (leading_among p f f) h))
 
-    go : ((w : Word) → IsZero p (coefficient f w)) ⊎ ((k : Word) × IsLeadingKey same_word IsWordLess p f k) → IsLeadingKey same_word IsWordLess p f (leading_among p f f)
+    go : ((w : Word) → IsZero p (coefficient f w))
+        ⊎ ((k : Word) × IsLeadingKey same_word IsWordLess p f k)
+        → IsLeadingKey same_word IsWordLess p f (leading_among p f f)
     go (inl z) = absurd (n z)
-    go (inr (k, d)) = place k d (among_most p f f k d.nonzero (occurs p f k d.nonzero)) (among_counts p f f)
+    go (inr (k, d)) =
+        place k d (among_most p f f k d.nonzero (occurs p f k d.nonzero)) (among_counts p f f)
 
 -- the leading word of a normal form is its first word
-pub leading-normal : (p : ℕ) (t : Term Word) (f : Polynomial) → IsNormal p (t ∷ f) → leading p (t ∷ f) ≡ t.key
-leading-normal p t f n = lead_unique same_word IsWordLess word_laws p (t ∷ f) (leading p (t ∷ f)) t.key (lead_leads p (t ∷ f) (λ z. first.nonzero (z t.key))) first
+pub leading-normal : (p : ℕ) (t : Term Word) (f : Polynomial) → IsNormal p (t ∷ f)
+    → leading p (t ∷ f) ≡ t.key
+leading-normal p t f n =
+    lead_unique same_word IsWordLess word_laws p (t ∷ f) (leading p (t ∷ f)) t.key
+    (lead_leads p (t ∷ f) (λ z. first.nonzero (z t.key))) first
   where
     first : IsLeadingKey same_word IsWordLess p (t ∷ f) t.key
     first = normal_leads p t f n.0 (recursion_from_All (λ u. u.coefficient < p) (t ∷ f) n.1).0

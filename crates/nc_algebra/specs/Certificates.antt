@@ -54,7 +54,8 @@ factor_value s values (Factor.a_line k) = item [] values k
 
 -- the value of a part
 abbrev pub part_value : Setting → List Polynomial → Part → Polynomial
-part_value s values part = scale part.coefficient (polynomial_times part.left (factor_value s values part.of) part.right)
+part_value s values part =
+    scale part.coefficient (polynomial_times part.left (factor_value s values part.of) part.right)
 
 -- the value of a line: the sum of the values of its parts
 unfoldable pub line_value : Setting → List Polynomial → Line → Polynomial
@@ -64,7 +65,8 @@ line_value s values (part ∷ line) = part_value s values part ++ line_value s v
 -- the values so far, and then those of the lines, each over all before it
 unfoldable pub values_after : Setting → List Polynomial → List Line → List Polynomial
 values_after s values [] = values
-values_after s values (line ∷ lines) = values_after s (values ++ line_value s values line ∷ []) lines
+values_after s values (line ∷ lines) =
+    values_after s (values ++ line_value s values line ∷ []) lines
 
 -- the values of lines
 abbrev pub values_of : Setting → List Line → List Polynomial
@@ -129,9 +131,12 @@ pub record IsPart (s : NamedSetting) (reaches : List ℕ) (part : Part) : Type 0
 -- lines behind those with these reaches
 abbrev pub AreLines : NamedSetting → List ℕ → List Line → Type 0
 AreLines s reaches [] = Unit {0}
-AreLines s reaches (line ∷ lines) = All (IsPart s reaches) line × AreLines s (reaches ++ line_reach s.setting reaches line ∷ []) lines
+AreLines s reaches (line ∷ lines) =
+    All (IsPart s reaches) line × AreLines s (reaches ++ line_reach s.setting reaches line ∷ [])
+    lines
 
--- a certificate: its lines name generators of the setting and earlier lines, and no word of a value is longer than 100,000
+-- a certificate: its lines name generators of the setting and earlier lines, and no word of a value
+-- is longer than 100,000
 pub record IsCertificate (c : Certificate) : Type 0 where
   pub setting : IsSetting c.setting
   pub claim : IsPolynomialIn c.setting.alphabet c.setting.setting.prime c.claim
@@ -154,12 +159,14 @@ pub record IsTextCertificate (c : Certificate) : Type 0 where
 
 -- the element of a factor, over those of the lines before it
 abbrev pub factor_element : List Element → Factor → Element
-factor_element elements (Factor.a_generator i) = record { coefficient = 1; key = unit_monomial i } ∷ []
+factor_element elements (Factor.a_generator i) =
+    record { coefficient = 1; key = unit_monomial i } ∷ []
 factor_element elements (Factor.a_line k) = item [] elements k
 
 -- the element of a part
 abbrev pub part_element : List Element → Part → Element
-part_element elements part = scale part.coefficient (element_times part.left (factor_element elements part.of) part.right)
+part_element elements part =
+    scale part.coefficient (element_times part.left (factor_element elements part.of) part.right)
 
 -- the element of a line
 unfoldable pub line_element : List Element → Line → Element
@@ -169,7 +176,8 @@ line_element elements (part ∷ line) = part_element elements part ++ line_eleme
 -- the elements so far, and then those of the lines
 unfoldable pub elements_after : List Element → List Line → List Element
 elements_after elements [] = elements
-elements_after elements (line ∷ lines) = elements_after (elements ++ line_element elements line ∷ []) lines
+elements_after elements (line ∷ lines) =
+    elements_after (elements ++ line_element elements line ∷ []) lines
 
 -- the cofactors that the last line stands for: the lines before it written out in generators
 abbrev pub lines_element : List Line → Element
@@ -177,7 +185,9 @@ lines_element lines = item [] (elements_after [] lines) (length lines)
 
 -- a term as a part
 abbrev pub term_part : Term Monomial → Part
-term_part t = record { coefficient = t.coefficient; left = t.key.left; of = Factor.a_generator t.key.generator; right = t.key.right }
+term_part t =
+    record { coefficient = t.coefficient;
+      left = t.key.left; of = Factor.a_generator t.key.generator; right = t.key.right }
 
 -- the terms of an element as the parts of one line, and no line where there is no term
 abbrev pub element_lines : Element → List Line

@@ -25,7 +25,8 @@ use Rattle.nc_algebra.specs.Words.{IsWordLess, Letter, OccursAt, Word, compare_w
 use Rattle.std.specs.declared.cmp.Ordering.TheVariants.{Less}
 use Rattle.std.specs.Prelude.{Contains, List, [], ◌↔◌, length, suc, ℕ, ◌%◌, ◌*◌, ◌++◌, ◌+◌, ◌<◌, ◌≡◌, ◌≤◌, ◌⊎◌}
 
--- the order on words is strict, total and without endless descent, goes with multiplication on both sides, and the comparison says it
+-- the order on words is strict, total and without endless descent, goes with multiplication on both
+-- sides, and the comparison says it
 pub record WordOrder : Type 0 where
   pub irreflexive : (u : Word) → ¬ IsWordLess u u
   pub transitive : (u v w : Word) → IsWordLess u v → IsWordLess v w → IsWordLess u w
@@ -45,27 +46,35 @@ pub record MonomialOrder (s : Setting) : Type 0 where
   pub irreflexive : (σ : Monomial) → ¬ IsLess s σ σ
   pub transitive : (σ τ ρ : Monomial) → IsLess s σ τ → IsLess s τ ρ → IsLess s σ ρ
   pub compares : Compares (compare_monomials (generator_weight s)) (IsLess s) (λ σ τ. σ ≡ τ)
-  pub multiples : (u v : Word) (σ τ : Monomial) → IsLess s σ τ → IsLess s (times u σ v) (times u τ v)
+  pub multiples : (u v : Word) (σ τ : Monomial) → IsLess s σ τ
+      → IsLess s (times u σ v) (times u τ v)
   pub ends : (f : ℕ → Monomial) → ¬ ((n : ℕ) → IsLess s (f (suc n)) (f n))
 
 -- each word of a labelled polynomial weighs at most its signature's degree
 abbrev pub LabelLimit : Type 0
-LabelLimit = (s : Setting) (τ : Monomial) (f : Polynomial) (α : Element) → IsLabelled s τ f α → WeighsAtMost s (degree s τ) f
+LabelLimit =
+    (s : Setting) (τ : Monomial) (f : Polynomial) (α : Element) → IsLabelled s τ f α
+    → WeighsAtMost s (degree s τ) f
 
 -- each number that a prime does not divide has an inverse modulo it
 abbrev pub Inverses : Type 0
 Inverses = (p : ℕ) → IsPrime p → (a : ℕ) → ¬ IsZero p a → (b : ℕ) × (a * b % p ≡ 1)
 
--- code that keeps a monomial's degree beside it compares and multiplies as the definitions do, and a bound by degree is one by a Sig
+-- code that keeps a monomial's degree beside it compares and multiplies as the definitions do, and
+-- a bound by degree is one by a Sig
 pub record SigLaw (s : Setting) : Type 0 where
-  pub compares : (σ τ : Monomial) → compare_monomials (generator_weight s) σ τ ≡ compare_sigs (sig_of (generator_weight s) σ) (sig_of (generator_weight s) τ)
-  pub multiples : (u v : Word) (σ : Monomial) → sig_of (generator_weight s) (times u σ v) ≡ sig_times u (sig_of (generator_weight s) σ) v
-  pub bound : (d : ℕ) (σ : Monomial) → (compare_sigs (sig_of (generator_weight s) σ) (above_degree d) ≡ Less) ↔ (degree s σ ≤ d)
+  pub compares : (σ τ : Monomial) → compare_monomials (generator_weight s) σ τ ≡ compare_sigs
+      (sig_of (generator_weight s) σ) (sig_of (generator_weight s) τ)
+  pub multiples : (u v : Word) (σ : Monomial)
+      → sig_of (generator_weight s) (times u σ v) ≡ sig_times u (sig_of (generator_weight s) σ) v
+  pub bound : (d : ℕ) (σ : Monomial)
+      → (compare_sigs (sig_of (generator_weight s) σ) (above_degree d) ≡ Less) ↔ (degree s σ ≤ d)
 
 -- the list of a bound's monomials over these letters has those and no others, and each once
 abbrev pub FiniteBound : Type 0
 FiniteBound = (s : Setting) (b : Bound) (letters : List Letter) →
-    ((σ : Monomial) → Contains (monomials_within s b letters) σ ↔ (IsWithinBound s b σ × IsOver letters σ.left × IsOver letters σ.right))
+    ((σ : Monomial) → Contains (monomials_within s b letters) σ
+          ↔ (IsWithinBound s b σ × IsOver letters σ.left × IsOver letters σ.right))
     × (IsDistinct letters → IsDistinct (monomials_within s b letters))
 
 -- each polynomial has one normal form, and it is computed
@@ -76,11 +85,16 @@ pub record NormalForms (p : ℕ) : Type 0 where
 
 -- a certificate is valid exactly where nothing is left of its claim
 abbrev pub Validity : Type 0
-Validity = (s : Setting) (claim : Polynomial) (lines : List Line) → 0 < s.prime → IsValid s claim lines ↔ (rest_of s claim lines ≡ [])
+Validity =
+    (s : Setting) (claim : Polynomial) (lines : List Line) → 0 < s.prime → IsValid s claim lines
+    ↔ (rest_of s claim lines ≡ [])
 
--- what a certificate's lines stand for is an element over the generators, and their value is what it evaluates to: so a valid certificate has cofactors of its claim
+-- what a certificate's lines stand for is an element over the generators, and their value is what
+-- it evaluates to: so a valid certificate has cofactors of its claim
 abbrev pub CofactorLaw : Type 0
-CofactorLaw = (c : Certificate) → IsCertificate c → IsIn c.setting.setting (lines_element c.lines) (λ σ. IsGenerator c.setting.setting σ.generator)
+CofactorLaw =
+    (c : Certificate) → IsCertificate c → IsIn c.setting.setting (lines_element c.lines)
+    (λ σ. IsGenerator c.setting.setting σ.generator)
     × (evaluation c.setting.setting (lines_element c.lines) ≡ lines_value c.setting.setting c.lines)
 
 -- the one line of an element's terms has the value that the element evaluates to

@@ -53,6 +53,7 @@ pub record SameSum {K : Type 0} (same : K → K → Bool) (p : ℕ) (f g : List 
   pub at : (k : K) → coefficient_by same f k % p ≡ coefficient_by same g k % p
 
 -- k is the greatest key of f with a coefficient other than 0
-pub record IsLeadingKey {K : Type 0} (same : K → K → Bool) (less : K → K → Type 0) (p : ℕ) (f : List (Term K)) (k : K) : Type 0 where
+pub record IsLeadingKey {K : Type 0} (same : K → K → Bool) (less : K → K → Type 0) (p : ℕ)
+    (f : List (Term K)) (k : K) : Type 0 where
   pub nonzero : ¬ IsZero p (coefficient_by same f k)
   pub above : (x : K) → less k x → IsZero p (coefficient_by same f x)

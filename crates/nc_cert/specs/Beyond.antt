@@ -5,7 +5,11 @@
 use Rattle.nc_cert.specs.Charges.{Charge}
 use Rattle.std.specs.Prelude.{List, None, Option, Some, [], if◌then◌else◌, nat_lt, ℕ, ◌+◌, ◌∷◌}
 
--- the first charge up to a part that passes the limit, and its line, behind parts that were charged so much
+-- the first charge up to a part that passes the limit, and its line, behind parts that were charged
+-- so much
 abbrev pub first_beyond : ℕ → ℕ → List Charge → Option Charge
 first_beyond limit spent [] = None
-first_beyond limit spent (c ∷ charges) = if nat_lt limit (spent + c.amount) then Some (record { line = c.line; amount = spent + c.amount }) else first_beyond limit (spent + c.amount) charges
+first_beyond limit spent (c ∷ charges) =
+    if nat_lt limit (spent + c.amount) then Some
+    (record { line = c.line; amount = spent + c.amount }) else first_beyond limit (spent + c.amount)
+    charges

@@ -19,9 +19,11 @@ use Rattle.std.specs.Prelude.{List, [], length, map, suc, sum_by, ℕ, ◌++◌,
 abbrev pub products_charge : Word → Polynomial → Word → ℕ
 products_charge a f b = sum_by (λ t. 1 + length a + length t.key + length b) f
 
--- the charge of c a f b: that of the products with the words of the generator, or of the earlier line's value in normal form
+-- the charge of c a f b: that of the products with the words of the generator, or of the earlier
+-- line's value in normal form
 abbrev pub part_charge : Setting → List Polynomial → Part → ℕ
-part_charge s values part = products_charge part.left (normal_form s.prime (factor_value s values part.of)) part.right
+part_charge s values part =
+    products_charge part.left (normal_form s.prime (factor_value s values part.of)) part.right
 
 -- ---- the charges of all parts
 
@@ -32,12 +34,14 @@ pub record Charge : Type 0 where
 
 -- those of the parts of a line, over the values of the lines before it
 abbrev pub line_charges : Setting → List Polynomial → Line → List Charge
-line_charges s values line = map (λ part. record { line = suc (length values); amount = part_charge s values part }) line
+line_charges s values line =
+    map (λ part. record { line = suc (length values); amount = part_charge s values part }) line
 
 -- those of lines behind others with these values: line by line, and within a line in order
 unfoldable pub charges_after : Setting → List Polynomial → List Line → List Charge
 charges_after s values [] = []
-charges_after s values (line ∷ lines) = line_charges s values line ++ charges_after s (values ++ line_value s values line ∷ []) lines
+charges_after s values (line ∷ lines) =
+    line_charges s values line ++ charges_after s (values ++ line_value s values line ∷ []) lines
 
 -- the charges of lines
 abbrev pub charges_of : Setting → List Line → List Charge
@@ -53,7 +57,8 @@ total charges = sum_by (λ c. c.amount) charges
 abbrev pub IsChargeWithin : ℕ → List Charge → Type 0
 IsChargeWithin limit charges = total charges ≤ limit
 
--- the charge up to a part is its own and that of all parts before it; the first one beyond the limit is t, at a part of line k
+-- the charge up to a part is its own and that of all parts before it; the first one beyond the
+-- limit is t, at a part of line k
 pub record IsTooMuch (limit : ℕ) (charges : List Charge) (k t : ℕ) : Type 0 where
   pub before : List Charge
   pub first : Charge
@@ -68,4 +73,5 @@ pub record IsTooMuch (limit : ℕ) (charges : List Charge) (k t : ℕ) : Type 0 
 pub record LimitLaw (limit : ℕ) (charges : List Charge) : Type 0 where
   pub either : IsChargeWithin limit charges ⊎ ((k : ℕ) × (t : ℕ) × IsTooMuch limit charges k t)
   pub apart : (k t : ℕ) → IsTooMuch limit charges k t → ¬ IsChargeWithin limit charges
-  pub one : (k t l u : ℕ) → IsTooMuch limit charges k t → IsTooMuch limit charges l u → (k ≡ l) × (t ≡ u)
+  pub one : (k t l u : ℕ) → IsTooMuch limit charges k t → IsTooMuch limit charges l u → (k ≡ l)
+      × (t ≡ u)

@@ -24,11 +24,16 @@ IsValidCertificate c = IsValid c.setting.setting c.claim c.lines
 abbrev pub certificate_charges : Certificate → List Charge
 certificate_charges c = charges_of c.setting.setting c.lines
 
--- TooMuch where a part passes the limit; else Valid exactly where it is, and else the claim minus the last line's value
+-- TooMuch where a part passes the limit; else Valid exactly where it is, and else the claim minus
+-- the last line's value
 abbrev pub IsVerdictWithin : ℕ → Certificate → Verdict → Type 0
-IsVerdictWithin limit c verdicts.Valid = IsChargeWithin limit (certificate_charges c) × IsValidCertificate c
-IsVerdictWithin limit c (verdicts.Invalid rest) = IsChargeWithin limit (certificate_charges c) × ¬ IsValidCertificate c × (rest ≡ rest_of c.setting.setting c.claim c.lines)
-IsVerdictWithin limit c (verdicts.TooMuch line charge) = IsTooMuch limit (certificate_charges c) line charge
+IsVerdictWithin limit c verdicts.Valid =
+    IsChargeWithin limit (certificate_charges c) × IsValidCertificate c
+IsVerdictWithin limit c (verdicts.Invalid rest) =
+    IsChargeWithin limit (certificate_charges c) × ¬ IsValidCertificate c
+    × (rest ≡ rest_of c.setting.setting c.claim c.lines)
+IsVerdictWithin limit c (verdicts.TooMuch line charge) =
+    IsTooMuch limit (certificate_charges c) line charge
 
 -- the limit is 100,000,000
 abbrev pub IsVerdict : Certificate → Verdict → Type 0
@@ -36,13 +41,19 @@ IsVerdict = IsVerdictWithin 100000000
 
 -- ---- the steps of the check
 
--- the values of all lines in normal form, the letters of each, and what is spent, or the first part that passes the limit
+-- the values of all lines in normal form, the letters of each, and what is spent, or the first part
+-- that passes the limit
 abbrev pub IsTaken : ℕ → Setting → List Line → Taken → Type 0
 IsTaken limit s lines (takens.All kept) =
-    (kept.values.items ≡ map (normal_form s.prime) (values_of s lines)) × (kept.letters.items ≡ map letter_count kept.values.items) × (kept.spent ≡ total (charges_of s lines)) × (kept.spent ≤ limit)
-IsTaken limit s lines (takens.TooMuch line charge) = IsTooMuch limit (charges_of s lines) line charge
+    (kept.values.items ≡ map (normal_form s.prime) (values_of s lines))
+        × (kept.letters.items ≡ map letter_count kept.values.items)
+        × (kept.spent ≡ total (charges_of s lines)) × (kept.spent ≤ limit)
+IsTaken limit s lines (takens.TooMuch line charge) =
+    IsTooMuch limit (charges_of s lines) line charge
 
 -- the claim minus the value of the last line, or the first part that passes the limit
 abbrev pub IsRest : ℕ → Setting → Polynomial → List Line → Rest → Type 0
-IsRest limit s claim lines (rests.Of rest) = IsChargeWithin limit (charges_of s lines) × (rest ≡ rest_of s claim lines)
-IsRest limit s claim lines (rests.TooMuch line charge) = IsTooMuch limit (charges_of s lines) line charge
+IsRest limit s claim lines (rests.Of rest) =
+    IsChargeWithin limit (charges_of s lines) × (rest ≡ rest_of s claim lines)
+IsRest limit s claim lines (rests.TooMuch line charge) =
+    IsTooMuch limit (charges_of s lines) line charge

@@ -8,9 +8,11 @@ use Rattle.nc_algebra.specs.Elements.{Setting}
 use Rattle.nc_algebra.specs.Polynomials.{AreResidues, Polynomial}
 use Rattle.std.specs.Prelude.{All, List, length, ◌+◌, ◌<◌, ◌≤◌}
 
--- the factor is one of the generators or of these values, whose products with the two words are short enough
+-- the factor is one of the generators or of these values, whose products with the two words are
+-- short enough
 pub record IsReadyPart (s : Setting) (values : List Polynomial) (part : Part) : Type 0 where
   pub residue : part.coefficient < s.prime
   pub factor : IsFactor s (length values) part.of
   pub residues : AreResidues s.prime (factor_value s values part.of)
-  pub short : All (λ t. length part.left + length t.key + length part.right ≤ 200000) (factor_value s values part.of)
+  pub short : All (λ t. length part.left + length t.key + length part.right ≤ 200000)
+      (factor_value s values part.of)

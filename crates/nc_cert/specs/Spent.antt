@@ -19,7 +19,8 @@ letter_count f = sum_by (λ t. length t.key) f
 abbrev pub kept_charge : Setting → List Polynomial → Part → ℕ
 kept_charge s values part = products_charge part.left (factor_value s values part.of) part.right
 
--- the first part of the line that passes the limit: with what was spent and the parts before it, its charge is t
+-- the first part of the line that passes the limit: with what was spent and the parts before it,
+-- its charge is t
 pub record IsBeyond (limit spent : ℕ) (charge : Part → ℕ) (line : Line) (t : ℕ) : Type 0 where
   pub before : Line
   pub first : Part

@@ -32,7 +32,9 @@ impl<T> Model for Chunks<T> {
 
     ghost view = { λ c. flat_map arc_value c.chunks.items };
 
-    ghost invariant = { λ c. IsChunked arc_value c.chunks.items × (c.len ≡ length (flat_map arc_value c.chunks.items)) };
+    ghost invariant =
+        { λ c. IsChunked arc_value c.chunks.items
+          × (c.len ≡ length (flat_map arc_value c.chunks.items)) };
 }
 
 impl<T> Chunks<T> {
@@ -120,8 +122,10 @@ fn push_last<T: Drop>(
     requires chunked { IsChunked arc_value chunks.old.items }
     requires room { HasRoom arc_value chunks.old.items }
     ensures chunked { IsChunked arc_value chunks.new.items }
-    ensures added { OnOk result (flat_map arc_value chunks.new.items ≡ flat_map arc_value chunks.old.items ++ item ∷ []) }
-    ensures kept { OnErr result (flat_map arc_value chunks.new.items ≡ flat_map arc_value chunks.old.items) }
+    ensures added { OnOk result (flat_map arc_value chunks.new.items ≡ flat_map arc_value
+            chunks.old.items ++ item ∷ []) }
+    ensures kept { OnErr result (flat_map arc_value chunks.new.items ≡ flat_map arc_value
+            chunks.old.items) }
     ensures value_returned { IfErr result (λ e. e.value ≡ item) }
 {
     let last = chunks.len() - 1;

@@ -29,7 +29,8 @@ use Rattle.std.proofs.lemmas.List.Elements.{All-from_recursion}
 use Rattle.std.specs.List.{All, AllByRecursion}
 
 -- what holds of each element gives what follows of each
-map_all : {X : Type 0} (A B : X → Type 0) (xs : List X) → AllByRecursion A xs → ((x : X) → A x → B x) → All B xs
+map_all : {X : Type 0} (A B : X → Type 0) (xs : List X) → AllByRecursion A xs
+    → ((x : X) → A x → B x) → All B xs
 map_all A B xs a f = All-from_recursion B xs (among_all B xs (λ x k. f x (all_among A xs a x k)))
 
 module _ (P : NamedProblem) where
@@ -40,14 +41,21 @@ module _ (P : NamedProblem) where
   BothOver t = IsOver letters t.key.left × IsOver letters t.key.right
 
   -- each term of a sum in normal form has a monomial of what is added up
-  pub sum_over : (α : Element) → KeysOver letters α → (m : List (Term Sig)) → IsSum P.problem.setting α m → All (λ t. IsWordIn P.alphabet t.key.left) m × All (λ t. IsWordIn P.alphabet t.key.right) m
+  pub sum_over : (α : Element) → KeysOver letters α → (m : List (Term Sig))
+      → IsSum P.problem.setting α m → All (λ t. IsWordIn P.alphabet t.key.left) m
+      × All (λ t. IsWordIn P.alphabet t.key.right) m
   sum_over α o m sum =
-      let both : AllByRecursion BothOver m = among_all BothOver m (λ t k. keys_found letters P.problem.setting α o (monomial_of t.key) (listed_counts P.problem.setting α m sum t k)) in (
-        map_all BothOver (λ (t : Term Sig). IsWordIn P.alphabet t.key.left) m both (λ t k. word_in P.alphabet t.key.left k.0),
-        map_all BothOver (λ (t : Term Sig). IsWordIn P.alphabet t.key.right) m both (λ t k. word_in P.alphabet t.key.right k.1),
+      let both : AllByRecursion BothOver m =
+          among_all BothOver m (λ t k. keys_found letters P.problem.setting α o (monomial_of t.key)
+            (listed_counts P.problem.setting α m sum t k)) in (
+        map_all BothOver (λ (t : Term Sig). IsWordIn P.alphabet t.key.left) m both
+            (λ t k. word_in P.alphabet t.key.left k.0),
+        map_all BothOver (λ (t : Term Sig). IsWordIn P.alphabet t.key.right) m both
+            (λ t k. word_in P.alphabet t.key.right k.1),
       )
 
-module _ (P : NamedProblem) (is : IsProblem P) (prime : IsPrime P.problem.setting.prime) {n : ℕ} {run : State} {last : Option Monomial} (runs : SequentialRun P.problem n run last) where
+module _ (P : NamedProblem) (is : IsProblem P) (prime : IsPrime P.problem.setting.prime) {n : ℕ}
+    {run : State} {last : Option Monomial} (runs : SequentialRun P.problem n run last) where
   field : IsField P.problem.setting.prime
   field = field_from_prime P.problem.setting.prime prime
 
@@ -55,16 +63,27 @@ module _ (P : NamedProblem) (is : IsProblem P) (prime : IsPrime P.problem.settin
   inputs = generator_over (setting_of P) is.setting
 
   item_over : (listed : Listed) (t : Trace) → IsTraceIn run listed t → TraceOver (letters P) t
-  item_over (EntryOf k) t (e, some, at, i) = subst (TraceOver (letters P)) i (entry_over P.problem field (letters P) inputs runs e (contains_at run.entries (k - 1) e at))
-  item_over (SyzygyOf k) t (h, some, at, i) = subst (TraceOver (letters P)) i (syzygy_over P.problem field (letters P) inputs runs h (contains_at run.syzygies (k - 1) h at))
+  item_over (EntryOf k) t (e, some, at, i) =
+      subst (TraceOver (letters P)) i
+      (entry_over P.problem field (letters P) inputs runs e (contains_at run.entries (k - 1) e at))
+  item_over (SyzygyOf k) t (h, some, at, i) =
+      subst (TraceOver (letters P)) i
+      (syzygy_over P.problem field (letters P) inputs runs h
+        (contains_at run.syzygies (k - 1) h at))
   item_over Claim t h = absurd h
 
   labels : AllByRecursion (KeysOver (letters P)) (labels_of P.problem.setting.prime run.entries)
   labels = labels_over P.problem field (letters P) inputs runs
 
-  label_over : (listed : Listed) (α : Element) → IsLabelIn P.problem.setting.prime run listed α → KeysOver (letters P) α
-  label_over (EntryOf k) α (some, within, i) = subst (KeysOver (letters P)) (sym i) (keys_at (letters P) (labels_of P.problem.setting.prime run.entries) labels (k - 1))
-  label_over (SyzygyOf k) α (t, is, i) = subst (KeysOver (letters P)) (sym i) (keys_trace (letters P) P.problem.setting.prime (labels_of P.problem.setting.prime run.entries) labels t (item_over (SyzygyOf k) t is))
+  label_over : (listed : Listed) (α : Element) → IsLabelIn P.problem.setting.prime run listed α
+      → KeysOver (letters P) α
+  label_over (EntryOf k) α (some, within, i) =
+      subst (KeysOver (letters P)) (sym i)
+      (keys_at (letters P) (labels_of P.problem.setting.prime run.entries) labels (k - 1))
+  label_over (SyzygyOf k) α (t, is, i) =
+      subst (KeysOver (letters P)) (sym i)
+      (keys_trace (letters P) P.problem.setting.prime
+        (labels_of P.problem.setting.prime run.entries) labels t (item_over (SyzygyOf k) t is))
   label_over Claim α h = absurd h
 
   start_in : (start : Start) → StartOver (letters P) start → IsStartIn P.alphabet start
@@ -76,13 +95,19 @@ module _ (P : NamedProblem) (is : IsProblem P) (prime : IsPrime P.problem.settin
       let o : TraceOver (letters P) t = item_over listed t is in
       record {
         start = start_in t.start o.start;
-        left = map_all (StepOver (letters P)) (λ (step : Step). IsWordIn P.alphabet step.left) t.steps o.steps (λ step k. word_in P.alphabet step.left k.0);
-        right = map_all (StepOver (letters P)) (λ (step : Step). IsWordIn P.alphabet step.right) t.steps o.steps (λ step k. word_in P.alphabet step.right k.1);
+        left = map_all (StepOver (letters P)) (λ (step : Step). IsWordIn P.alphabet step.left)
+            t.steps o.steps (λ step k. word_in P.alphabet step.left k.0);
+        right = map_all (StepOver (letters P)) (λ (step : Step). IsWordIn P.alphabet step.right)
+            t.steps o.steps (λ step k. word_in P.alphabet step.right k.1);
       }
 
-  pub terms_over : (listed : Listed) (m : List (Term Sig)) → IsLabelOf P.problem.setting run listed m → All (λ t. IsWordIn P.alphabet t.key.left) m × All (λ t. IsWordIn P.alphabet t.key.right) m
-  terms_over listed m l = sum_over P l.label (label_over listed l.label l.is) m (label_sum P.problem.setting run listed m l)
+  pub terms_over : (listed : Listed) (m : List (Term Sig)) → IsLabelOf P.problem.setting run listed
+      m → All (λ t. IsWordIn P.alphabet t.key.left) m × All (λ t. IsWordIn P.alphabet t.key.right) m
+  terms_over listed m l =
+      sum_over P l.label (label_over listed l.label l.is) m
+      (label_sum P.problem.setting run listed m l)
 
 -- the traces and the labels of all listed items
 pub cofactors_over : CofactorsAreOver
-cofactors_over P is prime n run last runs listed = (trace_over P is prime runs listed, terms_over P is prime runs listed)
+cofactors_over P is prime n run last runs listed =
+    (trace_over P is prime runs listed, terms_over P is prime runs listed)

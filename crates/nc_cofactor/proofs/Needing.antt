@@ -30,97 +30,132 @@ IsSlotOf run marks k None = ¬ IsMarked marks k
 IsSlotOf run marks k (Some x) = IsTraceIn run (EntryOf k) x × IsMarked marks k
 
 -- entries above `left` are done
-pub record IsOnTheWay (run : State) (first : List Bool) (left : ℕ) (marks : List Bool) (stack : List (Option Trace)) : Type 0 where
+pub record IsOnTheWay (run : State) (first : List Bool) (left : ℕ) (marks : List Bool)
+    (stack : List (Option Trace)) : Type 0 where
   pub begins : length first ≡ length run.entries
   pub size : length marks ≡ length run.entries
   pub height : length stack + left ≡ length run.entries
   pub sound : (j : ℕ) → 1 ≤ j → IsMarked marks j → IsReached run.entries first j
   pub kept : (j : ℕ) → 1 ≤ j → IsMarked first j → IsMarked marks j
-  pub passed : (j k : ℕ) (e : Entry) → left < k → k ≤ length run.entries → IsMarked marks k → slice_get run.entries (k - 1) ≡ Some e → Names e.trace j → IsMarked marks j
-  pub slots : (k : ℕ) (o : Option Trace) → left < k → k ≤ length run.entries → slice_get stack (length run.entries - k) ≡ Some o → IsSlotOf run marks k o
+  pub passed : (j k : ℕ) (e : Entry) → left < k → k ≤ length run.entries → IsMarked marks k
+      → slice_get run.entries (k - 1) ≡ Some e → Names e.trace j → IsMarked marks j
+  pub slots : (k : ℕ) (o : Option Trace) → left < k → k ≤ length run.entries
+      → slice_get stack (length run.entries - k) ≡ Some o → IsSlotOf run marks k o
 
 -- the same in the run after n steps
-pub record IsWayOf (P : Problem) (n : ℕ) (first : List Bool) (left : ℕ) (marks : List Bool) (stack : List (Option Trace)) : Type 0 where
+pub record IsWayOf (P : Problem) (n : ℕ) (first : List Bool) (left : ℕ) (marks : List Bool)
+    (stack : List (Option Trace)) : Type 0 where
   pub run : State
   pub last : Option Monomial
   pub runs : SequentialRun P n run last
   pub way : IsOnTheWay run first left marks stack
 
 -- what an entry's slot does to the marks
-pub record IsStep (run : State) (first : List Bool) (left : ℕ) (old new : List Bool) (o : Option Trace) : Type 0 where
+pub record IsStep (run : State) (first : List Bool) (left : ℕ) (old new : List Bool)
+    (o : Option Trace) : Type 0 where
   pub grows : (j : ℕ) → 1 ≤ j → IsMarked old j → IsMarked new j
-  pub lower : (j : ℕ) → 1 ≤ j → IsMarked new j → IsMarked old j ⊎ ((j < left) × IsReached run.entries first j)
+  pub lower : (j : ℕ) → 1 ≤ j → IsMarked new j → IsMarked old j
+      ⊎ ((j < left) × IsReached run.entries first j)
   pub slot : IsSlotOf run new left o
-  pub here : (j : ℕ) (e : Entry) → IsMarked new left → slice_get run.entries (left - 1) ≡ Some e → Names e.trace j → IsMarked new j
+  pub here : (j : ℕ) (e : Entry) → IsMarked new left → slice_get run.entries (left - 1) ≡ Some e
+      → Names e.trace j → IsMarked new j
 
 -- ---- one run
 
-module _ (P : NamedProblem) (problem : IsProblem P) {n : ℕ} {run : State} {last : Option Monomial} (runs : SequentialRun P.problem n run last) where
+module _ (P : NamedProblem) (problem : IsProblem P) {n : ℕ} {run : State} {last : Option Monomial}
+    (runs : SequentialRun P.problem n run last) where
   -- what is named or reached is an entry
-  pub names_within : (listed : Listed) (t : Trace) (j : ℕ) → IsTraceIn run listed t → Names t j → (1 ≤ j) × (j ≤ length run.entries)
+  pub names_within : (listed : Listed) (t : Trace) (j : ℕ) → IsTraceIn run listed t → Names t j
+      → (1 ≤ j) × (j ≤ length run.entries)
   names_within listed t j is m =
-      let g : IsSigned P.problem run listed t = signed P.problem (problem_field P problem) runs listed t is in
-      let x : IsAnyNamed P.problem.setting run.entries g.signature j = any_named P.problem.setting run.entries g.signature t j g.named m in
-      let l : j - 1 < length run.entries = slice_get_within run.entries (j - 1) x.named.entry x.named.at in
+      let g : IsSigned P.problem run listed t =
+          signed P.problem (problem_field P problem) runs listed t is in
+      let x : IsAnyNamed P.problem.setting run.entries g.signature j =
+          any_named P.problem.setting run.entries g.signature t j g.named m in
+      let l : j - 1 < length run.entries =
+          slice_get_within run.entries (j - 1) x.named.entry x.named.at in
       (x.named.some, omega (arith, l, x.named.some))
 
-  pub reached_within : (marks : List Bool) → length marks ≡ length run.entries → {j : ℕ} → IsReached run.entries marks j → (1 ≤ j) × (j ≤ length run.entries)
+  pub reached_within : (marks : List Bool) → length marks ≡ length run.entries → {j : ℕ}
+      → IsReached run.entries marks j → (1 ≤ j) × (j ≤ length run.entries)
   reached_within marks size (IsReached.marked {j = j} some m) =
       let l : j - 1 < length marks = slice_get_within marks (j - 1) true m in
       (some, omega (arith, l, some, size))
   reached_within marks size (IsReached.through {j = j} {k = k} reached e at m) =
       let b : (1 ≤ k) × (k ≤ length run.entries) = reached_within marks size reached in
-      let d : (1 ≤ j) × (j < k) = names_earlier P.problem (problem_field P problem) runs k j e b.0 at m in
+      let d : (1 ≤ j) × (j < k) =
+          names_earlier P.problem (problem_field P problem) runs k j e b.0 at m in
       (d.0, omega (arith, b.1, d.1))
 
   -- what an entry needs are earlier ones
-  pub needs_earlier : (i : ℕ) (t : Trace) → IsTraceIn run (EntryOf i) t → {j : ℕ} → Needs run.entries t j → (1 ≤ j) × (j < i)
-  needs_earlier i t (e, some, at, is) (Needs.named {j = j} m) = names_earlier P.problem (problem_field P problem) runs i j e some at (subst (λ (x : Trace). Names x j) (sym is) m)
+  pub needs_earlier : (i : ℕ) (t : Trace) → IsTraceIn run (EntryOf i) t → {j : ℕ}
+      → Needs run.entries t j → (1 ≤ j) × (j < i)
+  needs_earlier i t (e, some, at, is) (Needs.named {j = j} m) =
+      names_earlier P.problem (problem_field P problem) runs i j e some at
+      (subst (λ (x : Trace). Names x j) (sym is) m)
   needs_earlier i t is (Needs.through {j = j} {k = k} needs e at m) =
       let b : (1 ≤ k) × (k < i) = needs_earlier i t is needs in
-      let d : (1 ≤ j) × (j < k) = names_earlier P.problem (problem_field P problem) runs k j e b.0 at m in
+      let d : (1 ≤ j) × (j < k) =
+          names_earlier P.problem (problem_field P problem) runs k j e b.0 at m in
       (d.0, omega (arith, b.1, d.1))
 
   -- ---- the way down
 
   module _ (first : List Bool) where
-    pub way_begins : (left : ℕ) → left ≡ length run.entries → length first ≡ length run.entries → IsOnTheWay run first left first []
+    pub way_begins : (left : ℕ) → left ≡ length run.entries → length first ≡ length run.entries
+        → IsOnTheWay run first left first []
     way_begins left all size = record {
       begins = size;
       size = size;
       height = omega (arith, all);
       sound = λ j some m. IsReached.marked some m;
       kept = λ j some m. m;
-      passed = λ j k e l within. absurd (let a : k ≤ left = omega (arith, within, all) in omega (arith, a, l));
-      slots = λ k o l within. absurd (let a : k ≤ left = omega (arith, within, all) in omega (arith, a, l));
+      passed =
+          λ j k e l within. absurd (let a : k ≤ left = omega (arith, within, all) in
+            omega (arith, a, l));
+      slots = λ k o l within. absurd (let a : k ≤ left = omega (arith, within, all) in
+            omega (arith, a, l));
     }
 
-    module _ (left : ℕ) (old new : List Bool) (stack : List (Option Trace)) (o : Option Trace) (some : 1 ≤ left) (way : IsOnTheWay run first left old stack) where
-      step_is : IsSlot P.problem n old new left o → (o' : Option Trace) → o ≡ o' → IsStep run first left old new o
+    module _ (left : ℕ) (old new : List Bool) (stack : List (Option Trace)) (o : Option Trace)
+        (some : 1 ≤ left) (way : IsOnTheWay run first left old stack) where
+      step_is : IsSlot P.problem n old new left o → (o' : Option Trace) → o ≡ o'
+          → IsStep run first left old new o
       step_is slot None e =
-          let s : IsSlot P.problem n old new left None = subst (IsSlot P.problem n old new left) e slot in
+          let s : IsSlot P.problem n old new left None =
+              subst (IsSlot P.problem n old new left) e slot in
           record {
             grows = λ j one m. subst (λ (l : List Bool). IsMarked l j) (sym s.1) m;
             lower = λ j one m. inl (subst (λ (l : List Bool). IsMarked l j) s.1 m);
-            slot = subst (IsSlotOf run new left) (sym e) (λ m. s.0 (subst (λ (l : List Bool). IsMarked l left) s.1 m));
+            slot = subst (IsSlotOf run new left) (sym e)
+                (λ m. s.0 (subst (λ (l : List Bool). IsMarked l left) s.1 m));
             here = λ j x m. absurd (s.0 (subst (λ (l : List Bool). IsMarked l left) s.1 m));
           }
       step_is slot (Some x) e =
-          let s : IsSlot P.problem n old new left (Some x) = subst (IsSlot P.problem n old new left) e slot in
-          let there : IsTraceIn run (EntryOf left) x = subst (λ (r : State). IsTraceIn r (EntryOf left) x) (one_run P problem n s.1.runs runs) s.1.is in
+          let s : IsSlot P.problem n old new left (Some x) =
+              subst (IsSlot P.problem n old new left) e slot in
+          let there : IsTraceIn run (EntryOf left) x =
+              subst (λ (r : State). IsTraceIn r (EntryOf left) x)
+              (one_run P problem n s.1.runs runs) s.1.is in
           record {
             grows = λ j one m. (s.2 j one).1 (inl m);
-            lower = λ j one m. elim ((s.2 j one).0 m) [ inl k ↦ inl k | inr k ↦ inr (new_reach j x there s.0 k) ];
+            lower = λ j one m. elim ((s.2 j one).0 m)
+                [ inl k ↦ inl k | inr k ↦ inr (new_reach j x there s.0 k) ];
             slot = subst (IsSlotOf run new left) (sym e) (there, (s.2 left some).1 (inl s.0));
-            here = λ j y m at k. (s.2 j (names_earlier P.problem (problem_field P problem) runs left j y some at k).0).1 (inr (subst (λ (z : Trace). Names z j) (trace_once run (EntryOf left) y.trace x (y, some, at, refl) there) k));
+            here = λ j y m at k. (s.2 j (names_earlier P.problem (problem_field P problem) runs left
+                    j y some at k).0).1 (inr (subst (λ (z : Trace). Names z j)
+                    (trace_once run (EntryOf left) y.trace x (y, some, at, refl) there) k));
           }
         where
-          new_reach : (j : ℕ) (x : Trace) → IsTraceIn run (EntryOf left) x → IsMarked old left → Names x j → (j < left) × IsReached run.entries first j
+          new_reach : (j : ℕ) (x : Trace) → IsTraceIn run (EntryOf left) x → IsMarked old left
+              → Names x j → (j < left) × IsReached run.entries first j
           new_reach j x (y, one, at, same) m k =
               let named : Names y.trace j = subst (λ (z : Trace). Names z j) (sym same) k in
-              ((names_earlier P.problem (problem_field P problem) runs left j y some at named).1, IsReached.through (way.sound left some m) y at named)
+              ((names_earlier P.problem (problem_field P problem) runs left j y some at named).1,
+                    IsReached.through (way.sound left some m) y at named)
 
-      goes_on : IsStep run first left old new o → length new ≡ length old → IsOnTheWay run first (left - 1) new (stack ++ o ∷ [])
+      goes_on : IsStep run first left old new o → length new ≡ length old
+          → IsOnTheWay run first (left - 1) new (stack ++ o ∷ [])
       goes_on step same = record {
         begins = way.begins;
         size = same ∙ way.size;
@@ -131,27 +166,49 @@ module _ (P : NamedProblem) (problem : IsProblem P) {n : ℕ} {run : State} {las
         slots = λ k y l within at. slots k y l within at (compared left k);
       }
         where
-          passed : (j k : ℕ) (e : Entry) → left - 1 < k → k ≤ length run.entries → IsMarked new k → slice_get run.entries (k - 1) ≡ Some e → Names e.trace j → (left < k) ⊎ ((left ≡ k) ⊎ (k < left)) → IsMarked new j
+          passed : (j k : ℕ) (e : Entry) → left - 1 < k → k ≤ length run.entries → IsMarked new k
+              → slice_get run.entries (k - 1) ≡ Some e → Names e.trace j → (left < k)
+              ⊎ ((left ≡ k) ⊎ (k < left)) → IsMarked new j
           passed j k e below within m at h (inl l) =
-              let one : 1 ≤ j = (names_earlier P.problem (problem_field P problem) runs k j e (omega (arith, l)) at h).0 in
-              elim (step.lower k (omega (arith, l)) m) [ inl old_mark ↦ step.grows j one (way.passed j k e l within old_mark at h) | inr b ↦ absurd (omega (arith, b.0, l)) ]
-          passed j k e below within m at h (inr (inl i)) = step.here j e (subst (IsMarked new) (sym i) m) (subst (λ i. slice_get run.entries (i - 1) ≡ Some e) (sym i) at) h
+              let one : 1 ≤ j =
+                  (names_earlier P.problem (problem_field P problem) runs k j e (omega (arith, l))
+                    at h).0 in
+              elim (step.lower k (omega (arith, l)) m)
+                  [ inl old_mark ↦ step.grows j one (way.passed j k e l within old_mark at h) | inr
+                    b ↦ absurd (omega (arith, b.0, l)) ]
+          passed j k e below within m at h (inr (inl i)) =
+              step.here j e (subst (IsMarked new) (sym i) m)
+              (subst (λ i. slice_get run.entries (i - 1) ≡ Some e) (sym i) at) h
           passed j k e below within m at h (inr (inr l)) = absurd (omega (arith, l, below))
 
-          still : (k : ℕ) (y : Option Trace) → left < k → IsSlotOf run old k y → IsSlotOf run new k y
-          still k None l f = λ m. elim (step.lower k (omega (arith, l)) m) [ inl b ↦ f b | inr b ↦ absurd (omega (arith, b.0, l)) ]
+          still : (k : ℕ) (y : Option Trace) → left < k → IsSlotOf run old k y
+              → IsSlotOf run new k y
+          still k None l f =
+              λ m. elim (step.lower k (omega (arith, l)) m)
+              [ inl b ↦ f b | inr b ↦ absurd (omega (arith, b.0, l)) ]
           still k (Some x) l f = (f.0, step.grows k (omega (arith, l)) f.1)
 
-          slots : (k : ℕ) (y : Option Trace) → left - 1 < k → k ≤ length run.entries → slice_get (stack ++ o ∷ []) (length run.entries - k) ≡ Some y → (left < k) ⊎ ((left ≡ k) ⊎ (k < left)) → IsSlotOf run new k y
-          slots k y below within at (inl l) = still k y l (way.slots k y l within (earlier_place stack o (length run.entries - k) y (omega (arith, l, within, way.height)) at))
-          slots k y below within at (inr (inl i)) = subst (λ j. IsSlotOf run new j y) i (subst (IsSlotOf run new left) (last_place stack o (length run.entries - k) y (omega (arith, way.height, i, within)) at) step.slot)
+          slots : (k : ℕ) (y : Option Trace) → left - 1 < k → k ≤ length run.entries
+              → slice_get (stack ++ o ∷ []) (length run.entries - k) ≡ Some y → (left < k)
+              ⊎ ((left ≡ k) ⊎ (k < left)) → IsSlotOf run new k y
+          slots k y below within at (inl l) =
+              still k y l (way.slots k y l within
+                (earlier_place stack o (length run.entries - k) y
+                  (omega (arith, l, within, way.height)) at))
+          slots k y below within at (inr (inl i)) =
+              subst (λ j. IsSlotOf run new j y) i
+              (subst (IsSlotOf run new left)
+                (last_place stack o (length run.entries - k) y
+                  (omega (arith, way.height, i, within)) at) step.slot)
           slots k y below within at (inr (inr l)) = absurd (omega (arith, l, below))
 
-      pub way_steps : IsSlot P.problem n old new left o → length new ≡ length old → IsOnTheWay run first (left - 1) new (stack ++ o ∷ [])
+      pub way_steps : IsSlot P.problem n old new left o → length new ≡ length old
+          → IsOnTheWay run first (left - 1) new (stack ++ o ∷ [])
       way_steps slot same = goes_on (step_is slot o refl) same
 
     -- what is reached is marked at the end
-    module _ (marks : List Bool) (stack : List (Option Trace)) (way : IsOnTheWay run first 0 marks stack) where
+    module _ (marks : List Bool) (stack : List (Option Trace))
+        (way : IsOnTheWay run first 0 marks stack) where
       marked : {j : ℕ} → IsReached run.entries first j → IsMarked marks j
       marked (IsReached.marked {j = j} some m) = way.kept j some m
       marked (IsReached.through {j = j} {k = k} reached e at m) =
@@ -163,34 +220,59 @@ module _ (P : NamedProblem) (problem : IsProblem P) {n : ℕ} {run : State} {las
       found k (Some x) some f = (f.0, way.sound k some f.1)
 
       pub way_ends : AreFound P.problem n first stack
-      way_ends = record { run = run; last = last; runs = runs; size = way.begins; height = omega (arith, way.height); slots = λ k o some within at. found k o some (way.slots k o (omega (arith, some)) within at) }
+      way_ends =
+          record { run = run; last = last;
+            runs = runs; size = way.begins;
+            height = omega (arith, way.height);
+            slots = λ k o some within at. found k o some
+            (way.slots k o (omega (arith, some)) within at) }
 
 -- ---- the code's loop
 
-module _ (P : NamedProblem) (problem : IsProblem P) (n : ℕ) (state : State) (r : IsRunOf P.problem n state) where
+module _ (P : NamedProblem) (problem : IsProblem P) (n : ℕ) (state : State)
+    (r : IsRunOf P.problem n state) where
   -- as many entries as the run that a fact speaks of
-  pub entries_in : {run : State} {last : Option Monomial} → SequentialRun P.problem n run last → length state.entries ≡ length run.entries
-  entries_in runs = entries_kept P.problem n state r ∙ ap (λ (x : State). length x.entries) (one_run P problem n r.runs runs)
+  pub entries_in : {run : State} {last : Option Monomial} → SequentialRun P.problem n run last
+      → length state.entries ≡ length run.entries
+  entries_in runs =
+      entries_kept P.problem n state r ∙ ap (λ (x : State). length x.entries)
+      (one_run P problem n r.runs runs)
 
   -- a trace of the run names entries
-  pub named_within : (listed : Listed) (t : Trace) → HasTrace P.problem n listed t → (count : ℕ) → count ≡ length state.entries → (j : ℕ) → Names t j → (1 ≤ j) × (j ≤ count)
+  pub named_within : (listed : Listed) (t : Trace) → HasTrace P.problem n listed t → (count : ℕ)
+      → count ≡ length state.entries → (j : ℕ) → Names t j → (1 ≤ j) × (j ≤ count)
   named_within listed t h count size j m =
-      let b : (1 ≤ j) × (j ≤ length h.run.entries) = names_within P problem h.runs listed t j h.is m in
+      let b : (1 ≤ j) × (j ≤ length h.run.entries) =
+          names_within P problem h.runs listed t j h.is m in
       (b.0, omega (arith, b.1, size, entries_in h.runs))
 
   module _ (first : List Bool) (left : ℕ) where
-    pub loop_begins : (stack : List (Option Trace)) → left ≡ length state.entries → length first ≡ length state.entries → stack ≡ [] → IsWayOf P.problem n first left first stack
+    pub loop_begins : (stack : List (Option Trace)) → left ≡ length state.entries
+        → length first ≡ length state.entries → stack ≡ []
+        → IsWayOf P.problem n first left first stack
     loop_begins stack size long empty =
         let all : length state.entries ≡ length r.run.entries = entries_kept P.problem n state r in
-        subst (IsWayOf P.problem n first left first) (sym empty) (record { run = r.run; last = r.last; runs = r.runs; way = way_begins P problem r.runs first left (size ∙ all) (long ∙ all) })
+        subst (IsWayOf P.problem n first left first) (sym empty)
+            (record { run = r.run; last = r.last;
+                runs = r.runs; way = way_begins P problem r.runs first left (size ∙ all)
+                (long ∙ all) })
 
-    module _ (marks : List Bool) (stack : List (Option Trace)) (w : IsWayOf P.problem n first left marks stack) where
+    module _ (marks : List Bool) (stack : List (Option Trace))
+        (w : IsWayOf P.problem n first left marks stack) where
       -- what is left, and how many marks there are
       pub loop_within : (left ≤ length state.entries) × (length marks ≡ length state.entries)
-      loop_within = (omega (arith, entries_in w.runs, w.way.height), w.way.size ∙ sym (entries_in w.runs))
+      loop_within =
+          (omega (arith, entries_in w.runs, w.way.height), w.way.size ∙ sym (entries_in w.runs))
 
-      pub loop_steps : (new : List Bool) (o : Option Trace) → 1 ≤ left → IsSlot P.problem n marks new left o → length new ≡ length marks → IsWayOf P.problem n first (left - 1) new (stack ++ o ∷ [])
-      loop_steps new o some slot same = record { run = w.run; last = w.last; runs = w.runs; way = way_steps P problem w.runs first left marks new stack o some w.way slot same }
+      pub loop_steps : (new : List Bool) (o : Option Trace) → 1 ≤ left
+          → IsSlot P.problem n marks new left o → length new ≡ length marks
+          → IsWayOf P.problem n first (left - 1) new (stack ++ o ∷ [])
+      loop_steps new o some slot same =
+          record { run = w.run; last = w.last;
+            runs = w.runs; way = way_steps P problem w.runs first left marks new stack o some w.way
+            slot same }
 
       pub loop_ends : left ≡ 0 → AreFound P.problem n first stack
-      loop_ends none = way_ends P problem w.runs first marks stack (subst (λ i. IsOnTheWay w.run first i marks stack) none w.way)
+      loop_ends none =
+          way_ends P problem w.runs first marks stack
+          (subst (λ i. IsOnTheWay w.run first i marks stack) none w.way)

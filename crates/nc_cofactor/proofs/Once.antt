@@ -16,7 +16,8 @@ use Rattle.nc_theory.specs.Labels.{labels_of, trace_label}
 use Rattle.nc_theory.specs.States.{Entry, State, Syzygy, Trace}
 use Rattle.std.proofs.Common.{List, Some, ap, length, subst, sym, ℕ, ◌∙◌, ◌≡◌}
 
-pub trace_once : (run : State) (listed : Listed) (t t' : Trace) → IsTraceIn run listed t → IsTraceIn run listed t' → t ≡ t'
+pub trace_once : (run : State) (listed : Listed) (t t' : Trace) → IsTraceIn run listed t
+    → IsTraceIn run listed t' → t ≡ t'
 trace_once run (EntryOf k) t t' (e, some, at, is) (e', some', at', is') =
     let same : Some e ≡ Some e' = sym at ∙ at' in
     let one : e ≡ e' = cc in
@@ -27,17 +28,28 @@ trace_once run (SyzygyOf k) t t' (h, some, at, is) (h', some', at', is') =
     sym is ∙ (ap (λ (x : Syzygy). x.trace) one ∙ is')
 trace_once run Claim t t' a b = absurd a
 
-pub label_once : (p : ℕ) (run : State) (listed : Listed) (α β : Element) → IsLabelIn p run listed α → IsLabelIn p run listed β → α ≡ β
+pub label_once : (p : ℕ) (run : State) (listed : Listed) (α β : Element) → IsLabelIn p run listed α
+    → IsLabelIn p run listed β → α ≡ β
 label_once p run (EntryOf k) α β a b = a.2 ∙ sym b.2
-label_once p run (SyzygyOf k) α β (x, is, e) (x', is', e') = e ∙ (ap (trace_label p (labels_of p run.entries)) (trace_once run (SyzygyOf k) x x' is is') ∙ sym e')
+label_once p run (SyzygyOf k) α β (x, is, e) (x', is', e') =
+    e ∙ (ap (trace_label p (labels_of p run.entries)) (trace_once run (SyzygyOf k) x x' is is')
+      ∙ sym e')
 label_once p run Claim α β a b = absurd a
 
 -- a label has as many terms as its normal form lists
-pub label_count : (s : Setting) (run : State) (listed : Listed) (m : List (Term Sig)) → IsLabelOf s run listed m → (α : Element) → IsLabelIn s.prime run listed α → HasTerms s.prime α (length m)
-label_count s run listed m l α is = subst (λ (β : Element). HasTerms s.prime β (length m)) (label_once s.prime run listed l.label α l.is is) (has_terms s l.label m (label_sum s run listed m l))
+pub label_count : (s : Setting) (run : State) (listed : Listed) (m : List (Term Sig))
+    → IsLabelOf s run listed m → (α : Element) → IsLabelIn s.prime run listed α
+    → HasTerms s.prime α (length m)
+label_count s run listed m l α is =
+    subst (λ (β : Element). HasTerms s.prime β (length m))
+    (label_once s.prime run listed l.label α l.is is)
+    (has_terms s l.label m (label_sum s run listed m l))
 
 pub one_label : OneLabel
 one_label s some run listed = (lists, label_count s run listed, terms_once s.prime)
   where
     lists : (m m' : List (Term Sig)) → IsLabelOf s run listed m → IsLabelOf s run listed m' → m ≡ m'
-    lists m m' a b = sum_once s a.label m m' (label_sum s run listed m a) (subst (λ (α : Element). IsSum s α m') (label_once s.prime run listed b.label a.label b.is a.is) (label_sum s run listed m' b))
+    lists m m' a b =
+        sum_once s a.label m m' (label_sum s run listed m a)
+        (subst (λ (α : Element). IsSum s α m')
+          (label_once s.prime run listed b.label a.label b.is a.is) (label_sum s run listed m' b))

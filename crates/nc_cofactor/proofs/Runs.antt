@@ -28,71 +28,106 @@ use Rattle.std.proofs.lemmas.Option.{slice_get-get_or, slice_get_within}
 use Rattle.std.specs.List.{All, slice_get}
 
 -- the number of entries that a snapshot keeps
-pub entries_kept : (P : Problem) (n : ℕ) (state : State) (r : IsRunOf P n state) → length state.entries ≡ length r.run.entries
-entries_kept P n state r = ap (λ (x : State). length x.entries) r.stands ∙ length-map r.run.entries untraced_entry
+pub entries_kept : (P : Problem) (n : ℕ) (state : State) (r : IsRunOf P n state)
+    → length state.entries ≡ length r.run.entries
+entries_kept P n state r =
+    ap (λ (x : State). length x.entries) r.stands ∙ length-map r.run.entries untraced_entry
 
 module _ (P : NamedProblem) (problem : IsProblem P) (n : ℕ) where
-  pub one_run : {run run' : State} {last last' : Option Monomial} → SequentialRun P.problem n run last → SequentialRun P.problem n run' last' → run ≡ run'
+  pub one_run : {run run' : State} {last last' : Option Monomial}
+      → SequentialRun P.problem n run last → SequentialRun P.problem n run' last' → run ≡ run'
   one_run a b = (run_unique P.problem (problem_field P problem) a b).0
 
   -- ---- one label
 
-  pub can_sum : (listed : Listed) (t : Trace) (labels : List (List (Term Sig))) → AreNamedLabels P.problem n listed t labels → IsSummable P.problem.setting labels t
-  can_sum listed t labels h = summable P problem h.runs labels listed t h.is (λ j k. let r = h.named j k in record { label = r.0; at = r.1; is = r.2 })
+  pub can_sum : (listed : Listed) (t : Trace) (labels : List (List (Term Sig)))
+      → AreNamedLabels P.problem n listed t labels → IsSummable P.problem.setting labels t
+  can_sum listed t labels h =
+      summable P problem h.runs labels listed t h.is (λ j k. let r = h.named j k in
+        record { label = r.0; at = r.1; is = r.2 })
 
-  pub gives_label : (listed : Listed) (t : Trace) (labels : List (List (Term Sig))) (m : List (Term Sig)) → AreNamedLabels P.problem n listed t labels → IsTraceSum P.problem.setting labels t m → HasLabel P.problem n listed m
-  gives_label listed t labels m h sum = record { run = h.run; last = h.last; runs = h.runs; is = labelled P problem h.runs labels listed t m h.is (λ j k. let r = h.named j k in record { label = r.0; at = r.1; is = r.2 }) sum }
+  pub gives_label : (listed : Listed) (t : Trace) (labels : List (List (Term Sig)))
+      (m : List (Term Sig)) → AreNamedLabels P.problem n listed t labels
+      → IsTraceSum P.problem.setting labels t m → HasLabel P.problem n listed m
+  gives_label listed t labels m h sum =
+      record { run = h.run; last = h.last;
+        runs = h.runs; is = labelled P problem h.runs labels listed t m h.is
+        (λ j k. let r = h.named j k in record { label = r.0; at = r.1; is = r.2 }) sum }
 
   -- a label has as many terms as its normal form lists
-  pub label_terms : (run : State) (k : ℕ) (m : List (Term Sig)) → IsLabelOf P.problem.setting run (EntryOf k) m → EntryTerms P.problem.setting.prime run k (length m)
-  label_terms run k m l = label_count P.problem.setting run (EntryOf k) m l (label_at (labels_of P.problem.setting.prime run.entries) k) (l.is.0, l.is.1, refl)
+  pub label_terms : (run : State) (k : ℕ) (m : List (Term Sig))
+      → IsLabelOf P.problem.setting run (EntryOf k) m → EntryTerms P.problem.setting.prime run k
+      (length m)
+  label_terms run k m l =
+      label_count P.problem.setting run (EntryOf k) m l
+      (label_at (labels_of P.problem.setting.prime run.entries) k) (l.is.0, l.is.1, refl)
 
   -- ---- labels one after the other
 
   module _ (labels : List (List (Term Sig))) (a : AreLabels P.problem n labels) where
-    place : (j : ℕ) → 1 ≤ j → j ≤ length labels → (m : List (Term Sig)) × (slice_get labels (j - 1) ≡ Some m) × IsLabelOf P.problem.setting a.run (EntryOf j) m
+    place : (j : ℕ) → 1 ≤ j → j ≤ length labels → (m : List (Term Sig))
+        × (slice_get labels (j - 1) ≡ Some m) × IsLabelOf P.problem.setting a.run (EntryOf j) m
     place j some within =
-        let at : slice_get labels (j - 1) ≡ Some (get_or labels (j - 1) []) = slice_get-get_or labels (j - 1) [] (omega arith) in
+        let at : slice_get labels (j - 1) ≡ Some (get_or labels (j - 1) []) =
+            slice_get-get_or labels (j - 1) [] (omega arith) in
         (get_or labels (j - 1) [], at, a.are j (get_or labels (j - 1) []) some at)
 
     -- those that the next entry's trace names are there
-    pub next_named : (k : ℕ) (t : Trace) → HasTrace P.problem n (EntryOf k) t → k ≡ length labels + 1 → AreNamedLabels P.problem n (EntryOf k) t labels
-    next_named k t h next = record { run = a.run; last = a.last; runs = a.runs; is = is; named = λ j m. there j m is }
+    pub next_named : (k : ℕ) (t : Trace) → HasTrace P.problem n (EntryOf k) t
+        → k ≡ length labels + 1 → AreNamedLabels P.problem n (EntryOf k) t labels
+    next_named k t h next =
+        record { run = a.run; last = a.last; runs = a.runs; is = is; named = λ j m. there j m is }
       where
         is : IsTraceIn a.run (EntryOf k) t
         is = subst (λ (r : State). IsTraceIn r (EntryOf k) t) (one_run h.runs a.runs) h.is
 
-        there : (j : ℕ) → Names t j → IsTraceIn a.run (EntryOf k) t → (m : List (Term Sig)) × (slice_get labels (j - 1) ≡ Some m) × IsLabelOf P.problem.setting a.run (EntryOf j) m
+        there : (j : ℕ) → Names t j → IsTraceIn a.run (EntryOf k) t → (m : List (Term Sig))
+            × (slice_get labels (j - 1) ≡ Some m) × IsLabelOf P.problem.setting a.run (EntryOf j) m
         there j m (e, some, at, same) =
-            let b : (1 ≤ j) × (j < k) = names_earlier P.problem (problem_field P problem) a.runs k j e some at (subst (λ (x : Trace). Names x j) (sym same) m) in
+            let b : (1 ≤ j) × (j < k) =
+                names_earlier P.problem (problem_field P problem) a.runs k j e some at
+                (subst (λ (x : Trace). Names x j) (sym same) m) in
             place j b.0 (omega (arith, b.1, next))
 
     -- and all that a listed item's trace names, where all labels are there
-    pub all_named : (listed : Listed) (t : Trace) → HasTrace P.problem n listed t → length labels ≡ length a.run.entries → AreNamedLabels P.problem n listed t labels
-    all_named listed t h all = record { run = a.run; last = a.last; runs = a.runs; is = is; named = there }
+    pub all_named : (listed : Listed) (t : Trace) → HasTrace P.problem n listed t
+        → length labels ≡ length a.run.entries → AreNamedLabels P.problem n listed t labels
+    all_named listed t h all =
+        record { run = a.run; last = a.last; runs = a.runs; is = is; named = there }
       where
         is : IsTraceIn a.run listed t
         is = subst (λ (r : State). IsTraceIn r listed t) (one_run h.runs a.runs) h.is
 
-        there : (j : ℕ) → Names t j → (m : List (Term Sig)) × (slice_get labels (j - 1) ≡ Some m) × IsLabelOf P.problem.setting a.run (EntryOf j) m
+        there : (j : ℕ) → Names t j → (m : List (Term Sig)) × (slice_get labels (j - 1) ≡ Some m)
+            × IsLabelOf P.problem.setting a.run (EntryOf j) m
         there j m =
-            let g : IsSigned P.problem a.run listed t = signed P.problem (problem_field P problem) a.runs listed t is in
-            let x : IsAnyNamed P.problem.setting a.run.entries g.signature j = any_named P.problem.setting a.run.entries g.signature t j g.named m in
-            let l : j - 1 < length a.run.entries = slice_get_within a.run.entries (j - 1) x.named.entry x.named.at in
+            let g : IsSigned P.problem a.run listed t =
+                signed P.problem (problem_field P problem) a.runs listed t is in
+            let x : IsAnyNamed P.problem.setting a.run.entries g.signature j =
+                any_named P.problem.setting a.run.entries g.signature t j g.named m in
+            let l : j - 1 < length a.run.entries =
+                slice_get_within a.run.entries (j - 1) x.named.entry x.named.at in
             place j x.named.some (omega (arith, l, x.named.some, all))
 
     -- one label more
-    pub push_label : (k : ℕ) (m : List (Term Sig)) → HasLabel P.problem n (EntryOf k) m → k ≡ length labels + 1 → AreLabels P.problem n (labels ++ m ∷ [])
-    push_label k m h next = record { run = a.run; last = a.last; runs = a.runs; few = few; are = pushed labels m (λ i x. IsLabelOf P.problem.setting a.run (EntryOf i) x) k next a.are new }
+    pub push_label : (k : ℕ) (m : List (Term Sig)) → HasLabel P.problem n (EntryOf k) m
+        → k ≡ length labels + 1 → AreLabels P.problem n (labels ++ m ∷ [])
+    push_label k m h next =
+        record { run = a.run; last = a.last;
+          runs = a.runs; few = few; are = pushed labels m
+          (λ i x. IsLabelOf P.problem.setting a.run (EntryOf i) x) k next a.are new }
       where
         new : IsLabelOf P.problem.setting a.run (EntryOf k) m
-        new = subst (λ (r : State). IsLabelOf P.problem.setting r (EntryOf k) m) (one_run h.runs a.runs) h.is
+        new = subst (λ (r : State). IsLabelOf P.problem.setting r (EntryOf k) m)
+            (one_run h.runs a.runs) h.is
 
         few : length (labels ++ m ∷ []) ≤ length a.run.entries
         few = omega (arith, length-append labels (m ∷ []), new.is.1, next)
 
     -- the first one with too many terms
-    pub first_fails : (k limit : ℕ) (e : CofactorFault) → All (λ m. length m ≤ limit) labels → k ≡ length labels + 1 → FailsToSum P.problem n (EntryOf k) limit e → FailsToLabel P.problem n limit e
+    pub first_fails : (k limit : ℕ) (e : CofactorFault) → All (λ m. length m ≤ limit) labels
+        → k ≡ length labels + 1 → FailsToSum P.problem n (EntryOf k) limit e
+        → FailsToLabel P.problem n limit e
     first_fails k limit OutOfMemory few next h = tt
     first_fails k limit (TooMany named terms) few next h = record {
       run = a.run;
@@ -102,46 +137,64 @@ module _ (P : NamedProblem) (problem : IsProblem P) (n : ℕ) where
       names = h.names;
       some = new.is.0;
       within = new.is.1;
-      has = subst (λ i. EntryTerms P.problem.setting.prime a.run k i) (sym h.count) (label_terms a.run k h.label new);
+      has = subst (λ i. EntryTerms P.problem.setting.prime a.run k i) (sym h.count)
+          (label_terms a.run k h.label new);
       many = h.many;
       lesser = lesser;
     }
       where
         new : IsLabelOf P.problem.setting a.run (EntryOf k) h.label
-        new = subst (λ (r : State). IsLabelOf P.problem.setting r (EntryOf k) h.label) (one_run h.has.runs a.runs) h.has.is
+        new = subst (λ (r : State). IsLabelOf P.problem.setting r (EntryOf k) h.label)
+            (one_run h.has.runs a.runs) h.has.is
 
-        lesser : (j i : ℕ) → 1 ≤ j → j < k → EntryTerms P.problem.setting.prime a.run j i → i ≤ limit
+        lesser : (j i : ℕ) → 1 ≤ j → j < k → EntryTerms P.problem.setting.prime a.run j i
+            → i ≤ limit
         lesser j i some l t =
             let m : List (Term Sig) = get_or labels (j - 1) [] in
             let within : j - 1 < length labels = omega (arith, l, next, some) in
-            let same : i ≡ length m = terms_once P.problem.setting.prime (label_at (labels_of P.problem.setting.prime a.run.entries) j) i (length m) t (label_terms a.run j m (a.are j m some (slice_get-get_or labels (j - 1) [] within))) in
+            let same : i ≡ length m =
+                terms_once P.problem.setting.prime
+                (label_at (labels_of P.problem.setting.prime a.run.entries) j) i (length m) t
+                (label_terms a.run j m (a.are j m some (slice_get-get_or labels (j - 1) [] within)))
+                in
             omega (arith, same, few (j - 1) [] within)
 
   -- ---- syzygies one after the other
 
   module _ (labels : List (List (Term Sig))) (a : AreSyzygyLabels P.problem n labels) where
     -- the next one's, in the same run
-    next_syzygy : (k : ℕ) (m : List (Term Sig)) → HasLabel P.problem n (SyzygyOf k) m → IsLabelOf P.problem.setting a.run (SyzygyOf k) m
-    next_syzygy k m h = subst (λ (r : State). IsLabelOf P.problem.setting r (SyzygyOf k) m) (one_run h.runs a.runs) h.is
+    next_syzygy : (k : ℕ) (m : List (Term Sig)) → HasLabel P.problem n (SyzygyOf k) m
+        → IsLabelOf P.problem.setting a.run (SyzygyOf k) m
+    next_syzygy k m h =
+        subst (λ (r : State). IsLabelOf P.problem.setting r (SyzygyOf k) m) (one_run h.runs a.runs)
+        h.is
 
-    syzygy_within : (k : ℕ) (m : List (Term Sig)) → IsLabelOf P.problem.setting a.run (SyzygyOf k) m → (1 ≤ k) × (k ≤ length a.run.syzygies)
+    syzygy_within : (k : ℕ) (m : List (Term Sig)) → IsLabelOf P.problem.setting a.run (SyzygyOf k) m
+        → (1 ≤ k) × (k ≤ length a.run.syzygies)
     syzygy_within k m l = within l.is
       where
-        within : IsLabelIn P.problem.setting.prime a.run (SyzygyOf k) l.label → (1 ≤ k) × (k ≤ length a.run.syzygies)
-        within (t, (h, some, at, same), e) = (some, omega (arith, some, slice_get_within a.run.syzygies (k - 1) h at))
+        within : IsLabelIn P.problem.setting.prime a.run (SyzygyOf k) l.label → (1 ≤ k)
+            × (k ≤ length a.run.syzygies)
+        within (t, (h, some, at, same), e) =
+            (some, omega (arith, some, slice_get_within a.run.syzygies (k - 1) h at))
 
     -- one label more
-    pub push_syzygy : (k : ℕ) (m : List (Term Sig)) → HasLabel P.problem n (SyzygyOf k) m → k ≡ length labels + 1 → AreSyzygyLabels P.problem n (labels ++ m ∷ [])
+    pub push_syzygy : (k : ℕ) (m : List (Term Sig)) → HasLabel P.problem n (SyzygyOf k) m
+        → k ≡ length labels + 1 → AreSyzygyLabels P.problem n (labels ++ m ∷ [])
     push_syzygy k m h next = record {
       run = a.run;
       last = a.last;
       runs = a.runs;
-      few = omega (arith, length-append labels (m ∷ []), (syzygy_within k m (next_syzygy k m h)).1, next);
-      are = pushed labels m (λ i x. IsLabelOf P.problem.setting a.run (SyzygyOf i) x) k next a.are (next_syzygy k m h);
+      few = omega (arith, length-append labels (m ∷ []), (syzygy_within k m (next_syzygy k m h)).1,
+            next);
+      are = pushed labels m (λ i x. IsLabelOf P.problem.setting a.run (SyzygyOf i) x) k next a.are
+          (next_syzygy k m h);
     }
 
     -- the first one with too many terms
-    pub first_syzygy_fails : (k limit : ℕ) (e : CofactorFault) → All (λ m. length m ≤ limit) labels → k ≡ length labels + 1 → FailsToSum P.problem n (SyzygyOf k) limit e → FailsToLabelSyzygies P.problem n limit e
+    pub first_syzygy_fails : (k limit : ℕ) (e : CofactorFault) → All (λ m. length m ≤ limit) labels
+        → k ≡ length labels + 1 → FailsToSum P.problem n (SyzygyOf k) limit e
+        → FailsToLabelSyzygies P.problem n limit e
     first_syzygy_fails k limit OutOfMemory few next h = tt
     first_syzygy_fails k limit (TooMany named terms) few next h = record {
       run = a.run;
@@ -151,7 +204,9 @@ module _ (P : NamedProblem) (problem : IsProblem P) (n : ℕ) where
       names = h.names;
       some = (syzygy_within k h.label new).0;
       within = (syzygy_within k h.label new).1;
-      has = (new.label, new.is, subst (λ i. HasTerms P.problem.setting.prime new.label i) (sym h.count) (label_count P.problem.setting a.run (SyzygyOf k) h.label new new.label new.is));
+      has = (new.label, new.is, subst (λ i. HasTerms P.problem.setting.prime new.label i)
+            (sym h.count) (label_count P.problem.setting a.run (SyzygyOf k) h.label new new.label
+              new.is));
       many = h.many;
       lesser = lesser;
     }
@@ -159,9 +214,13 @@ module _ (P : NamedProblem) (problem : IsProblem P) (n : ℕ) where
         new : IsLabelOf P.problem.setting a.run (SyzygyOf k) h.label
         new = next_syzygy k h.label h.has
 
-        lesser : (j i : ℕ) (α : Element) → 1 ≤ j → j < k → IsLabelIn P.problem.setting.prime a.run (SyzygyOf j) α → HasTerms P.problem.setting.prime α i → i ≤ limit
+        lesser : (j i : ℕ) (α : Element) → 1 ≤ j → j < k → IsLabelIn P.problem.setting.prime a.run
+            (SyzygyOf j) α → HasTerms P.problem.setting.prime α i → i ≤ limit
         lesser j i α some l is terms =
             let m : List (Term Sig) = get_or labels (j - 1) [] in
             let within : j - 1 < length labels = omega (arith, l, next, some) in
-            let same : i ≡ length m = terms_once P.problem.setting.prime α i (length m) terms (label_count P.problem.setting a.run (SyzygyOf j) m (a.are j m some (slice_get-get_or labels (j - 1) [] within)) α is) in
+            let same : i ≡ length m =
+                terms_once P.problem.setting.prime α i (length m) terms
+                (label_count P.problem.setting a.run (SyzygyOf j) m
+                  (a.are j m some (slice_get-get_or labels (j - 1) [] within)) α is) in
             omega (arith, same, few (j - 1) [] within)

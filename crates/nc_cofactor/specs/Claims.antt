@@ -29,7 +29,8 @@ use Rattle.std.specs.Prelude.{All, Contains, List, Option, Some, map, slice_get,
 -- entry j is one of these, or the trace of an entry that is needed names it
 pub data IsNeededFor (entries : List Entry) (numbers : List ℕ) : ℕ → Type 0 where
   given : {j : ℕ} → Contains numbers j → IsNeededFor entries numbers j
-  through : {j k : ℕ} → IsNeededFor entries numbers k → (e : Entry) → slice_get entries (k - 1) ≡ Some e → Names e.trace j → IsNeededFor entries numbers j
+  through : {j k : ℕ} → IsNeededFor entries numbers k → (e : Entry)
+      → slice_get entries (k - 1) ≡ Some e → Names e.trace j → IsNeededFor entries numbers j
 
 -- these numbers are exactly the needed ones
 pub record ListsNeeded (entries : List Entry) (numbers needed : List ℕ) : Type 0 where
@@ -44,7 +45,8 @@ pub record AreNeededFor (P : Problem) (n : ℕ) (numbers needed : List ℕ) : Ty
   pub lists : ListsNeeded run.entries numbers needed
 
 -- and beside each one its trace
-pub record AreNeededTraces (P : Problem) (n : ℕ) (numbers : List ℕ) (needed : List (ℕ × Trace)) : Type 0 where
+pub record AreNeededTraces (P : Problem) (n : ℕ) (numbers : List ℕ)
+    (needed : List (ℕ × Trace)) : Type 0 where
   pub run : State
   pub last : Option Monomial
   pub runs : SequentialRun P n run last
@@ -59,29 +61,40 @@ numbers_of steps = map (λ t. t.number) steps
 
 -- some polynomial was reduced within the bound by subtracting these multiples
 abbrev pub AreSubtracted : Problem → List Entry → List Step → Type 0
-AreSubtracted P entries steps = (f : Polynomial) × (rest : Polynomial) × Reduction P.setting entries (IsWithin P) f rest steps
+AreSubtracted P entries steps =
+    (f : Polynomial) × (rest : Polynomial) × Reduction P.setting entries (IsWithin P) f rest steps
 
 -- the label of each entry that the steps need has at most so many terms, and so has their sum
 pub record AreWithinLimit (p : ℕ) (run : State) (steps : List Step) (limit : ℕ) : Type 0 where
-  pub entries : (j n : ℕ) → IsNeededFor run.entries (numbers_of steps) j → EntryTerms p run j n → n ≤ limit
+  pub entries : (j n : ℕ) → IsNeededFor run.entries (numbers_of steps) j → EntryTerms p run j n
+      → n ≤ limit
   pub sum : (n : ℕ) → HasTerms p (step_multiples (labels_of p run.entries) steps) n → n ≤ limit
 
--- the sum of the multiples of labels, in normal form, where no label that counts has more terms than the limit
-pub record IsRepresentation (P : Problem) (n : ℕ) (steps : List Step) (limit : ℕ) (m : List (Term Sig)) : Type 0 where
+-- the sum of the multiples of labels, in normal form, where no label that counts has more terms
+-- than the limit
+pub record IsRepresentation (P : Problem) (n : ℕ) (steps : List Step) (limit : ℕ)
+    (m : List (Term Sig)) : Type 0 where
   pub run : State
   pub last : Option Monomial
   pub runs : SequentialRun P n run last
   pub is : IsSum P.setting (step_multiples (labels_of P.setting.prime run.entries) steps) m
   pub within : AreWithinLimit P.setting.prime run steps limit
 
--- the item named has more: the least needed entry whose label has, or where there is none the claim, whose representation has
+-- the item named has more: the least needed entry whose label has, or where there is none the
+-- claim, whose representation has
 abbrev pub IsTooManyFor : ℕ → State → List Step → ℕ → Listed → ℕ → Type 0
-IsTooManyFor p run steps limit (EntryOf k) n = IsNeededFor run.entries (numbers_of steps) k × EntryTerms p run k n × (limit < n) × ((j m : ℕ) → IsNeededFor run.entries (numbers_of steps) j → j < k → EntryTerms p run j m → m ≤ limit)
+IsTooManyFor p run steps limit (EntryOf k) n =
+    IsNeededFor run.entries (numbers_of steps) k × EntryTerms p run k n × (limit < n)
+    × ((j m : ℕ) → IsNeededFor run.entries (numbers_of steps) j → j < k → EntryTerms p run j m
+      → m ≤ limit)
 IsTooManyFor p run steps limit (SyzygyOf k) n = ⊥
-IsTooManyFor p run steps limit Claim n = HasTerms p (step_multiples (labels_of p run.entries) steps) n × (limit < n) × ((j m : ℕ) → IsNeededFor run.entries (numbers_of steps) j → EntryTerms p run j m → m ≤ limit)
+IsTooManyFor p run steps limit Claim n =
+    HasTerms p (step_multiples (labels_of p run.entries) steps) n × (limit < n)
+    × ((j m : ℕ) → IsNeededFor run.entries (numbers_of steps) j → EntryTerms p run j m → m ≤ limit)
 
 -- so in the run after n steps
-pub record IsTooManyForAt (P : Problem) (n : ℕ) (steps : List Step) (limit : ℕ) (named : Listed) (terms : ℕ) : Type 0 where
+pub record IsTooManyForAt (P : Problem) (n : ℕ) (steps : List Step) (limit : ℕ) (named : Listed)
+    (terms : ℕ) : Type 0 where
   pub run : State
   pub last : Option Monomial
   pub runs : SequentialRun P n run last

@@ -17,16 +17,21 @@ use Rattle.nc_theory.specs.Runs.{SequentialRun}
 use Rattle.nc_theory.specs.States.{State, Trace}
 use Rattle.std.specs.Prelude.{List, Option, Some, length, slice_get, ℕ, ◌-◌, ◌<◌, ◌≡◌}
 
--- the trace is the item's, and the label of each entry that it names stands in the place with its number
-pub record AreNamedLabels (P : Problem) (n : ℕ) (listed : Listed) (t : Trace) (labels : List (List (Term Sig))) : Type 0 where
+-- the trace is the item's, and the label of each entry that it names stands in the place with its
+-- number
+pub record AreNamedLabels (P : Problem) (n : ℕ) (listed : Listed) (t : Trace)
+    (labels : List (List (Term Sig))) : Type 0 where
   pub run : State
   pub last : Option Monomial
   pub runs : SequentialRun P n run last
   pub is : IsTraceIn run listed t
-  pub named : (j : ℕ) → Names t j → (m : List (Term Sig)) × (slice_get labels (j - 1) ≡ Some m) × IsLabelOf P.setting run (EntryOf j) m
+  pub named : (j : ℕ) → Names t j → (m : List (Term Sig)) × (slice_get labels (j - 1) ≡ Some m)
+      × IsLabelOf P.setting run (EntryOf j) m
 
--- the label of the item of the run after n steps, where no label that counts for it has more terms than the limit
-pub record IsExpanded (P : Problem) (n : ℕ) (listed : Listed) (limit : ℕ) (m : List (Term Sig)) : Type 0 where
+-- the label of the item of the run after n steps, where no label that counts for it has more terms
+-- than the limit
+pub record IsExpanded (P : Problem) (n : ℕ) (listed : Listed) (limit : ℕ)
+    (m : List (Term Sig)) : Type 0 where
   pub run : State
   pub last : Option Monomial
   pub runs : SequentialRun P n run last
@@ -49,7 +54,8 @@ FailsToLabelSyzygies P n limit OutOfMemory = Unit {0}
 FailsToLabelSyzygies P n limit (TooMany named terms) = IsFirstTooManySyzygy P n limit named terms
 
 -- the item's own label has more terms than the limit
-pub record HasTooMany (P : Problem) (n : ℕ) (listed : Listed) (limit : ℕ) (named : Listed) (terms : ℕ) : Type 0 where
+pub record HasTooMany (P : Problem) (n : ℕ) (listed : Listed) (limit : ℕ) (named : Listed)
+    (terms : ℕ) : Type 0 where
   pub label : List (Term Sig)
   pub has : HasLabel P n listed label
   pub names : named ≡ listed

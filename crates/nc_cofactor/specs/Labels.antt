@@ -20,12 +20,15 @@ use Rattle.std.specs.Prelude.{All, List, Option, Some, length, slice_get, ℕ, �
 
 -- the label of the item in the run
 abbrev pub IsLabelIn : ℕ → State → Listed → Element → Type 0
-IsLabelIn p run (EntryOf k) α = (1 ≤ k) × (k ≤ length run.entries) × (α ≡ label_at (labels_of p run.entries) k)
-IsLabelIn p run (SyzygyOf k) α = (t : Trace) × IsTraceIn run (SyzygyOf k) t × (α ≡ trace_label p (labels_of p run.entries) t)
+IsLabelIn p run (EntryOf k) α =
+    (1 ≤ k) × (k ≤ length run.entries) × (α ≡ label_at (labels_of p run.entries) k)
+IsLabelIn p run (SyzygyOf k) α =
+    (t : Trace) × IsTraceIn run (SyzygyOf k) t × (α ≡ trace_label p (labels_of p run.entries) t)
 IsLabelIn p run Claim α = ⊥
 
 -- the module element is the label, in normal form, each degree right
-pub record IsLabelOf (s : Setting) (run : State) (listed : Listed) (m : List (Term Sig)) : Type 0 where
+pub record IsLabelOf (s : Setting) (run : State) (listed : Listed) (m : List (Term Sig)) : Type 0
+    where
   pub label : Element
   pub is : IsLabelIn s.prime run listed label
   pub same : SameSum same_monomial s.prime (element_of m) label
@@ -46,7 +49,8 @@ pub record AreLabels (P : Problem) (n : ℕ) (labels : List (List (Term Sig))) :
   pub last : Option Monomial
   pub runs : SequentialRun P n run last
   pub few : length labels ≤ length run.entries
-  pub are : (k : ℕ) (m : List (Term Sig)) → 1 ≤ k → slice_get labels (k - 1) ≡ Some m → IsLabelOf P.setting run (EntryOf k) m
+  pub are : (k : ℕ) (m : List (Term Sig)) → 1 ≤ k → slice_get labels (k - 1) ≡ Some m
+      → IsLabelOf P.setting run (EntryOf k) m
 
 -- the labels of the first syzygies of the run after n steps, in order
 pub record AreSyzygyLabels (P : Problem) (n : ℕ) (labels : List (List (Term Sig))) : Type 0 where
@@ -54,4 +58,5 @@ pub record AreSyzygyLabels (P : Problem) (n : ℕ) (labels : List (List (Term Si
   pub last : Option Monomial
   pub runs : SequentialRun P n run last
   pub few : length labels ≤ length run.syzygies
-  pub are : (k : ℕ) (m : List (Term Sig)) → 1 ≤ k → slice_get labels (k - 1) ≡ Some m → IsLabelOf P.setting run (SyzygyOf k) m
+  pub are : (k : ℕ) (m : List (Term Sig)) → 1 ≤ k → slice_get labels (k - 1) ≡ Some m
+      → IsLabelOf P.setting run (SyzygyOf k) m

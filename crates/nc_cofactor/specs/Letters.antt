@@ -24,8 +24,14 @@ pub record IsTraceOver (a : Alphabet) (t : Trace) : Type 0 where
   pub left : All (λ step. IsWordIn a step.left) t.steps
   pub right : All (λ step. IsWordIn a step.right) t.steps
 
--- for a problem that a program takes, the trace and the label of each listed item are over its alphabet
+-- for a problem that a program takes, the trace and the label of each listed item are over its
+-- alphabet
 abbrev pub CofactorsAreOver : Type 0
-CofactorsAreOver = (P : NamedProblem) → IsProblem P → IsPrime P.problem.setting.prime → (n : ℕ) (run : State) (last : Option Monomial) → SequentialRun P.problem n run last → (listed : Listed) →
+CofactorsAreOver =
+    (P : NamedProblem) → IsProblem P → IsPrime P.problem.setting.prime
+    → (n : ℕ) (run : State) (last : Option Monomial) → SequentialRun P.problem n run last
+    → (listed : Listed) →
     ((t : Trace) → IsTraceIn run listed t → IsTraceOver P.alphabet t)
-    × ((m : List (Term Sig)) → IsLabelOf P.problem.setting run listed m → All (λ t. IsWordIn P.alphabet t.key.left) m × All (λ t. IsWordIn P.alphabet t.key.right) m)
+    × ((m : List (Term Sig)) → IsLabelOf P.problem.setting run listed m
+          → All (λ t. IsWordIn P.alphabet t.key.left) m × All (λ t. IsWordIn P.alphabet t.key.right)
+          m)

@@ -39,14 +39,17 @@ MarksMore old new named = (j : ℕ) → 1 ≤ j → IsMarked new j ↔ (IsMarked
 -- entry j is marked, or the trace of an entry that is reached from the marks names it
 pub data IsReached (entries : List Entry) (marks : List Bool) : ℕ → Type 0 where
   marked : {j : ℕ} → 1 ≤ j → IsMarked marks j → IsReached entries marks j
-  through : {j k : ℕ} → IsReached entries marks k → (e : Entry) → slice_get entries (k - 1) ≡ Some e → Names e.trace j → IsReached entries marks j
+  through : {j k : ℕ} → IsReached entries marks k → (e : Entry) → slice_get entries (k - 1) ≡ Some e
+      → Names e.trace j → IsReached entries marks j
 
 -- ---- their traces
 
--- the trace of entry k where it is marked, and what it names is marked then; nothing where it is not marked
+-- the trace of entry k where it is marked, and what it names is marked then; nothing where it is
+-- not marked
 abbrev pub IsSlot : Problem → ℕ → List Bool → List Bool → ℕ → Option Trace → Type 0
 IsSlot P n old new k None = ¬ IsMarked old k × (new ≡ old)
-IsSlot P n old new k (Some t) = IsMarked old k × HasTrace P n (EntryOf k) t × MarksMore old new (Names t)
+IsSlot P n old new k (Some t) =
+    IsMarked old k × HasTrace P n (EntryOf k) t × MarksMore old new (Names t)
 
 -- the trace of entry k where it is reached, and nothing where it is not
 abbrev pub IsFound : State → List Bool → ℕ → Option Trace → Type 0
@@ -54,19 +57,23 @@ IsFound run marks k None = ¬ IsReached run.entries marks k
 IsFound run marks k (Some t) = IsTraceIn run (EntryOf k) t × IsReached run.entries marks k
 
 -- of each entry that is reached the trace is there, that of entry 1 last
-pub record AreFound (P : Problem) (n : ℕ) (marks : List Bool) (stack : List (Option Trace)) : Type 0 where
+pub record AreFound (P : Problem) (n : ℕ) (marks : List Bool) (stack : List (Option Trace)) : Type 0
+    where
   pub run : State
   pub last : Option Monomial
   pub runs : SequentialRun P n run last
   pub size : length marks ≡ length run.entries
   pub height : length stack ≡ length run.entries
-  pub slots : (k : ℕ) (o : Option Trace) → 1 ≤ k → k ≤ length run.entries → slice_get stack (length run.entries - k) ≡ Some o → IsFound run marks k o
+  pub slots : (k : ℕ) (o : Option Trace) → 1 ≤ k → k ≤ length run.entries
+      → slice_get stack (length run.entries - k) ≡ Some o → IsFound run marks k o
 
 -- the traces that are there, each beside its number, from the last one of the stack to the first
 pub record AreNumbered (stack : List (Option Trace)) (numbered : List (ℕ × Trace)) : Type 0 where
   pub ascending : IsStrictlyIncreasing (map (λ x. x.0) numbered)
-  pub sound : (k : ℕ) (t : Trace) → Contains numbered (k, t) → (1 ≤ k) × (k ≤ length stack) × (slice_get stack (length stack - k) ≡ Some (Some t))
-  pub complete : (k : ℕ) (t : Trace) → 1 ≤ k → k ≤ length stack → slice_get stack (length stack - k) ≡ Some (Some t) → Contains numbered (k, t)
+  pub sound : (k : ℕ) (t : Trace) → Contains numbered (k, t) → (1 ≤ k) × (k ≤ length stack)
+      × (slice_get stack (length stack - k) ≡ Some (Some t))
+  pub complete : (k : ℕ) (t : Trace) → 1 ≤ k → k ≤ length stack
+      → slice_get stack (length stack - k) ≡ Some (Some t) → Contains numbered (k, t)
 
 -- ---- their labels
 
@@ -76,22 +83,26 @@ IsNewLabel P n limit k None m = Unit {0}
 IsNewLabel P n limit k (Some t) m = HasLabel P n (EntryOf k) m × (length m ≤ limit)
 
 -- the label of entry k stands in its place, with at most limit terms
-pub record IsFilledAt (P : Problem) (run : State) (labels : List (List (Term Sig))) (limit : ℕ) (k : ℕ) : Type 0 where
+pub record IsFilledAt (P : Problem) (run : State) (labels : List (List (Term Sig))) (limit : ℕ)
+    (k : ℕ) : Type 0 where
   pub label : List (Term Sig)
   pub at : slice_get labels (k - 1) ≡ Some label
   pub is : IsLabelOf P.setting run (EntryOf k) label
   pub few : length label ≤ limit
 
 -- the labels of the entries that are reached stand in their places
-pub record AreFilled (P : Problem) (n : ℕ) (marks : List Bool) (limit : ℕ) (labels : List (List (Term Sig))) : Type 0 where
+pub record AreFilled (P : Problem) (n : ℕ) (marks : List Bool) (limit : ℕ)
+    (labels : List (List (Term Sig))) : Type 0 where
   pub run : State
   pub last : Option Monomial
   pub runs : SequentialRun P n run last
   pub size : length marks ≡ length run.entries
   pub places : (k : ℕ) → IsReached run.entries marks k → IsFilledAt P run labels limit k
 
--- the label of the entry named has so many terms: of those that are reached the least one whose label has more than the limit
-pub record IsFirstMany (P : Problem) (n : ℕ) (marks : List Bool) (limit : ℕ) (named : Listed) (terms : ℕ) : Type 0 where
+-- the label of the entry named has so many terms: of those that are reached the least one whose
+-- label has more than the limit
+pub record IsFirstMany (P : Problem) (n : ℕ) (marks : List Bool) (limit : ℕ) (named : Listed)
+    (terms : ℕ) : Type 0 where
   pub run : State
   pub last : Option Monomial
   pub runs : SequentialRun P n run last
@@ -101,7 +112,8 @@ pub record IsFirstMany (P : Problem) (n : ℕ) (marks : List Bool) (limit : ℕ)
   pub reached : IsReached run.entries marks number
   pub has : EntryTerms P.setting.prime run number terms
   pub many : limit < terms
-  pub lesser : (j m : ℕ) → IsReached run.entries marks j → j < number → EntryTerms P.setting.prime run j m → m ≤ limit
+  pub lesser : (j m : ℕ) → IsReached run.entries marks j → j < number
+      → EntryTerms P.setting.prime run j m → m ≤ limit
 
 -- why not all of them were given labels; want of memory says nothing
 abbrev pub FailsToFill : Problem → ℕ → List Bool → ℕ → CofactorFault → Type 0

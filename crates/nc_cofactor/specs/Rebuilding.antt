@@ -23,6 +23,7 @@ abbrev pub HasStart : Setting → List Entry → Monomial → ℕ → Type 0
 HasStart s entries τ m = (f : Polynomial) × (start : Start) × Starts s (take m entries) τ f start
 
 -- a start with signature τ, and what is reduced there over the first m entries
-pub record IsStartOver (s : Setting) (entries : List Entry) (τ : Monomial) (m : ℕ) (start : Start) : Type 0 where
+pub record IsStartOver (s : Setting) (entries : List Entry) (τ : Monomial) (m : ℕ)
+    (start : Start) : Type 0 where
   pub signed : IsStartAt s entries τ start
   pub starts : Starts s (take m entries) τ (start_polynomial s entries start) start

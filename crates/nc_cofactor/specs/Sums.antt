@@ -28,7 +28,8 @@ pub record IsAddable (s : Setting) (u : Word) (m : List (Term Sig)) (v : Word) :
   pub light : All (λ t. word_weight u + t.key.degree + word_weight v ≤ 100000) m
 
 -- the multiple by u and v of the label in place j, counted from 1
-pub record IsPlaced (s : Setting) (labels : List (List (Term Sig))) (u : Word) (j : ℕ) (v : Word) : Type 0 where
+pub record IsPlaced (s : Setting) (labels : List (List (Term Sig))) (u : Word) (j : ℕ)
+    (v : Word) : Type 0 where
   pub some : 1 ≤ j
   pub within : j ≤ length labels
   pub addable : IsAddable s u (get_or labels (j - 1) []) v
@@ -46,7 +47,8 @@ pub record IsSummable (s : Setting) (labels : List (List (Term Sig))) (trace : T
   pub steps : All (λ t. IsPlaced s labels t.left t.number t.right) trace.steps
 
 -- the multiples of the labels that the steps name can be added up
-pub record AreSummable (s : Setting) (labels : List (List (Term Sig))) (steps : List Step) : Type 0 where
+pub record AreSummable (s : Setting) (labels : List (List (Term Sig))) (steps : List Step) : Type 0
+    where
   pub residues : All (λ t. t.coefficient < s.prime) steps
   pub placed : All (λ t. IsPlaced s labels t.left t.number t.right) steps
 

@@ -43,11 +43,13 @@ Names t j = StartNames t.start j ⊎ ((step : Step) × Contains t.steps step × 
 -- entry j is needed for the trace: it is named there, or in the trace of an entry that is needed
 pub data Needs (entries : List Entry) (t : Trace) : ℕ → Type 0 where
   named : {j : ℕ} → Names t j → Needs entries t j
-  through : {j k : ℕ} → Needs entries t k → (e : Entry) → slice_get entries (k - 1) ≡ Some e → Names e.trace j → Needs entries t j
+  through : {j k : ℕ} → Needs entries t k → (e : Entry) → slice_get entries (k - 1) ≡ Some e
+      → Names e.trace j → Needs entries t j
 
 -- the label of entry j counts for the item: it is the item, or the item's trace needs it
 abbrev pub CountsFor : State → Listed → ℕ → Type 0
-CountsFor run listed j = (listed ≡ EntryOf j) ⊎ ((t : Trace) × IsTraceIn run listed t × Needs run.entries t j)
+CountsFor run listed j =
+    (listed ≡ EntryOf j) ⊎ ((t : Trace) × IsTraceIn run listed t × Needs run.entries t j)
 
 -- ---- limits
 
@@ -60,21 +62,29 @@ pub record IsWithinLimit (p : ℕ) (run : State) (listed : Listed) (limit : ℕ)
   pub entries : (j n : ℕ) → CountsFor run listed j → EntryTerms p run j n → n ≤ limit
   pub item : (α : Element) (n : ℕ) → IsLabelIn p run listed α → HasTerms p α n → n ≤ limit
 
--- the item named has more: the least entry that counts and has, or where there is none the syzygy itself
+-- the item named has more: the least entry that counts and has, or where there is none the syzygy
+-- itself
 abbrev pub IsTooMany : ℕ → State → Listed → ℕ → Listed → ℕ → Type 0
-IsTooMany p run listed limit (EntryOf k) n = CountsFor run listed k × EntryTerms p run k n × (limit < n) × ((j m : ℕ) → CountsFor run listed j → j < k → EntryTerms p run j m → m ≤ limit)
-IsTooMany p run listed limit (SyzygyOf k) n = (listed ≡ SyzygyOf k) × ((α : Element) × IsLabelIn p run listed α × HasTerms p α n) × (limit < n) × ((j m : ℕ) → CountsFor run listed j → EntryTerms p run j m → m ≤ limit)
+IsTooMany p run listed limit (EntryOf k) n =
+    CountsFor run listed k × EntryTerms p run k n × (limit < n)
+    × ((j m : ℕ) → CountsFor run listed j → j < k → EntryTerms p run j m → m ≤ limit)
+IsTooMany p run listed limit (SyzygyOf k) n =
+    (listed ≡ SyzygyOf k) × ((α : Element) × IsLabelIn p run listed α × HasTerms p α n)
+    × (limit < n) × ((j m : ℕ) → CountsFor run listed j → EntryTerms p run j m → m ≤ limit)
 IsTooMany p run listed limit Claim n = ⊥
 
--- why the label of the item of the run after so many steps is not given: the item named has so many terms
-pub record IsTooManyAt (P : Problem) (n : ℕ) (listed : Listed) (limit : ℕ) (named : Listed) (terms : ℕ) : Type 0 where
+-- why the label of the item of the run after so many steps is not given: the item named has so many
+-- terms
+pub record IsTooManyAt (P : Problem) (n : ℕ) (listed : Listed) (limit : ℕ) (named : Listed)
+    (terms : ℕ) : Type 0 where
   pub run : State
   pub last : Option Monomial
   pub runs : SequentialRun P n run last
   pub many : IsTooMany P.setting.prime run listed limit named terms
 
 -- entry number k is the least one whose label has more terms, and has so many
-pub record IsFirstTooMany (P : Problem) (n : ℕ) (limit : ℕ) (named : Listed) (terms : ℕ) : Type 0 where
+pub record IsFirstTooMany (P : Problem) (n : ℕ) (limit : ℕ) (named : Listed) (terms : ℕ) : Type 0
+    where
   pub run : State
   pub last : Option Monomial
   pub runs : SequentialRun P n run last
@@ -87,7 +97,8 @@ pub record IsFirstTooMany (P : Problem) (n : ℕ) (limit : ℕ) (named : Listed)
   pub lesser : (j m : ℕ) → 1 ≤ j → j < number → EntryTerms P.setting.prime run j m → m ≤ limit
 
 -- syzygy number k is the least one whose label has more terms, and has so many
-pub record IsFirstTooManySyzygy (P : Problem) (n : ℕ) (limit : ℕ) (named : Listed) (terms : ℕ) : Type 0 where
+pub record IsFirstTooManySyzygy (P : Problem) (n : ℕ) (limit : ℕ) (named : Listed)
+    (terms : ℕ) : Type 0 where
   pub run : State
   pub last : Option Monomial
   pub runs : SequentialRun P n run last
@@ -95,19 +106,29 @@ pub record IsFirstTooManySyzygy (P : Problem) (n : ℕ) (limit : ℕ) (named : L
   pub names : named ≡ SyzygyOf number
   pub some : 1 ≤ number
   pub within : number ≤ length run.syzygies
-  pub has : (α : Element) × IsLabelIn P.setting.prime run (SyzygyOf number) α × HasTerms P.setting.prime α terms
+  pub has : (α : Element) × IsLabelIn P.setting.prime run (SyzygyOf number) α
+      × HasTerms P.setting.prime α terms
   pub many : limit < terms
-  pub lesser : (j m : ℕ) (α : Element) → 1 ≤ j → j < number → IsLabelIn P.setting.prime run (SyzygyOf j) α → HasTerms P.setting.prime α m → m ≤ limit
+  pub lesser : (j m : ℕ) (α : Element) → 1 ≤ j → j < number
+      → IsLabelIn P.setting.prime run (SyzygyOf j) α → HasTerms P.setting.prime α m → m ≤ limit
 
 -- ---- all labels of a run
 
 -- no label of a listed item has more terms
 abbrev pub AllWithin : ℕ → State → ℕ → Type 0
-AllWithin p run limit = (listed : Listed) (α : Element) (n : ℕ) → IsLabelIn p run listed α → HasTerms p α n → n ≤ limit
+AllWithin p run limit =
+    (listed : Listed) (α : Element) (n : ℕ) → IsLabelIn p run listed α → HasTerms p α n → n ≤ limit
 
--- the label of this item has more, and so many: the least entry's, and where no entry's has, the least syzygy's
+-- the label of this item has more, and so many: the least entry's, and where no entry's has, the
+-- least syzygy's
 abbrev pub IsFirstOf : ℕ → State → ℕ → Listed → ℕ → Type 0
-IsFirstOf p run limit (EntryOf k) n = (1 ≤ k) × (k ≤ length run.entries) × EntryTerms p run k n × (limit < n) × ((j m : ℕ) → 1 ≤ j → j < k → EntryTerms p run j m → m ≤ limit)
-IsFirstOf p run limit (SyzygyOf k) n = (1 ≤ k) × (k ≤ length run.syzygies) × ((α : Element) × IsLabelIn p run (SyzygyOf k) α × HasTerms p α n) × (limit < n)
-    × ((j m : ℕ) (α : Element) → 1 ≤ j → j < k → IsLabelIn p run (SyzygyOf j) α → HasTerms p α m → m ≤ limit) × ((j m : ℕ) → 1 ≤ j → j ≤ length run.entries → EntryTerms p run j m → m ≤ limit)
+IsFirstOf p run limit (EntryOf k) n =
+    (1 ≤ k) × (k ≤ length run.entries) × EntryTerms p run k n × (limit < n)
+    × ((j m : ℕ) → 1 ≤ j → j < k → EntryTerms p run j m → m ≤ limit)
+IsFirstOf p run limit (SyzygyOf k) n =
+    (1 ≤ k) × (k ≤ length run.syzygies)
+    × ((α : Element) × IsLabelIn p run (SyzygyOf k) α × HasTerms p α n) × (limit < n)
+    × ((j m : ℕ) (α : Element) → 1 ≤ j → j < k → IsLabelIn p run (SyzygyOf j) α → HasTerms p α m
+          → m ≤ limit) × ((j m : ℕ) → 1 ≤ j → j ≤ length run.entries → EntryTerms p run j m
+          → m ≤ limit)
 IsFirstOf p run limit Claim n = ⊥

@@ -20,8 +20,10 @@ IsListed state Claim = ⊥
 
 -- the trace of the item in a state of the run
 abbrev pub IsTraceIn : State → Listed → Trace → Type 0
-IsTraceIn run (EntryOf k) t = (e : Entry) × (1 ≤ k) × (slice_get run.entries (k - 1) ≡ Some e) × (e.trace ≡ t)
-IsTraceIn run (SyzygyOf k) t = (h : Syzygy) × (1 ≤ k) × (slice_get run.syzygies (k - 1) ≡ Some h) × (h.trace ≡ t)
+IsTraceIn run (EntryOf k) t =
+    (e : Entry) × (1 ≤ k) × (slice_get run.entries (k - 1) ≡ Some e) × (e.trace ≡ t)
+IsTraceIn run (SyzygyOf k) t =
+    (h : Syzygy) × (1 ≤ k) × (slice_get run.syzygies (k - 1) ≡ Some h) × (h.trace ≡ t)
 IsTraceIn run Claim t = ⊥
 
 -- the trace that the sequential run of n steps gave the item
@@ -33,4 +35,6 @@ pub record HasTrace (P : Problem) (n : ℕ) (listed : Listed) (t : Trace) : Type
 
 -- τ is the signature of an entry or of a syzygy
 abbrev pub IsListedSignature : State → Monomial → Type 0
-IsListedSignature state τ = ((e : Entry) × Contains state.entries e × (e.signature ≡ τ)) ⊎ ((h : Syzygy) × Contains state.syzygies h × (h.signature ≡ τ))
+IsListedSignature state τ =
+    ((e : Entry) × Contains state.entries e × (e.signature ≡ τ))
+    ⊎ ((h : Syzygy) × Contains state.syzygies h × (h.signature ≡ τ))

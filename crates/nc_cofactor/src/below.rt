@@ -10,7 +10,8 @@ use nc_snapshot::Snapshot;
 /// How many entries have a signature below this one; these are the first ones, since signatures ascend.
 pub(crate) fn entries_below(snapshot: &Snapshot, sig: &Sig) -> u32
     requires { HasDegree snapshot.now.problem.problem.setting sig.now }
-    ensures { AreLesser snapshot.now.problem.problem.setting snapshot.now.state.entries (monomial_of sig.now) result }
+    ensures { AreLesser snapshot.now.problem.problem.setting snapshot.now.state.entries
+          (monomial_of sig.now) result }
 {
     snapshot.recall_rule();
     let mut low = 0;

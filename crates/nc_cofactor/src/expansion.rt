@@ -29,8 +29,10 @@ pub fn expand(
 ) -> Result<Module, CofactorFault>
     requires leads { LeadsOf snapshot.now leads.now }
     requires listed { IsListed snapshot.now.state listed }
-    ensures label { IfOk result (IsExpanded snapshot.now.problem.problem snapshot.now.handled listed limit) }
-    ensures fault { IfErr result (FailsToExpand snapshot.now.problem.problem snapshot.now.handled listed limit) }
+    ensures label { IfOk result (IsExpanded snapshot.now.problem.problem snapshot.now.handled listed
+            limit) }
+    ensures fault { IfErr result (FailsToExpand snapshot.now.problem.problem snapshot.now.handled
+            listed limit) }
 {
     snapshot.recall_rule();
     let trace = trace_of(alloc, snapshot, leads, listed)?;

@@ -24,10 +24,13 @@ pub(crate) fn item_label(
     trace: &Trace,
     limit: u64,
 ) -> Result<Module, CofactorFault>
-    requires { AreNamedLabels snapshot.now.problem.problem snapshot.now.handled listed trace.now labels.now }
-    ensures label { IfOk result (HasLabel snapshot.now.problem.problem snapshot.now.handled listed) }
+    requires { AreNamedLabels snapshot.now.problem.problem snapshot.now.handled listed trace.now
+          labels.now }
+    ensures label { IfOk result (HasLabel snapshot.now.problem.problem snapshot.now.handled listed)
+          }
     ensures few { IfOk result (λ m. length m ≤ limit) }
-    ensures fault { IfErr result (FailsToSum snapshot.now.problem.problem snapshot.now.handled listed limit) }
+    ensures fault { IfErr result (FailsToSum snapshot.now.problem.problem snapshot.now.handled
+            listed limit) }
 {
     let problem = snapshot.problem();
     let label = trace_sum(alloc, problem.setting(), labels, trace)?;
@@ -51,9 +54,11 @@ fn entry_label(
     requires within { number ≤ length snapshot.now.state.entries }
     requires labels { AreLabels snapshot.now.problem.problem snapshot.now.handled labels.now }
     requires next { number ≡ length labels.now + 1 }
-    ensures label { IfOk result (HasLabel snapshot.now.problem.problem snapshot.now.handled (EntryOf number)) }
+    ensures label { IfOk result (HasLabel snapshot.now.problem.problem snapshot.now.handled
+            (EntryOf number)) }
     ensures few { IfOk result (λ m. length m ≤ limit) }
-    ensures fault { IfErr result (FailsToSum snapshot.now.problem.problem snapshot.now.handled (EntryOf number) limit) }
+    ensures fault { IfErr result (FailsToSum snapshot.now.problem.problem snapshot.now.handled
+            (EntryOf number) limit) }
 {
     snapshot.recall_rule();
     let listed = Listed::Entry(number);
@@ -91,7 +96,8 @@ impl Labels {
         ensures labels { IfOk result (AreLabels snapshot.now.problem.problem snapshot.now.handled) }
         ensures all { IfOk result (λ l. length l ≡ length snapshot.now.state.entries) }
         ensures few { IfOk result (All (λ m. length m ≤ limit)) }
-        ensures fault { IfErr result (FailsToLabel snapshot.now.problem.problem snapshot.now.handled limit) }
+        ensures fault { IfErr result (FailsToLabel snapshot.now.problem.problem snapshot.now.handled
+                limit) }
     {
         snapshot.recall_rule();
         let mut kept = Vec::new(alloc);
@@ -125,10 +131,12 @@ impl Labels {
         requires leads { LeadsOf snapshot.now leads.now }
         requires labels { AreLabels snapshot.now.problem.problem snapshot.now.handled self.now }
         requires all { length self.now ≡ length snapshot.now.state.entries }
-        ensures labels { IfOk result (λ l. AreSyzygyLabels snapshot.now.problem.problem snapshot.now.handled l.items) }
+        ensures labels { IfOk result (λ l. AreSyzygyLabels snapshot.now.problem.problem
+                snapshot.now.handled l.items) }
         ensures all { IfOk result (λ l. length l.items ≡ length snapshot.now.state.syzygies) }
         ensures few { IfOk result (λ l. All (λ m. length m ≤ limit) l.items) }
-        ensures fault { IfErr result (FailsToLabelSyzygies snapshot.now.problem.problem snapshot.now.handled limit) }
+        ensures fault { IfErr result (FailsToLabelSyzygies snapshot.now.problem.problem
+                snapshot.now.handled limit) }
     {
         snapshot.recall_rule();
         let mut kept = Vec::new(alloc);
@@ -155,9 +163,11 @@ impl Labels {
         requires within { number ≤ length snapshot.now.state.syzygies }
         requires labels { AreLabels snapshot.now.problem.problem snapshot.now.handled self.now }
         requires all { length self.now ≡ length snapshot.now.state.entries }
-        ensures label { IfOk result (HasLabel snapshot.now.problem.problem snapshot.now.handled (SyzygyOf number)) }
+        ensures label { IfOk result (HasLabel snapshot.now.problem.problem snapshot.now.handled
+                (SyzygyOf number)) }
         ensures few { IfOk result (λ m. length m ≤ limit) }
-        ensures fault { IfErr result (FailsToSum snapshot.now.problem.problem snapshot.now.handled (SyzygyOf number) limit) }
+        ensures fault { IfErr result (FailsToSum snapshot.now.problem.problem snapshot.now.handled
+                (SyzygyOf number) limit) }
     {
         snapshot.recall_rule();
         let listed = Listed::Syzygy(number);

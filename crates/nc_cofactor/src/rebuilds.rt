@@ -30,9 +30,11 @@ fn is_unit(sig: &Sig) -> bool
 /// The best multiple of the first entries.
 fn best_of_first(snapshot: &Snapshot, sig: &Sig, entries: u32) -> Multiple
     requires few { entries ≤ length snapshot.now.state.entries }
-    requires start { HasStart snapshot.now.problem.problem.setting snapshot.now.state.entries (monomial_of sig.now) entries }
+    requires start { HasStart snapshot.now.problem.problem.setting snapshot.now.state.entries
+          (monomial_of sig.now) entries }
     requires other { monomial_of sig.now ≢ unit_monomial sig.now.generator }
-    ensures { IsBestWithin snapshot.now.problem.problem.setting snapshot.now.state.entries (monomial_of sig.now) 0 entries (Some result) }
+    ensures { IsBestWithin snapshot.now.problem.problem.setting snapshot.now.state.entries
+          (monomial_of sig.now) 0 entries (Some result) }
 {
     match best_multiple(snapshot, sig, 0, entries) {
         Some(best) => best,
@@ -44,7 +46,8 @@ fn best_of_first(snapshot: &Snapshot, sig: &Sig, entries: u32) -> Multiple
 fn multiple_start(alloc: Global, sig: &Sig, best: &Multiple) -> Result<Start, AllocError>
     requires left { best.now.left ≤ length sig.now.left }
     requires right { best.now.right ≤ length sig.now.right }
-    ensures { IfOk result (λ a. start_of a ≡ Beginning.a_multiple (take best.now.left sig.now.left) best.now.number (drop best.now.right sig.now.right)) }
+    ensures { IfOk result (λ a. start_of a ≡ Beginning.a_multiple (take best.now.left sig.now.left)
+            best.now.number (drop best.now.right sig.now.right)) }
 {
     let left = &sig.left.letters()[..best.left];
     let right = &sig.right.letters()[best.right..];
@@ -65,9 +68,11 @@ fn start_over(
     entries: u32,
 ) -> Result<Start, AllocError>
     requires few { entries ≤ length snapshot.now.state.entries }
-    requires start { HasStart snapshot.now.problem.problem.setting snapshot.now.state.entries (monomial_of sig.now) entries }
+    requires start { HasStart snapshot.now.problem.problem.setting snapshot.now.state.entries
+          (monomial_of sig.now) entries }
     requires generator { IsGenerator snapshot.now.problem.problem.setting sig.now.generator }
-    ensures { IfOk result (λ a. IsStartOver snapshot.now.problem.problem.setting snapshot.now.state.entries (monomial_of sig.now) entries (start_of a)) }
+    ensures { IfOk result (λ a. IsStartOver snapshot.now.problem.problem.setting
+            snapshot.now.state.entries (monomial_of sig.now) entries (start_of a)) }
 {
     if is_unit(sig) {
         return Ok(Start::Generator(sig.generator));
@@ -89,8 +94,10 @@ pub fn rebuild(
     requires leads { LeadsOf snapshot.now leads.now }
     requires degree { HasDegree snapshot.now.problem.problem.setting sig.now }
     requires listed { IsListedSignature snapshot.now.state (monomial_of sig.now) }
-    requires lesser { AreLesser snapshot.now.problem.problem.setting snapshot.now.state.entries (monomial_of sig.now) entries }
-    ensures { IfOk result (λ t. (f : Polynomial) × Rebuilds snapshot.now.problem.problem.setting snapshot.now.state.entries (monomial_of sig.now) t f) }
+    requires lesser { AreLesser snapshot.now.problem.problem.setting snapshot.now.state.entries
+          (monomial_of sig.now) entries }
+    ensures { IfOk result (λ t. (f : Polynomial) × Rebuilds snapshot.now.problem.problem.setting
+            snapshot.now.state.entries (monomial_of sig.now) t f) }
 {
     snapshot.recall_rule();
     let start = start_over(alloc, snapshot, sig, entries)?;

@@ -81,7 +81,8 @@ fn slot_at(
     requires some { 1 ≤ number }
     requires within { number ≤ length snapshot.now.state.entries }
     requires size { length marks.old ≡ length snapshot.now.state.entries }
-    ensures { IfOk result (IsSlot snapshot.now.problem.problem snapshot.now.handled marks.old marks.new number) }
+    ensures { IfOk result (IsSlot snapshot.now.problem.problem snapshot.now.handled marks.old
+            marks.new number) }
 {
     snapshot.recall_rule();
     if !is_marked(marks, number) {
@@ -102,7 +103,8 @@ pub(crate) fn traces_from(
 ) -> Result<Vec<Option<Trace>>, AllocError>
     requires leads { LeadsOf snapshot.now leads.now }
     requires size { length marks.old ≡ length snapshot.now.state.entries }
-    ensures { IfOk result (λ stack. AreFound snapshot.now.problem.problem snapshot.now.handled marks.old stack.items) }
+    ensures { IfOk result (λ stack. AreFound snapshot.now.problem.problem snapshot.now.handled
+            marks.old stack.items) }
 {
     snapshot.recall_rule();
     let mut stack = Vec::new(alloc);

@@ -20,7 +20,8 @@ fn entry_trace(
     requires leads { LeadsOf snapshot.now leads.now }
     requires some { 1 ≤ number }
     requires within { number ≤ length snapshot.now.state.entries }
-    ensures { IfOk result (HasTrace snapshot.now.problem.problem snapshot.now.handled (Listed.Entry number)) }
+    ensures { IfOk result (HasTrace snapshot.now.problem.problem snapshot.now.handled
+            (Listed.Entry number)) }
 {
     snapshot.recall_rule();
     rebuild(
@@ -42,7 +43,8 @@ fn syzygy_trace(
     requires leads { LeadsOf snapshot.now leads.now }
     requires some { 1 ≤ number }
     requires within { number ≤ length snapshot.now.state.syzygies }
-    ensures { IfOk result (HasTrace snapshot.now.problem.problem snapshot.now.handled (Listed.Syzygy number)) }
+    ensures { IfOk result (HasTrace snapshot.now.problem.problem snapshot.now.handled
+            (Listed.Syzygy number)) }
 {
     snapshot.recall_rule();
     let sig = snapshot.syzygy(number).sig();

@@ -10,14 +10,18 @@ use Rattle.nc_theory.specs.States.{Entry}
 use Rattle.nc_theory.specs.Syzygies.{TrivialSyzygy, first_side, second_side}
 use Rattle.std.specs.Prelude.{List, Some, slice_get, ℕ, ◌≡◌, ◌⊎◌}
 
--- of a trivial syzygy of the two entries the side with own's signature is the greater one, and divides τ
+-- of a trivial syzygy of the two entries the side with own's signature is the greater one, and
+-- divides τ
 abbrev pub IsTrivialBy : Setting → Entry → Entry → Monomial → Type 0
 IsTrivialBy s own other τ =
-    ((m : Word) × IsLess s (second_side s own m other) (first_side s own m other) × Divides (first_side s own m other) τ)
-    ⊎ ((m : Word) × IsLess s (first_side s other m own) (second_side s other m own) × Divides (second_side s other m own) τ)
+    ((m : Word) × IsLess s (second_side s own m other) (first_side s own m other)
+          × Divides (first_side s own m other) τ)
+    ⊎ ((m : Word) × IsLess s (first_side s other m own) (second_side s other m own)
+          × Divides (second_side s other m own) τ)
 
 -- so with the entries at these places, counted from 0
-pub record IsTrivialPair (s : Setting) (entries : List Entry) (τ : Monomial) (n j : ℕ) : Type 0 where
+pub record IsTrivialPair (s : Setting) (entries : List Entry) (τ : Monomial) (n j : ℕ) : Type 0
+    where
   pub own : Entry
   pub own_stands : slice_get entries n ≡ Some own
   pub other : Entry

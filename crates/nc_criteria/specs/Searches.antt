@@ -14,8 +14,11 @@ use Rattle.std.specs.Prelude.{List, Option, ℕ}
 
 -- the best multiple among the entries numbered above `after` and at most `until`, with its word
 abbrev pub IsBestBetween : (s : Setting) → List Entry → Monomial → ℕ → ℕ → Option Best → Type 0
-IsBestBetween s entries τ after until = IsBestIn s entries (IsMultipleWithin s entries τ after until)
+IsBestBetween s entries τ after until =
+    IsBestIn s entries (IsMultipleWithin s entries τ after until)
 
 -- a multiple that was found, with its word
 abbrev pub found_of : Found → Best
-found_of f = record { word = joined_word f.word; left = f.word.first.now; number = f.number; right = f.word.third.now }
+found_of f =
+    record { word = joined_word f.word;
+      left = f.word.first.now; number = f.number; right = f.word.third.now }

@@ -28,7 +28,8 @@ impl<'a> Lead<'a> {
     pub(crate) fn of(snapshot: &'a Snapshot, number: u32) -> Lead<'a>
         requires some { 1 ≤ number }
         requires within { number ≤ length snapshot.now.state.entries }
-        ensures { IsLeadAt snapshot.now.problem.problem.setting snapshot.now.state.entries (number - 1) result }
+        ensures { IsLeadAt snapshot.now.problem.problem.setting snapshot.now.state.entries
+              (number - 1) result }
     {
         snapshot.recall_rule();
         let entry = snapshot.entry(number);

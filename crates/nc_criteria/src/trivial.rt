@@ -123,7 +123,8 @@ pub(crate) fn is_trivial<'a>(
     before: &'a [Letter],
     behind: &'a [Letter],
 ) -> bool
-    ensures { IsTrue result ↔ (IsBehind own.now other.now behind.now ⊎ IsBefore own.now other.now before.now) }
+    ensures { IsTrue result ↔ (IsBehind own.now other.now behind.now
+            ⊎ IsBefore own.now other.now before.now) }
 {
     let heads = own.compare_heads(other);
     is_behind(own, other, heads, behind) || is_before(own, other, heads, before)

@@ -25,24 +25,38 @@ module _ (s : Snapshot) (h : IsSnapshot s) (ws : List Sig) (left : AreLeft s ws)
   pub complete_end : ws ≡ [] → IsEndAt s Ending.complete
   complete_end e = record {
     run = left.run.run;
-    ends = IsEnd.is_complete h.few left.run.runs (moved_none s.problem.problem s.state left.run.run (same_run s.state left.run.run left.run.stands) left.last (none_left s.problem.problem s.handled s.state left.last ws left.exact e));
+    ends = IsEnd.is_complete h.few left.run.runs
+        (moved_none s.problem.problem s.state left.run.run
+          (same_run s.state left.run.run left.run.stands) left.last
+          (none_left s.problem.problem s.handled s.state left.last ws left.exact e));
     stands = left.run.stands;
   }
 
   pub complete_bases : ws ≡ [] → HasBasesAt s.problem.problem s.state Ending.complete
-  complete_bases e = end_facts s.problem.problem (snapshot_prime s h) s.handled s.state Ending.complete (complete_end e)
+  complete_bases e =
+      end_facts s.problem.problem (snapshot_prime s h) s.handled s.state Ending.complete
+      (complete_end e)
 
   module _ (ascending : IsAscending ws) (σ : Sig) (others : List Sig) (is : ws ≡ σ ∷ others) where
     pub one_waits : Waits s
-    one_waits = (monomial_of σ, next_of_run s h (monomial_of σ) (least_next s h ws left ascending σ others is))
+    one_waits =
+        (monomial_of σ, next_of_run s h (monomial_of σ)
+          (least_next s h ws left ascending σ others is))
 
-    pub budget_end : ¬ (s.handled < s.problem.problem.steps) → IsEndAt s (Ending.budget (monomial_of σ))
+    pub budget_end : ¬ (s.handled < s.problem.problem.steps)
+        → IsEndAt s (Ending.budget (monomial_of σ))
     budget_end n = record {
       run = left.run.run;
       ends = IsEnd.is_budget (omega (arith, n, h.few)) left.run.runs (monomial_of σ)
-          (moved_next s.problem.problem s.state left.run.run (same_run s.state left.run.run left.run.stands) left.last (monomial_of σ) (first_next s.problem.problem s.handled s.state left.last ws left.exact ascending σ others is).1);
+          (moved_next s.problem.problem s.state left.run.run
+                (same_run s.state left.run.run left.run.stands) left.last (monomial_of σ)
+                (first_next s.problem.problem s.handled s.state left.last ws left.exact ascending σ
+                  others is).1);
       stands = left.run.stands;
     }
 
-    pub budget_bases : ¬ (s.handled < s.problem.problem.steps) → HasBasesAt s.problem.problem s.state (Ending.budget (monomial_of σ))
-    budget_bases n = end_facts s.problem.problem (snapshot_prime s h) s.handled s.state (Ending.budget (monomial_of σ)) (budget_end n)
+    pub budget_bases : ¬ (s.handled < s.problem.problem.steps)
+        → HasBasesAt s.problem.problem s.state (Ending.budget (monomial_of σ))
+    budget_bases n =
+        end_facts s.problem.problem (snapshot_prime s h) s.handled s.state
+        (Ending.budget (monomial_of σ)) (budget_end n)

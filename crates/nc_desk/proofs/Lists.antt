@@ -18,7 +18,8 @@ not_both σ τ e f = apart (compare_sigs σ τ) (compare_sigs τ σ) (sigs_order
     apart a Equal h e f = grind (arith, h, e, f)
     apart a Greater h e f = grind (arith, h, e, f)
 
-each : (σ : Sig) (xs : List Sig) (q : Sig) → AllByRecursion (λ y. compare_sigs σ y ≡ Less) xs → Among q xs → compare_sigs σ q ≡ Less
+each : (σ : Sig) (xs : List Sig) (q : Sig) → AllByRecursion (λ y. compare_sigs σ y ≡ Less) xs
+    → Among q xs → compare_sigs σ q ≡ Less
 each σ [] q a h = absurd h
 each σ (x ∷ xs) q a (inl e) = subst (λ y. compare_sigs σ y ≡ Less) (sym e) a.0
 each σ (x ∷ xs) q a (inr h) = each σ xs q a.1 h
@@ -29,13 +30,17 @@ module _ (σ : Sig) (others : List Sig) (ascending : IsAscending (σ ∷ others)
 
   -- the first one is less than each other one
   pub first_less : (q : Sig) → Contains (σ ∷ others) q → (q ≡ σ) ⊎ (compare_sigs σ q ≡ Less)
-  first_less q c = elim (contains_among q (σ ∷ others) c) [ inl e ↦ inl e | inr h ↦ inr (behind q h) ]
+  first_less q c =
+      elim (contains_among q (σ ∷ others) c) [ inl e ↦ inl e | inr h ↦ inr (behind q h) ]
 
   -- the others are those that are not the first one
   pub others_other : (q : Sig) → Contains others q → Contains (σ ∷ others) q × (q ≢ σ)
   others_other q c =
       let h = contains_among q others c in
-      (among_contains q (σ ∷ others) (inr h), λ e. let l = subst (λ y. compare_sigs σ y ≡ Less) e (behind q h) in not_both σ σ l l)
+      (among_contains q (σ ∷ others) (inr h), λ e. let l = subst (λ y. compare_sigs σ y ≡ Less) e
+            (behind q h) in not_both σ σ l l)
 
   pub other_others : (q : Sig) → Contains (σ ∷ others) q → q ≢ σ → Contains others q
-  other_others q c n = elim (contains_among q (σ ∷ others) c) [ inl e ↦ absurd (n e) | inr h ↦ among_contains q others h ]
+  other_others q c n =
+      elim (contains_among q (σ ∷ others) c)
+      [ inl e ↦ absurd (n e) | inr h ↦ among_contains q others h ]

@@ -19,50 +19,75 @@ use Rattle.nc_theory.specs.States.{Entry}
 use Rattle.std.proofs.Common.{Contains, IfSome, IsNone, List, None, Option, Some, [], ap, arith, inl, inr, map, refl, subst, sym, ◌+◌, ◌∙◌, ◌∷◌, ◌≡◌, ◌↔◌, ◌⊎◌}
 
 -- traces do not show in the leads
-pub untraced_leads : (s : Setting) (es : List Entry) → leads_of s (map untraced_entry es) ≡ leads_of s es
+pub untraced_leads : (s : Setting) (es : List Entry) → leads_of s (map untraced_entry es) ≡ leads_of
+    s es
 untraced_leads s [] = refl
 untraced_leads s (e ∷ es) = ap (λ (ls : List Lead). lead_of s e ∷ ls) (untraced_leads s es)
 
-pub next_of_run : (s : Snapshot) → IsSnapshot s → (τ : Monomial) → IsNextAt s τ → IsNextOfRun s.problem.problem s.handled s.state τ
-next_of_run s h τ x = (goes_on s.problem.problem (snapshot_prime s h) s.handled s.state x.last x.run).next τ x.next
+pub next_of_run : (s : Snapshot) → IsSnapshot s → (τ : Monomial) → IsNextAt s τ
+    → IsNextOfRun s.problem.problem s.handled s.state τ
+next_of_run s h τ x =
+    (goes_on s.problem.problem (snapshot_prime s h) s.handled s.state x.last x.run).next τ x.next
 
 -- what was appended and inserted
-module _ (s : Snapshot) (τ : Monomial) (o : Outcome) (handles : Handles s.problem.problem.setting s.state τ o) (later : Snapshot) (problem : later.problem ≡ s.problem) (handled : later.handled ≡ s.handled + 1) (is : later.state ≡ untraced (state_after s.state τ o)) where
-  pub later_is : later ≡ record { problem = s.problem; handled = s.handled + 1; state = untraced (state_after s.state τ o) }
+module _ (s : Snapshot) (τ : Monomial) (o : Outcome)
+    (handles : Handles s.problem.problem.setting s.state τ o) (later : Snapshot)
+    (problem : later.problem ≡ s.problem) (handled : later.handled ≡ s.handled + 1)
+    (is : later.state ≡ untraced (state_after s.state τ o)) where
+  pub later_is : later ≡ record { problem = s.problem;
+        handled = s.handled + 1; state = untraced (state_after s.state τ o) }
   later_is = λ i. record { problem = problem i; handled = handled i; state = is i }
 
-  module _ (leads : List Lead) (old found new : List Sig) (news : AreNews s.problem.problem s.state τ o leads found) (union : IsUnion old found new) (ascending : IsAscending new) where
+  module _ (leads : List Lead) (old found new : List Sig)
+      (news : AreNews s.problem.problem s.state τ o leads found) (union : IsUnion old found new)
+      (ascending : IsAscending new) where
     later_listed : LeadsOf later leads
-    later_listed = subst (λ (t : Snapshot). LeadsOf t leads) (sym later_is) (news.listed ∙ sym (untraced_leads s.problem.problem.setting (state_after s.state τ o).entries))
+    later_listed =
+        subst (λ (t : Snapshot). LeadsOf t leads) (sym later_is)
+        (news.listed ∙ sym (untraced_leads s.problem.problem.setting
+            (state_after s.state τ o).entries))
 
-    added : (σ : Sig) → Contains new σ ↔ (Contains old σ ⊎ IsBrought s.problem.problem s.state τ o σ)
+    added : (σ : Sig) → Contains new σ
+        ↔ (Contains old σ ⊎ IsBrought s.problem.problem s.state τ o σ)
     added σ = (λ c. there ((union σ).0 c), λ c. (union σ).1 (back c))
       where
-        there : Contains old σ ⊎ Contains found σ → Contains old σ ⊎ IsBrought s.problem.problem s.state τ o σ
+        there : Contains old σ ⊎ Contains found σ → Contains old σ
+            ⊎ IsBrought s.problem.problem s.state τ o σ
         there (inl c) = inl c
         there (inr c) = inr ((news.exact σ).0 c)
 
-        back : Contains old σ ⊎ IsBrought s.problem.problem s.state τ o σ → Contains old σ ⊎ Contains found σ
+        back : Contains old σ ⊎ IsBrought s.problem.problem s.state τ o σ → Contains old σ
+            ⊎ Contains found σ
         back (inl c) = inl c
         back (inr b) = inr ((news.exact σ).1 b)
 
     pub advances : IsAdvance s τ later leads old new
-    advances = record { outcome = o; handles = handles; snapshot = later_is; listed = later_listed; ascending = ascending; added = added }
+    advances =
+        record { outcome = o; handles = handles;
+          snapshot = later_is; listed = later_listed; ascending = ascending; added = added }
 
 -- ---- the desk's parts
 
 module _ (s : Snapshot) (h : IsSnapshot s) (ws : List Sig) (left : AreLeft s ws) where
   pub some_left : Waits s → ws ≡ [] → ⊥
-  some_left w e = none_next s.problem.problem s.handled s.state left.last ws left.exact e (snapshot_prime s h) left.run w.0 w.1
+  some_left w e =
+      none_next s.problem.problem s.handled s.state left.last ws left.exact e (snapshot_prime s h)
+      left.run w.0 w.1
 
   module _ (ascending : IsAscending ws) (σ : Sig) (others : List Sig) (is : ws ≡ σ ∷ others) where
     pub least_degree : HasDegree s.problem.problem.setting σ
-    least_degree = (first_next s.problem.problem s.handled s.state left.last ws left.exact ascending σ others is).0
+    least_degree =
+        (first_next s.problem.problem s.handled s.state left.last ws left.exact ascending σ others
+          is).0
 
     pub least_next : IsNextAt s (monomial_of σ)
-    least_next = record { last = left.last; run = left.run; next = (first_next s.problem.problem s.handled s.state left.last ws left.exact ascending σ others is).1 }
+    least_next =
+        record { last = left.last; run = left.run;
+          next = (first_next s.problem.problem s.handled s.state left.last ws left.exact ascending σ
+            others is).1 }
 
-    module _ (later : Snapshot) (leads : List Lead) (new : List Sig) (a : IsAdvance s (monomial_of σ) later leads ws new) where
+    module _ (later : Snapshot) (leads : List Lead) (new : List Sig)
+        (a : IsAdvance s (monomial_of σ) later leads ws new) where
       pub is_step : IsStep s later
       is_step = record {
         signature = monomial_of σ;
@@ -75,16 +100,24 @@ module _ (s : Snapshot) (h : IsSnapshot s) (ws : List Sig) (left : AreLeft s ws)
       }
 
       pub left_then : (first : Sig) (rest : List Sig) → new ≡ first ∷ rest → AreLeft later rest
-      left_then first rest taken = subst (λ (t : Snapshot). AreLeft t rest) (sym a.snapshot) (record {
+      left_then first rest taken =
+          subst (λ (t : Snapshot). AreLeft t rest) (sym a.snapshot) (record {
         last = Some (monomial_of σ);
-        run = later_run s.problem.problem s.handled s.state left.last ws left.exact (snapshot_prime s h) left.run ascending σ others is a.outcome a.handles new a.ascending a.added first rest taken;
-        exact = left_later s.problem.problem s.handled s.state left.last ws left.exact (snapshot_prime s h) left.run ascending σ others is a.outcome a.handles new a.ascending a.added first rest taken;
+        run = later_run s.problem.problem s.handled s.state left.last ws left.exact
+            (snapshot_prime s h) left.run ascending σ others is a.outcome a.handles new a.ascending
+            a.added first rest taken;
+        exact = left_later s.problem.problem s.handled s.state left.last ws left.exact
+            (snapshot_prime s h) left.run ascending σ others is a.outcome a.handles new a.ascending
+            a.added first rest taken;
       })
 
       pub some_then : new ≡ [] → ⊥
-      some_then e = omega (arith, (subst (λ l. Contains l σ) e ((a.added σ).1 (inl (subst (λ l. Contains l σ) (sym is) (0, omega arith, refl))))).1)
+      some_then e =
+          omega (arith, (subst (λ l. Contains l σ) e
+              ((a.added σ).1 (inl (subst (λ l. Contains l σ) (sym is) (0, omega arith, refl))))).1)
 
       -- whatever is taken out first
-      pub left_taken : {A : Type 0} (f : A → Sig) (rest : List Sig) (o : Option A) → IfSome o (λ x. new ≡ f x ∷ rest) → IsNone o ↔ (new ≡ []) → AreLeft later rest
+      pub left_taken : {A : Type 0} (f : A → Sig) (rest : List Sig) (o : Option A)
+          → IfSome o (λ x. new ≡ f x ∷ rest) → IsNone o ↔ (new ≡ []) → AreLeft later rest
       left_taken f rest None h n = absurd (some_then (n.0 refl))
       left_taken f rest (Some x) h n = left_then (f x) rest h

@@ -20,14 +20,18 @@ pub record DeskValue : Type 0 where
   pub snapshot : Snapshot
   pub window : ℕ
 
--- the signatures are exactly the candidates left after the last one that was handled, each with its degree
+-- the signatures are exactly the candidates left after the last one that was handled, each with its
+-- degree
 pub record AreLeft (s : Snapshot) (signatures : List Sig) : Type 0 where
   pub last : Option Monomial
   pub run : IsRunTo s.problem.problem s.handled s.state last
-  pub exact : (σ : Sig) → Contains signatures σ ↔ (HasDegree s.problem.problem.setting σ × IsWaiting s.problem.problem s.state last (monomial_of σ))
+  pub exact : (σ : Sig) → Contains signatures σ
+      ↔ (HasDegree s.problem.problem.setting σ × IsWaiting s.problem.problem s.state last
+        (monomial_of σ))
 
 -- what is kept beside a snapshot fits it, and the window is 1 to 4,096
-pub record IsDesk (s : Snapshot) (leads : List Lead) (signatures : List Sig) (window : ℕ) : Type 0 where
+pub record IsDesk (s : Snapshot) (leads : List Lead) (signatures : List Sig) (window : ℕ) : Type 0
+    where
   pub listed : LeadsOf s leads
   pub left : AreLeft s signatures
   pub some : 1 ≤ window
@@ -47,7 +51,8 @@ Waits s = (τ : Monomial) × IsNextOfRun s.problem.problem s.handled s.state τ
 abbrev pub MayStep : Snapshot → Type 0
 MayStep s = Waits s × (s.handled < s.problem.problem.steps)
 
--- the later desk is of the same problem and the same window, and has handled as many signatures or more
+-- the later desk is of the same problem and the same window, and has handled as many signatures or
+-- more
 pub record IsLater (old new : DeskValue) : Type 0 where
   pub problem : new.snapshot.problem ≡ old.snapshot.problem
   pub window : new.window ≡ old.window

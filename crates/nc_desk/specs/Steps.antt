@@ -28,18 +28,25 @@ pub record IsStep (old new : Snapshot) : Type 0 where
 
 -- σ lies within the bound and is the signature of an ambiguity that the outcome at τ brings
 abbrev pub IsBrought : Problem → State → Monomial → Outcome → Sig → Type 0
-IsBrought P state τ o σ = HasDegree P.setting σ × IsWithin P (monomial_of σ) × BringsAmbiguity P.setting state τ o (monomial_of σ)
+IsBrought P state τ o σ =
+    HasDegree P.setting σ × IsWithin P (monomial_of σ)
+    × BringsAmbiguity P.setting state τ o (monomial_of σ)
 
 -- the leads after an outcome at τ, and the signatures that it brings
-pub record AreNews (P : Problem) (state : State) (τ : Monomial) (o : Outcome) (leads : List Lead) (signatures : List Sig) : Type 0 where
+pub record AreNews (P : Problem) (state : State) (τ : Monomial) (o : Outcome) (leads : List Lead)
+    (signatures : List Sig) : Type 0 where
   pub listed : leads ≡ leads_of P.setting (state_after state τ o).entries
   pub exact : (σ : Sig) → Contains signatures σ ↔ IsBrought P state τ o σ
 
--- the later snapshot and its leads are those after an outcome at τ, and the signatures that it brings were added
-pub record IsAdvance (s : Snapshot) (τ : Monomial) (later : Snapshot) (leads : List Lead) (old new : List Sig) : Type 0 where
+-- the later snapshot and its leads are those after an outcome at τ, and the signatures that it
+-- brings were added
+pub record IsAdvance (s : Snapshot) (τ : Monomial) (later : Snapshot) (leads : List Lead)
+    (old new : List Sig) : Type 0 where
   pub outcome : Outcome
   pub handles : Handles s.problem.problem.setting s.state τ outcome
-  pub snapshot : later ≡ record { problem = s.problem; handled = s.handled + 1; state = untraced (state_after s.state τ outcome) }
+  pub snapshot : later ≡ record { problem = s.problem;
+        handled = s.handled + 1; state = untraced (state_after s.state τ outcome) }
   pub listed : LeadsOf later leads
   pub ascending : IsAscending new
-  pub added : (σ : Sig) → Contains new σ ↔ (Contains old σ ⊎ IsBrought s.problem.problem s.state τ outcome σ)
+  pub added : (σ : Sig) → Contains new σ
+      ↔ (Contains old σ ⊎ IsBrought s.problem.problem s.state τ outcome σ)

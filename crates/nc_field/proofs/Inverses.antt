@@ -24,25 +24,31 @@ coprime_below p a prime some below = record { divisors = λ d h k. by_case d k (
 
 pub coprime_rest : (m n : ℕ) → AreCoprime m n → AreCoprime n (m % n)
 coprime_rest m n h = record {
-  divisors = λ d k r. h.divisors d (subst (λ x. d ∣ x) (div-add-mod m n) (dvd-add d (dvd-mul_right_of_dvd d k (m / n)) r)) k;
+  divisors =
+      λ d k r. h.divisors d (subst (λ x. d ∣ x) (div-add-mod m n)
+        (dvd-add d (dvd-mul_right_of_dvd d k (m / n)) r)) k;
 }
 
 pub rest_some : (m n : ℕ) → AreCoprime m n → (n ≡ 1 → ⊥) → 0 < m % n
-rest_some m n h other = positive (m % n) (λ e. other (h.divisors n (dvd_of_mod-eq-zero n e) (dvd_refl n)))
+rest_some m n h other =
+    positive (m % n) (λ e. other (h.divisors n (dvd_of_mod-eq-zero n e) (dvd_refl n)))
   where
     positive : (k : ℕ) → (k ≡ 0 → ⊥) → 0 < k
     positive zero none = absurd (none refl)
     positive (suc k) none = omega arith
 
 -- the factor of the rest: s is that of m, t that of n, and x that of the multiple of n
-rest_factor : (p a m n s t x : ℕ) → x < p → x ≡ (m / n * t) % p → (a * s) % p ≡ m % p → (a * t) % p ≡ n % p → (a * ((s + (p - x)) % p)) % p ≡ (m % n) % p
+rest_factor : (p a m n s t x : ℕ) → x < p → x ≡ (m / n * t) % p → (a * s) % p ≡ m % p
+    → (a * t) % p ≡ n % p → (a * ((s + (p - x)) % p)) % p ≡ (m % n) % p
 rest_factor p a m n s t x below is of_m of_n =
-    mul-mod_second a (s + (p - x)) p ∙ same_cancel p (a * (s + (p - x))) (m % n) (m / n * n) (omega arith) (left ∙ sym right)
+    mul-mod_second a (s + (p - x)) p ∙ same_cancel p (a * (s + (p - x))) (m % n) (m / n * n)
+        (omega arith) (left ∙ sym right)
   where
     multiple : (m / n * n) % p ≡ (a * x) % p
     multiple =
         same_mul p (m / n) n (a * t) (sym of_n)
-        ∙ (ap (λ k. k % p) (regroup (m / n)) ∙ (sym (mul-mod_second a (m / n * t) p) ∙ ap (λ k. (a * k) % p) (sym is)))
+        ∙ (ap (λ k. k % p) (regroup (m / n))
+              ∙ (sym (mul-mod_second a (m / n * t) p) ∙ ap (λ k. (a * k) % p) (sym is)))
       where
         regroup : (q : ℕ) → q * (a * t) ≡ a * (q * t)
         regroup q = omega arith
@@ -90,12 +96,15 @@ first_step p a prime some below = record {
     zero_there : a * 0 ≡ 0
     zero_there = omega arith
 
-pub next_step : (p a m s n t x u : ℕ) → IsStep p a m s n t → (n ≡ 1 → ⊥) → x < p → x ≡ (m / n * t) % p → u < p → u ≡ (s + (p - x)) % p → IsStep p a n t (m % n) u
+pub next_step : (p a m s n t x u : ℕ) → IsStep p a m s n t → (n ≡ 1 → ⊥) → x < p
+    → x ≡ (m / n * t) % p → u < p → u ≡ (s + (p - x)) % p → IsStep p a n t (m % n) u
 next_step p a m s n t x u h other x_below x_is u_below u_is = record {
   dividend_below = h.divisor_below;
   divisor_below = u_below;
   to_dividend = h.to_divisor;
-  to_divisor = ap (λ k. (a * k) % p) u_is ∙ rest_factor p a m n s t x x_below x_is h.to_dividend h.to_divisor;
+  to_divisor =
+      ap (λ k. (a * k) % p) u_is ∙ rest_factor p a m n s t x x_below x_is h.to_dividend
+      h.to_divisor;
   some = rest_some m n h.coprime other;
   falls = mod-lt m h.some;
   within = omega (arith, h.falls, h.within);

@@ -7,7 +7,9 @@ use Rattle.std.specs.Char.{IsAsciiDigit, digit_value}
 use Rattle.std.specs.Str.Parse.{digits_value}
 
 -- the value of one digit more
-pub value_more : (digits : List ℕ) (i n digit : ℕ) → i < length digits → n ≡ digits_value 10 (take i digits) → digit ≡ get_or digits i 0 → IsAsciiDigit digit → n * 10 + (digit - 48) ≡ digits_value 10 (take (i + 1) digits)
+pub value_more : (digits : List ℕ) (i n digit : ℕ) → i < length digits
+    → n ≡ digits_value 10 (take i digits) → digit ≡ get_or digits i 0 → IsAsciiDigit digit
+    → n * 10 + (digit - 48) ≡ digits_value 10 (take (i + 1) digits)
 value_more digits i n digit h e d is =
     omega (arith, digits_value_more 10 digits i h, e, digit_value_digit digit is, ap digit_value d)
 

@@ -29,11 +29,13 @@ none_divides_at p (suc d) k h one few e =
     let parts = both_true (not (nat_eq (p % suc (suc d)) 0)) (none_divides p d) h in
     by_place parts.0 (none_divides_at p d k parts.1 one) (cases_lt (d + 1) k)
   where
-    by_place : not (nat_eq (p % suc (suc d)) 0) ≡ true → (k ≤ d + 1 → p % k ≡ 0 → ⊥) → (d + 1 < k) ⊎ (k ≤ d + 1) → ⊥
+    by_place : not (nat_eq (p % suc (suc d)) 0) ≡ true → (k ≤ d + 1 → p % k ≡ 0 → ⊥) → (d + 1 < k)
+        ⊎ (k ≤ d + 1) → ⊥
     by_place top below (inr q) = below q e
     by_place top below (inl q) =
         let same : k ≡ suc (suc d) = omega arith in
-        not_true (nat_eq (p % suc (suc d)) 0) top ((Decides-eqb (p % suc (suc d)) 0).1 (sym (ap (λ n. p % n) same) ∙ e))
+        not_true (nat_eq (p % suc (suc d)) 0) top
+            ((Decides-eqb (p % suc (suc d)) 0).1 (sym (ap (λ n. p % n) same) ∙ e))
 
 -- a number with no divisor between 1 and itself is a prime
 prime_by_test : (p d : ℕ) → p ≡ d + 2 → none_divides p d ≡ true → IsPrime p
@@ -45,8 +47,11 @@ prime_by_test p d size test = record { above_one = omega arith; divisors = each 
       where
         by_size : (1 < suc k) ⊎ (suc k ≤ 1) → (suc k < p) ⊎ (p ≤ suc k) → (suc k ≡ 1) ⊎ (suc k ≡ p)
         by_size (inr low) other = inl (omega arith)
-        by_size (inl high) (inl low) = absurd (none_divides_at p d (suc k) test high (omega arith) (mod-eq-zero_of_dvd (suc k) h))
-        by_size (inl high) (inr top) = let most : suc k ≤ p = le_of_dvd (omega arith) h in inr (omega arith)
+        by_size (inl high) (inl low) =
+            absurd (none_divides_at p d (suc k) test high (omega arith)
+              (mod-eq-zero_of_dvd (suc k) h))
+        by_size (inl high) (inr top) =
+            let most : suc k ≤ p = le_of_dvd (omega arith) h in inr (omega arith)
 
 -- what holds of each number of the list
 module _ (P : ℕ → Type 0) (p : ℕ) where
@@ -60,9 +65,11 @@ module _ (P : ℕ → Type 0) (p : ℕ) where
       by_test true d f = is n h d
       by_test false d f = more f
 
-  listed_all : P 2 → P 3 → P 5 → P 7 → P 101 → P 251 → P 32003 → P 65521 → is_listed_prime p ≡ true → P p
+  listed_all : P 2 → P 3 → P 5 → P 7 → P 101 → P 251 → P 32003 → P 65521 → is_listed_prime p ≡ true
+      → P p
   listed_all two three five seven a b c d =
-      or 2 _ two (or 3 _ three (or 5 _ five (or 7 _ seven (or 101 _ a (or 251 _ b (or 32003 _ c (is 65521 d)))))))
+      or 2 _ two (or 3 _ three (or 5 _ five
+              (or 7 _ seven (or 101 _ a (or 251 _ b (or 32003 _ c (is 65521 d)))))))
 
 pub listed_is_prime : (p : ℕ) → is_listed_prime p ≡ true → IsPrime p
 listed_is_prime p =
@@ -78,4 +85,5 @@ listed_is_prime p =
 
 pub listed_is_small : (p : ℕ) → is_listed_prime p ≡ true → p < 65536
 listed_is_small p =
-    listed_all (λ n. n < 65536) p (omega arith) (omega arith) (omega arith) (omega arith) (omega arith) (omega arith) (omega arith) (omega arith)
+    listed_all (λ n. n < 65536) p (omega arith) (omega arith) (omega arith) (omega arith)
+        (omega arith) (omega arith) (omega arith) (omega arith)

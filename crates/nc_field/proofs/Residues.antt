@@ -11,7 +11,8 @@ pub same_add : (p x y z : ℕ) → x % p ≡ y % p → (x + z) % p ≡ (y + z) %
 same_add p x y z e = sym (mod-add-mod x p z) ∙ ap (λ n. (n + z) % p) e ∙ mod-add-mod y p z
 
 pub same_add_right : (p x y z : ℕ) → x % p ≡ y % p → (z + x) % p ≡ (z + y) % p
-same_add_right p x y z e = ap (λ n. n % p) (omega arith) ∙ same_add p x y z e ∙ ap (λ n. n % p) (omega arith)
+same_add_right p x y z e =
+    ap (λ n. n % p) (omega arith) ∙ same_add p x y z e ∙ ap (λ n. n % p) (omega arith)
 
 pub same_mul : (p c x y : ℕ) → x % p ≡ y % p → (c * x) % p ≡ (c * y) % p
 same_mul p c x y e = sym (mul-mod_second c x p) ∙ ap (λ n. (c * n) % p) e ∙ mul-mod_second c y p
@@ -23,7 +24,9 @@ same_cancel p x y z some e = back x ∙ same_add p (x + z) (y + z) ((p - 1) * z)
     spread q n = omega arith
 
     whole : (n : ℕ) → n + p * z ≡ (n + z) + (p - 1) * z
-    whole n = let one_more : p ≡ (p - 1) + 1 = omega arith in ap (λ m. n + m * z) one_more ∙ spread (p - 1) n
+    whole n =
+        let one_more : p ≡ (p - 1) + 1 =
+        omega arith in ap (λ m. n + m * z) one_more ∙ spread (p - 1) n
 
     back : (n : ℕ) → n % p ≡ ((n + z) + (p - 1) * z) % p
     back n = sym (add-mul-mod_self_left n p z) ∙ ap (λ m. m % p) (whole n)

@@ -12,24 +12,31 @@ use Rattle.std.proofs.Common.{◌≡◌, ℕ, ◌<◌, ◌≤◌, ◌++◌, ◌�
 use Rattle.std.specs.List.{slice_get}
 use Rattle.std.proofs.lemmas.Option.{slice_get-get_or, slice_get_within, get_or_from_slice_get}
 
-slice_get_mapped : {A B : Type 0} (f : A → B) (xs : List A) (k : ℕ) (x : A) → slice_get xs k ≡ Some x → slice_get (map f xs) k ≡ Some (f x)
+slice_get_mapped : {A B : Type 0} (f : A → B) (xs : List A) (k : ℕ) (x : A)
+    → slice_get xs k ≡ Some x → slice_get (map f xs) k ≡ Some (f x)
 slice_get_mapped f [] k x e = cc
 slice_get_mapped f (y ∷ ys) zero x e = let d : y ≡ x = cc in ap (λ z. Some (f z)) d
 slice_get_mapped f (y ∷ ys) (suc k) x e = slice_get_mapped f ys k x e
 
-slice_get_source : {A B : Type 0} (f : A → B) (xs : List A) (k : ℕ) (y : B) → slice_get (map f xs) k ≡ Some y → (x : A) × (slice_get xs k ≡ Some x) × (f x ≡ y)
+slice_get_source : {A B : Type 0} (f : A → B) (xs : List A) (k : ℕ) (y : B)
+    → slice_get (map f xs) k ≡ Some y → (x : A) × (slice_get xs k ≡ Some x) × (f x ≡ y)
 slice_get_source f [] k y e = cc
 slice_get_source f (x ∷ xs) zero y e = (x, refl, cc)
 slice_get_source f (x ∷ xs) (suc k) y e = slice_get_source f xs k y e
 
 module _ (s : Setting) (law : SigLaw s) (entries : List Entry) (w : Word) (β : Sig) where
   -- a divisor below β is a place of its entry's pair
-  pub place_of : (d : Divisor s entries w) → IsBelowSig s β (signature_at s entries w d) → RegularAt (leads_of s entries) w β d.listed.0 d.left d.right
+  pub place_of : (d : Divisor s entries w) → IsBelowSig s β (signature_at s entries w d)
+      → RegularAt (leads_of s entries) w β d.listed.0 d.left d.right
   place_of d below =
       record {
         lead = lead_of s d.entry;
-        stands = slice_get_mapped (lead_of s) entries d.listed.0 d.entry (slice_get-get_or entries d.listed.0 d.entry d.listed.1 ∙ ap (λ e. Some e) d.listed.2);
-        regular = record { spells = d.spells; below = ap (λ σ. compare_sigs σ β) (sym (law.multiples d.left d.right d.entry.signature)) ∙ below };
+        stands =
+            slice_get_mapped (lead_of s) entries d.listed.0 d.entry
+            (slice_get-get_or entries d.listed.0 d.entry d.listed.1 ∙ ap (λ e. Some e) d.listed.2);
+        regular =
+            record { spells = d.spells; below = ap (λ σ. compare_sigs σ β)
+              (sym (law.multiples d.left d.right d.entry.signature)) ∙ below };
       }
 
   -- a place of a pair is a divisor below β of its entry
@@ -47,23 +54,36 @@ module _ (s : Setting) (law : SigLaw s) (entries : List Entry) (w : Word) (β : 
           record {
             divisor = record {
               entry = e;
-              listed = (i, slice_get_within entries i e found, get_or_from_slice_get entries i e e found);
+              listed =
+                  (i, slice_get_within entries i e found,
+                    get_or_from_slice_get entries i e e found);
               left = u;
               right = v;
               spells = ap (λ (l : Lead). u ++ (l.word ++ v)) same ∙ r.regular.spells;
             };
             index = refl;
             left = refl;
-            below = ap (λ z. compare_sigs z β) (law.multiples u v e.signature) ∙ (ap (λ (l : Lead). compare_sigs (sig_times u l.signature v) β) same ∙ r.regular.below);
+            below = ap (λ z. compare_sigs z β) (law.multiples u v e.signature)
+                ∙ (ap (λ (l : Lead). compare_sigs (sig_times u l.signature v) β) same
+                  ∙ r.regular.below);
           }
 
-  pub chosen : (answer : Option Hit) → IsFirstRegular (leads_of s entries) w β answer → IsChosen s entries w β answer
+  pub chosen : (answer : Option Hit) → IsFirstRegular (leads_of s entries) w β answer
+      → IsChosen s entries w β answer
   chosen None none = λ d below. none d.listed.0 d.left d.right (place_of d below)
-  chosen (Some h) (i, u, v, first, number, place) = (at.divisor, record { allowed = at.below; least = λ e below. go e (first.least e.listed.0 e.left e.right (place_of e below)) }, omega (arith, number, at.index), ap length at.left ∙ sym place)
+  chosen (Some h) (i, u, v, first, number, place) =
+      (at.divisor, record { allowed = at.below;
+          least = λ e below. go e (first.least e.listed.0 e.left e.right (place_of e below)) },
+        omega (arith, number, at.index), ap length at.left ∙ sym place)
     where
       at : DivisorAt i u v
       at = divisor_at i u v first.regular
 
-      go : (e : Divisor s entries w) → (i < e.listed.0) ⊎ ((i ≡ e.listed.0) × (length u ≤ length e.left)) → (number_of s entries w at.divisor < number_of s entries w e) ⊎ ((number_of s entries w at.divisor ≡ number_of s entries w e) × (length at.divisor.left ≤ length e.left))
+      go : (e : Divisor s entries w) → (i < e.listed.0)
+          ⊎ ((i ≡ e.listed.0) × (length u ≤ length e.left))
+          → (number_of s entries w at.divisor < number_of s entries w e)
+          ⊎ ((number_of s entries w at.divisor ≡ number_of s entries w e)
+            × (length at.divisor.left ≤ length e.left))
       go e (inl l) = inl (omega (arith, at.index, l))
-      go e (inr (same, l)) = inr (omega (arith, at.index, same), omega (arith, ap length at.left, l))
+      go e (inr (same, l)) =
+          inr (omega (arith, at.index, same), omega (arith, ap length at.left, l))

@@ -17,7 +17,9 @@ use Rattle.std.specs.declared.cmp.Ordering.TheVariants.{Less}
 
 -- an entry's leading word and signature
 abbrev pub lead_of : Setting → Entry → Lead
-lead_of s e = record { word = leading s.prime e.polynomial; signature = sig_of (generator_weight s) e.signature }
+lead_of s e =
+    record { word = leading s.prime e.polynomial;
+      signature = sig_of (generator_weight s) e.signature }
 
 -- those of all entries
 abbrev pub leads_of : Setting → List Entry → List Lead
@@ -27,11 +29,17 @@ leads_of s entries = map (lead_of s) entries
 abbrev pub IsBelowSig : Setting → Sig → Monomial → Type 0
 IsBelowSig s β σ = compare_sigs (sig_of (generator_weight s) σ) β ≡ Less
 
--- of the divisors of w below β the chosen one, by its entry's number and by how many letters stand before it; None exactly where there is none
+-- of the divisors of w below β the chosen one, by its entry's number and by how many letters stand
+-- before it; None exactly where there is none
 abbrev pub IsChosen : Setting → List Entry → Word → Sig → Option Hit → Type 0
-IsChosen s entries w β None = (d : Divisor s entries w) → ¬ (IsBelowSig s β (signature_at s entries w d))
-IsChosen s entries w β (Some h) = (d : Divisor s entries w) × IsChosenDivisor s entries (IsBelowSig s β) w d × (number_of s entries w d ≡ h.number) × (length d.left ≡ h.place)
+IsChosen s entries w β None =
+    (d : Divisor s entries w) → ¬ (IsBelowSig s β (signature_at s entries w d))
+IsChosen s entries w β (Some h) =
+    (d : Divisor s entries w) × IsChosenDivisor s entries (IsBelowSig s β) w d
+    × (number_of s entries w d ≡ h.number) × (length d.left ≡ h.place)
 
 -- the search among the entries' pairs finds the chosen divisor
 abbrev pub LeadsLaw : Type 0
-LeadsLaw = (s : Setting) (entries : List Entry) (w : Word) (β : Sig) (answer : Option Hit) → IsFirstRegular (leads_of s entries) w β answer → IsChosen s entries w β answer
+LeadsLaw =
+    (s : Setting) (entries : List Entry) (w : Word) (β : Sig) (answer : Option Hit)
+    → IsFirstRegular (leads_of s entries) w β answer → IsChosen s entries w β answer

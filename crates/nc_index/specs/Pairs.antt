@@ -15,7 +15,8 @@ pub record Lead : Type 0 where
   pub word : Word
   pub signature : Sig
 
--- the word of l stands in w with u before it and v behind it, and the multiple there has a signature below β
+-- the word of l stands in w with u before it and v behind it, and the multiple there has a
+-- signature below β
 pub record IsRegular (l : Lead) (w : Word) (β : Sig) (u v : Word) : Type 0 where
   pub spells : u ++ (l.word ++ v) ≡ w
   pub below : compare_sigs (sig_times u l.signature v) β ≡ Less
@@ -38,9 +39,13 @@ pub record RegularAt (leads : List Lead) (w : Word) (β : Sig) (i : ℕ) (u v : 
 -- no pair before this one stands so, and this one nowhere further to the left
 pub record IsFirst (leads : List Lead) (w : Word) (β : Sig) (i : ℕ) (u v : Word) : Type 0 where
   pub regular : RegularAt leads w β i u v
-  pub least : (j : ℕ) (x y : Word) → RegularAt leads w β j x y → (i < j) ⊎ ((i ≡ j) × (length u ≤ length x))
+  pub least : (j : ℕ) (x y : Word) → RegularAt leads w β j x y → (i < j)
+      ⊎ ((i ≡ j) × (length u ≤ length x))
 
--- the first pair that stands so, by its number, counted from 1, and its leftmost place; None exactly where there is none
+-- the first pair that stands so, by its number, counted from 1, and its leftmost place; None
+-- exactly where there is none
 abbrev pub IsFirstRegular : List Lead → Word → Sig → Option Hit → Type 0
 IsFirstRegular leads w β None = (i : ℕ) (u v : Word) → ¬ (RegularAt leads w β i u v)
-IsFirstRegular leads w β (Some h) = (i : ℕ) × (u : Word) × (v : Word) × IsFirst leads w β i u v × (h.number ≡ i + 1) × (h.place ≡ length u)
+IsFirstRegular leads w β (Some h) =
+    (i : ℕ) × (u : Word) × (v : Word) × IsFirst leads w β i u v × (h.number ≡ i + 1)
+    × (h.place ≡ length u)

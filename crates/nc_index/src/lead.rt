@@ -37,7 +37,8 @@ impl Model for Lead {
 impl Lead {
     /// The pair of a copy of the word and of the signature, which is shared.
     pub(crate) fn of(word: &Word, signature: &Arc<Sig, Global>) -> Result<Lead, AllocError>
-        ensures { IfOk result (λ l. l ≡ record { word = word.now; signature = arc_value signature.now }) }
+        ensures { IfOk result (λ l. l ≡ record { word = word.now;
+                  signature = arc_value signature.now }) }
     {
         Ok(Lead {
             word: word.copy()?,
@@ -71,7 +72,8 @@ impl Lead {
     /// Compares the degree of a multiple with a leading word of this weight with that of the bound.
     fn compare_degree(&self, weight: u128, bound: &Sig) -> Ordering
         requires { weight ≤ 100 * 2 ^ 64 }
-        ensures { result ≡ nat_cmp (weight + self.now.signature.degree) (bound.now.degree + word_weight self.now.word) }
+        ensures { result ≡ nat_cmp (weight + self.now.signature.degree)
+              (bound.now.degree + word_weight self.now.word) }
     {
         let multiple = weight + u128::from(self.degree);
         let limit = u128::from(bound.degree) + u128::from(self.word.weight());

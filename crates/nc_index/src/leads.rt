@@ -62,7 +62,8 @@ impl Leads {
     /// Adds a pair: a copy of the word, and the signature, which is shared.
     pub fn add(&mut self, word: &Word, signature: &Arc<Sig, Global>) -> Result<(), AllocError>
         requires { length self.old < 4000000000 }
-        ensures added { OnOk result (self.new ≡ self.old ++ (record { word = word.now; signature = arc_value signature.now }) ∷ []) }
+        ensures added { OnOk result (self.new ≡ self.old
+                ++ (record { word = word.now; signature = arc_value signature.now }) ∷ []) }
         ensures kept { OnErr result (self.new ≡ self.old) }
     {
         self.pairs.push(Lead::of(word, signature)?)?;

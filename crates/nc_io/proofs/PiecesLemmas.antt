@@ -7,7 +7,8 @@ use Rattle.std.proofs.KnownBytes.{Consumes-trans}
 use Rattle.nc_io.specs.Pieces.{TakesFront}
 
 -- some bytes were taken, and then some more
-pub front_after : (a b c : Option (List ℕ)) (xs : List ℕ) (limit : ℕ) → Consumes a b xs → length xs ≤ limit → TakesFront b c (limit - length xs) → TakesFront a c limit
+pub front_after : (a b c : Option (List ℕ)) (xs : List ℕ) (limit : ℕ) → Consumes a b xs
+    → length xs ≤ limit → TakesFront b c (limit - length xs) → TakesFront a c limit
 front_after a b c xs limit taken within more = record {
   bytes = xs ++ more.bytes;
   taken = Consumes-trans a b c xs more.bytes taken more.taken;

@@ -17,7 +17,8 @@ IsFailing failing calls faults = (faults < 2 ^ 64 - 1) × Contains failing (call
 
 -- a sink fails also where no room is left
 abbrev pub IsFailingPut : List ℕ → ℕ → ℕ → ℕ → Type 0
-IsFailingPut failing calls faults spare = (faults < 2 ^ 64 - 1) × ((spare ≡ 0) ⊎ Contains failing (call_number calls))
+IsFailingPut failing calls faults spare =
+    (faults < 2 ^ 64 - 1) × ((spare ≡ 0) ⊎ Contains failing (call_number calls))
 
 -- the least of the step, the room in the buffer and what is left
 abbrev pub given_count : ℕ → ℕ → ℕ → ℕ

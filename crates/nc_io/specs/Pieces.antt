@@ -11,8 +11,10 @@ use Rattle.nc_io.specs.Causes.{Rose}
 use Rattle.nc_io.specs.declared.whole.Fault.{Fault}
 use Rattle.nc_io.specs.declared.whole.Fault.TheVariants.{Read, Memory}
 
--- a piece of count bytes was taken and stands behind the old bytes, within the limit, and is empty only at the end
-pub record TakesPiece (before after : Option (List ℕ)) (old new : List ℕ) (limit count : ℕ) : Type 0 where
+-- a piece of count bytes was taken and stands behind the old bytes, within the limit, and is empty
+-- only at the end
+pub record TakesPiece (before after : Option (List ℕ)) (old new : List ℕ) (limit count : ℕ) : Type 0
+    where
   pub piece : List ℕ
   pub bytes : new ≡ old ++ piece
   pub taken : Consumes before after piece
@@ -32,7 +34,8 @@ pub record TakesFront (before after : Option (List ℕ)) (limit : ℕ) : Type 0 
   pub taken : Consumes before after bytes
   pub within : length bytes ≤ limit
 
--- a fault of reading comes only where the count of failures rose, and want of memory may come anywhere
+-- a fault of reading comes only where the count of failures rose, and want of memory may come
+-- anywhere
 abbrev pub IsReadFault : ℕ → ℕ → Fault → Type 0
 IsReadFault before now Read = Rose before now
 IsReadFault before now Memory = Unit {0}

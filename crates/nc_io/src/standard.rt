@@ -37,8 +37,10 @@ impl<R: Read> Source for StdSource<R> {
         ensures cause { HasCause self.old.faults self.new.faults result }
 
         // The count and the reader.
-        ensures counted { MatchResult result (λ _. self.new.faults ≡ self.old.faults) (λ _. self.new.faults ≡ self.old.faults + 1) }
-        ensures passed { self.old.faults < 2 ^ 64 - 1 → ReadConsumes (R.remaining self.old.reader) (R.remaining self.new.reader) result buf.new }
+        ensures counted { MatchResult result (λ _. self.new.faults ≡ self.old.faults)
+              (λ _. self.new.faults ≡ self.old.faults + 1) }
+        ensures passed { self.old.faults < 2 ^ 64 - 1 → ReadConsumes (R.remaining self.old.reader)
+              (R.remaining self.new.reader) result buf.new }
         ensures spent { self.old.faults ≡ 2 ^ 64 - 1 → (result ≡ Ok 0) × (self.new ≡ self.old) }
     {
         if self.faults == u64::MAX {
@@ -85,9 +87,13 @@ impl<W: Write> Sink for StdSink<W> {
         ensures cause { HasCause self.old.faults self.new.faults result }
 
         // The count and the writer.
-        ensures counted { MatchResult result (λ _. self.new.faults ≡ self.old.faults) (λ _. self.new.faults ≡ self.old.faults + 1) }
-        ensures passed { self.old.faults < 2 ^ 64 - 1 → IfOk result (λ n. Appends (W.contents self.old.writer) (W.contents self.new.writer) (take n piece.now)) }
-        ensures spent { self.old.faults ≡ 2 ^ 64 - 1 → (result ≡ Ok (length piece.now)) × (self.new ≡ self.old) }
+        ensures counted { MatchResult result (λ _. self.new.faults ≡ self.old.faults)
+              (λ _. self.new.faults ≡ self.old.faults + 1) }
+        ensures passed { self.old.faults < 2 ^ 64 - 1
+              → IfOk result (λ n. Appends (W.contents self.old.writer) (W.contents self.new.writer)
+                (take n piece.now)) }
+        ensures spent { self.old.faults ≡ 2 ^ 64 - 1 → (result ≡ Ok (length piece.now))
+              × (self.new ≡ self.old) }
     {
         if self.faults == u64::MAX {
             return Ok(piece.len());

@@ -22,8 +22,10 @@ pub enum Fault {
 /// Takes a piece from the source, and appends it.
 fn take_piece<S: Source>(source: &mut S, bytes: &mut Vec<u8>, limit: usize) -> Result<usize, Fault>
     requires below { vec_len bytes.old < limit }
-    ensures piece { IfOk result (TakesPiece (S.left source.old) (S.left source.new) bytes.old.items bytes.new.items limit) }
-    ensures front { OnErr result (TakesFront (S.left source.old) (S.left source.new) (limit - vec_len bytes.old)) }
+    ensures piece { IfOk result (TakesPiece (S.left source.old) (S.left source.new) bytes.old.items
+            bytes.new.items limit) }
+    ensures front { OnErr result (TakesFront (S.left source.old) (S.left source.new)
+            (limit - vec_len bytes.old)) }
     ensures later { S.faults source.old ≤ S.faults source.new }
     ensures fault { IfErr result (IsReadFault (S.faults source.old) (S.faults source.new)) }
 {
@@ -42,7 +44,8 @@ fn take_piece<S: Source>(source: &mut S, bytes: &mut Vec<u8>, limit: usize) -> R
 /// that were taken before are lost.
 #[tactic(auto, using(crate::proofs::PiecesLemmas::front_after))]
 pub fn take_whole<S: Source>(alloc: Global, source: &mut S, limit: usize) -> Result<Vec<u8>, Fault>
-    ensures whole { IfOk result (λ bytes. TakesWhole (S.left source.old) (S.left source.new) bytes.items limit) }
+    ensures whole { IfOk result (λ bytes. TakesWhole (S.left source.old) (S.left source.new)
+            bytes.items limit) }
     ensures front { OnErr result (TakesFront (S.left source.old) (S.left source.new) limit) }
     ensures later { S.faults source.old ≤ S.faults source.new }
     ensures fault { IfErr result (IsReadFault (S.faults source.old) (S.faults source.new)) }

@@ -29,15 +29,19 @@ use Rattle.nc_theory.specs.Runs.{End, SequentialRun}
 use Rattle.nc_theory.specs.States.{State, Step, Trace}
 use Rattle.std.specs.Prelude.{List, Option, [], ℕ, ◌≡◌, ◌≢◌}
 
--- the claim was reduced within the bound by the entries of the run after n steps: what is left, and what was subtracted
-pub record IsRestOf (P : Problem) (n : ℕ) (claim rest : Polynomial) (steps : List Step) : Type 0 where
+-- the claim was reduced within the bound by the entries of the run after n steps: what is left, and
+-- what was subtracted
+pub record IsRestOf (P : Problem) (n : ℕ) (claim rest : Polynomial) (steps : List Step) : Type 0
+    where
   pub run : State
   pub last : Option Monomial
   pub runs : SequentialRun P n run last
   pub reduces : Reduction P.setting run.entries (IsWithin P) claim rest steps
 
--- nothing is left, and this is a representation of the claim within the bound: the sum of the labels of what was subtracted
-pub record IsRepresented (P : Problem) (n : ℕ) (claim : Polynomial) (limit : ℕ) (m : List (Term Sig)) : Type 0 where
+-- nothing is left, and this is a representation of the claim within the bound: the sum of the
+-- labels of what was subtracted
+pub record IsRepresented (P : Problem) (n : ℕ) (claim : Polynomial) (limit : ℕ)
+    (m : List (Term Sig)) : Type 0 where
   pub steps : List Step
   pub rest : IsRestOf P n claim [] steps
   pub is : IsRepresentation P n steps limit m
@@ -45,7 +49,8 @@ pub record IsRepresented (P : Problem) (n : ℕ) (claim : Polynomial) (limit : �
   pub evaluates : SamePolynomial P.setting (evaluation P.setting (element_of m)) claim
 
 -- the run is complete, something is left, and the claim has no representation within the bound
-pub record IsUnrepresented (P : Problem) (n : ℕ) (ending : End) (claim rest : Polynomial) : Type 0 where
+pub record IsUnrepresented (P : Problem) (n : ℕ) (ending : End) (claim rest : Polynomial) : Type 0
+    where
   pub complete : ending ≡ End.complete
   pub some : rest ≢ []
   pub steps : List Step
@@ -60,20 +65,27 @@ pub record IsOpen (P : Problem) (n : ℕ) (ending : End) (claim rest : Polynomia
   pub steps : List Step
   pub is : IsRestOf P n claim rest steps
 
--- the answer: what shows a representation, that there is none within the bound, or that it stays open
-abbrev pub IsMembership : {T : Type 0} → (T → Type 0) → Finished → Polynomial → Membership T → Type 0
+-- the answer: what shows a representation, that there is none within the bound, or that it stays
+-- open
+abbrev pub IsMembership : {T : Type 0} → (T → Type 0) → Finished → Polynomial → Membership T
+    → Type 0
 IsMembership Shows f claim (Below x) = Shows x
-IsMembership Shows f claim (NotBelow rest) = IsUnrepresented f.snapshot.problem.problem f.snapshot.handled f.ending claim rest
-IsMembership Shows f claim (Undecided rest) = IsOpen f.snapshot.problem.problem f.snapshot.handled f.ending claim rest
+IsMembership Shows f claim (NotBelow rest) =
+    IsUnrepresented f.snapshot.problem.problem f.snapshot.handled f.ending claim rest
+IsMembership Shows f claim (Undecided rest) =
+    IsOpen f.snapshot.problem.problem f.snapshot.handled f.ending claim rest
 
 -- ---- with a module element
 
 -- the answer, with a representation
 abbrev pub IsMember : Finished → Polynomial → ℕ → Membership (List (Term Sig)) → Type 0
-IsMember f claim limit = IsMembership (IsRepresented f.snapshot.problem.problem f.snapshot.handled claim limit) f claim
+IsMember f claim limit =
+    IsMembership (IsRepresented f.snapshot.problem.problem f.snapshot.handled claim limit) f claim
 
--- nothing is left, and the label of this entry that is needed, or else the representation, has more terms than the limit
-pub record IsTooManyOf (P : Problem) (n : ℕ) (claim : Polynomial) (limit : ℕ) (named : Listed) (terms : ℕ) : Type 0 where
+-- nothing is left, and the label of this entry that is needed, or else the representation, has more
+-- terms than the limit
+pub record IsTooManyOf (P : Problem) (n : ℕ) (claim : Polynomial) (limit : ℕ) (named : Listed)
+    (terms : ℕ) : Type 0 where
   pub steps : List Step
   pub rest : IsRestOf P n claim [] steps
   pub many : IsTooManyForAt P n steps limit named terms
@@ -81,13 +93,16 @@ pub record IsTooManyOf (P : Problem) (n : ℕ) (claim : Polynomial) (limit : ℕ
 -- why there is no answer; want of memory says nothing
 abbrev pub FailsToAnswer : Finished → Polynomial → ℕ → CofactorFault → Type 0
 FailsToAnswer f claim limit OutOfMemory = Unit {0}
-FailsToAnswer f claim limit (TooMany named terms) = IsTooManyOf f.snapshot.problem.problem f.snapshot.handled claim limit named terms
+FailsToAnswer f claim limit (TooMany named terms) =
+    IsTooManyOf f.snapshot.problem.problem f.snapshot.handled claim limit named terms
 
 -- ---- with lines
 
--- nothing is left, and these lines, which keep the rule of certificates, have the claim as their value: those of the entries
+-- nothing is left, and these lines, which keep the rule of certificates, have the claim as their
+-- value: those of the entries
 -- that are needed, and that of what was subtracted
-pub record IsProved (P : NamedProblem) (n : ℕ) (claim : Polynomial) (lines : List Line) : Type 0 where
+pub record IsProved (P : NamedProblem) (n : ℕ) (claim : Polynomial) (lines : List Line) : Type 0
+    where
   pub steps : List Step
   pub rest : IsRestOf P.problem n claim [] steps
   pub needed : List (ℕ × Trace)

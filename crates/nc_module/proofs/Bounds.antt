@@ -8,17 +8,29 @@ use Rattle.std.proofs.Common.{Bool, IsTrue, Less, Ordering, ap, ap₂, arith, su
 use Rattle.std.specs.Ordering.{is_lt}
 
 -- the order of the setting, on monomials with their degrees
-pub less_from_sigs : (s : Setting) (σ β : Sig) → HasDegree s σ → HasDegree s β → compare_sigs σ β ≡ Less → IsLess s (monomial_of σ) (monomial_of β)
-less_from_sigs s σ β h k e = less_from_compare (compare_monomials (generator_weight s)) (IsMonomialLess (generator_weight s)) (monomials_compare (generator_weight s)) (monomial_of σ) (monomial_of β) (sym (ap₂ compare_sigs h k) ∙ e)
+pub less_from_sigs : (s : Setting) (σ β : Sig) → HasDegree s σ → HasDegree s β
+    → compare_sigs σ β ≡ Less → IsLess s (monomial_of σ) (monomial_of β)
+less_from_sigs s σ β h k e =
+    less_from_compare (compare_monomials (generator_weight s)) (IsMonomialLess (generator_weight s))
+    (monomials_compare (generator_weight s)) (monomial_of σ) (monomial_of β)
+    (sym (ap₂ compare_sigs h k) ∙ e)
 
-pub sigs_from_less : (s : Setting) (σ β : Sig) → HasDegree s σ → HasDegree s β → IsLess s (monomial_of σ) (monomial_of β) → compare_sigs σ β ≡ Less
-sigs_from_less s σ β h k l = ap₂ compare_sigs h k ∙ compare_less (compare_monomials (generator_weight s)) (IsMonomialLess (generator_weight s)) (monomials_compare (generator_weight s)) (monomial_irrefl (generator_weight s)) (monomial_trans (generator_weight s)) (monomial_of σ) (monomial_of β) l
+pub sigs_from_less : (s : Setting) (σ β : Sig) → HasDegree s σ → HasDegree s β
+    → IsLess s (monomial_of σ) (monomial_of β) → compare_sigs σ β ≡ Less
+sigs_from_less s σ β h k l =
+    ap₂ compare_sigs h k ∙ compare_less (compare_monomials (generator_weight s))
+    (IsMonomialLess (generator_weight s)) (monomials_compare (generator_weight s))
+    (monomial_irrefl (generator_weight s)) (monomial_trans (generator_weight s)) (monomial_of σ)
+    (monomial_of β) l
 
 less_is : (o : Ordering) → is_lt o ≡ true → o ≡ Less
 less_is o e = grind (arith, e)
 
 -- what the test for a bound's monomial tells
-pub under_tested : (s : Setting) (b : Bound) (σ β : Sig) (r : Bool) → b ≡ Bound.under (monomial_of β) → IsGenerator s σ.generator → HasDegree s σ → HasDegree s β → r ≡ is_lt (compare_sigs σ β) → IsTrue r ↔ IsWithinBound s b (monomial_of σ)
+pub under_tested : (s : Setting) (b : Bound) (σ β : Sig) (r : Bool)
+    → b ≡ Bound.under (monomial_of β) → IsGenerator s σ.generator → HasDegree s σ → HasDegree s β
+    → r ≡ is_lt (compare_sigs σ β) → IsTrue r ↔ IsWithinBound s b (monomial_of σ)
 under_tested s b σ β r e g h k is =
     subst (λ x. IsTrue r ↔ IsWithinBound s x (monomial_of σ)) (sym e)
-    (λ t. (g, less_from_sigs s σ β h k (less_is (compare_sigs σ β) (sym is ∙ t))), λ w. is ∙ ap is_lt (sigs_from_less s σ β h k w.1))
+    (λ t. (g, less_from_sigs s σ β h k (less_is (compare_sigs σ β) (sym is ∙ t))),
+          λ w. is ∙ ap is_lt (sigs_from_less s σ β h k w.1))

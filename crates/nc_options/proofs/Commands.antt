@@ -9,7 +9,8 @@ use Rattle.nc_options.specs.Options.{options_of}
 differs : (text other : Text) → (text ≡ other → ⊥) → bytes_eq text other ≡ false
 differs text other h = false_from_ne_true _ (λ e. h ((bytes_eq-Decides text other).0 e))
 
-pub no_command : (command : Text) (words : List Text) → (command ≡ codes "basis" → ⊥) → (command ≡ codes "member" → ⊥) → (command ≡ codes "check" → ⊥) → (command ≡ codes "demo" → ⊥)
+pub no_command : (command : Text) (words : List Text) → (command ≡ codes "basis" → ⊥)
+    → (command ≡ codes "member" → ⊥) → (command ≡ codes "check" → ⊥) → (command ≡ codes "demo" → ⊥)
     → options_of (command ∷ words) ≡ None
 no_command command words basis member check demo =
     let no_basis : bytes_eq command (codes "basis") ≡ false = differs _ _ basis in

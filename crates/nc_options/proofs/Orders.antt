@@ -13,7 +13,8 @@ use Rattle.nc_options.specs.Uses.{Use, is_distinct, value_of}
 use Rattle.nc_options.proofs.Distinct.{at_most_one, distinct_by_counts, has_name, same_self, uses_named}
 
 -- the uses stay distinct
-pub distinct-permutation : (us vs : List Use) → IsPermutation us vs → is_distinct us ≡ true → is_distinct vs ≡ true
+pub distinct-permutation : (us vs : List Use) → IsPermutation us vs → is_distinct us ≡ true
+    → is_distinct vs ≡ true
 distinct-permutation us vs p d = distinct_by_counts vs few
   where
     few : (n : Text) → uses_named n vs ≤ 1
@@ -26,47 +27,64 @@ distinct-permutation us vs p d = distinct_by_counts vs few
 abbrev is_use : Text → Text → Use → Bool
 is_use name value u = bytes_eq u.0 name && bytes_eq u.1 value
 
-has_use : (name value : Text) (us : List Use) → value_of name us ≡ Some value → list_any (is_use name value) us ≡ true
+has_use : (name value : Text) (us : List Use) → value_of name us ≡ Some value
+    → list_any (is_use name value) us ≡ true
 has_use name value [] e = cc
 has_use name value (u ∷ us) e = go (bytes_eq u.0 name) e (has_use name value us)
   where
-    go : (b : Bool) → option_map (λ (v : Use). v.1) (cond b (Some u) (find (λ v. bytes_eq v.0 name) us)) ≡ Some value
+    go : (b : Bool) → option_map (λ (v : Use). v.1)
+        (cond b (Some u) (find (λ v. bytes_eq v.0 name) us)) ≡ Some value
         → (value_of name us ≡ Some value → list_any (is_use name value) us ≡ true)
         → ((b && bytes_eq u.1 value) || list_any (is_use name value) us) ≡ true
     go false f rec = rec f
     go true f rec =
         let same : u.1 ≡ value = cc in
-        ap (λ x. bytes_eq x value || list_any (is_use name value) us) same ∙ ap (λ b. b || list_any (is_use name value) us) (same_self value)
+        ap (λ x. bytes_eq x value || list_any (is_use name value) us) same
+            ∙ ap (λ b. b || list_any (is_use name value) us) (same_self value)
 
-use_has_name : (name value : Text) (us : List Use) → list_any (is_use name value) us ≡ true → has_name name us ≡ true
+use_has_name : (name value : Text) (us : List Use) → list_any (is_use name value) us ≡ true
+    → has_name name us ≡ true
 use_has_name name value [] e = e
-use_has_name name value (u ∷ us) e = go (bytes_eq u.0 name) (bytes_eq u.1 value) e (use_has_name name value us)
+use_has_name name value (u ∷ us) e =
+    go (bytes_eq u.0 name) (bytes_eq u.1 value) e (use_has_name name value us)
   where
-    go : (a b : Bool) → ((a && b) || list_any (is_use name value) us) ≡ true → (list_any (is_use name value) us ≡ true → has_name name us ≡ true) → (a || has_name name us) ≡ true
+    go : (a b : Bool) → ((a && b) || list_any (is_use name value) us) ≡ true
+        → (list_any (is_use name value) us ≡ true → has_name name us ≡ true)
+        → (a || has_name name us) ≡ true
     go true b f rec = refl
     go false b f rec = rec f
 
-of_use : (name value : Text) (us : List Use) → is_distinct us ≡ true → list_any (is_use name value) us ≡ true → value_of name us ≡ Some value
+of_use : (name value : Text) (us : List Use) → is_distinct us ≡ true
+    → list_any (is_use name value) us ≡ true → value_of name us ≡ Some value
 of_use name value [] d e = absurd (true≢false (sym e))
-of_use name value (u ∷ us) d e = go (bytes_eq u.0 name) (bytes_eq u.1 value) refl refl e (of_use name value us (and_parts (not (has_name u.0 us)) (is_distinct us) d).1)
+of_use name value (u ∷ us) d e =
+    go (bytes_eq u.0 name) (bytes_eq u.1 value) refl refl e
+    (of_use name value us (and_parts (not (has_name u.0 us)) (is_distinct us) d).1)
   where
     other : bytes_eq u.0 name ≡ true → list_any (is_use name value) us ≡ true → ⊥
     other is f =
-        true≢false (sym (ap (λ n. has_name n us) ((bytes_eq-Decides u.0 name).0 is) ∙ use_has_name name value us f) ∙ not-true (has_name u.0 us) (and_parts (not (has_name u.0 us)) (is_distinct us) d).0)
+        true≢false (sym (ap (λ n. has_name n us) ((bytes_eq-Decides u.0 name).0 is)
+                ∙ use_has_name name value us f) ∙ not-true (has_name u.0 us)
+              (and_parts (not (has_name u.0 us)) (is_distinct us) d).0)
 
-    go : (a b : Bool) → bytes_eq u.0 name ≡ a → bytes_eq u.1 value ≡ b → ((a && b) || list_any (is_use name value) us) ≡ true
+    go : (a b : Bool) → bytes_eq u.0 name ≡ a → bytes_eq u.1 value ≡ b
+        → ((a && b) || list_any (is_use name value) us) ≡ true
         → (list_any (is_use name value) us ≡ true → value_of name us ≡ Some value)
-        → option_map (λ (v : Use). v.1) (cond a (Some u) (find (λ v. bytes_eq v.0 name) us)) ≡ Some value
+        → option_map (λ (v : Use). v.1) (cond a (Some u) (find (λ v. bytes_eq v.0 name) us)) ≡ Some
+            value
     go true true is same f rec = ap Some ((bytes_eq-Decides u.1 value).0 same)
     go true false is differs f rec = absurd (other is f)
     go false b is same f rec = rec f
 
-kept : (name value : Text) (us vs : List Use) → IsPermutation us vs → is_distinct us ≡ true → value_of name us ≡ Some value → value_of name vs ≡ Some value
+kept : (name value : Text) (us vs : List Use) → IsPermutation us vs → is_distinct us ≡ true
+    → value_of name us ≡ Some value → value_of name vs ≡ Some value
 kept name value us vs p d e =
-    of_use name value vs (distinct-permutation us vs p d) (sym (list_any-IsPermutation (is_use name value) us vs p) ∙ has_use name value us e)
+    of_use name value vs (distinct-permutation us vs p d)
+        (sym (list_any-IsPermutation (is_use name value) us vs p) ∙ has_use name value us e)
 
 -- each name keeps its value
-pub value_of-permutation : (name : Text) (us vs : List Use) → IsPermutation us vs → is_distinct us ≡ true → value_of name vs ≡ value_of name us
+pub value_of-permutation : (name : Text) (us vs : List Use) → IsPermutation us vs
+    → is_distinct us ≡ true → value_of name vs ≡ value_of name us
 value_of-permutation name us vs p d = go (value_of name us) (value_of name vs) refl refl
   where
     back : is_distinct vs ≡ true

@@ -15,7 +15,9 @@ use Rattle.nc_options.proofs.Tables.{usual_rule}
 use Rattle.nc_options.proofs.Distinct.{has_name}
 
 abbrev pub row_for : Use → Row
-row_for u = record { id = u.0; values = u.1 ∷ []; count = None; source = Some CommandLine; reading = AsWritten }
+row_for u =
+    record { id = u.0; values = u.1 ∷ [];
+      count = None; source = Some CommandLine; reading = AsWritten }
 
 abbrev pub rows_for : List Use → List Row
 rows_for [] = []
@@ -30,7 +32,8 @@ first_of_for id [] = refl
 first_of_for id (u ∷ us) = go (bytes_eq u.0 id) (first_of_for id us)
   where
     go : (b : Bool) → first_of id (rows_for us) ≡ value_of id us
-        → option_and_then (λ (r : Row). slice_get r.values 0) (cond b (Some (row_for u)) (find (λ r. bytes_eq r.id id) (rows_for us)))
+        → option_and_then (λ (r : Row). slice_get r.values 0)
+            (cond b (Some (row_for u)) (find (λ r. bytes_eq r.id id) (rows_for us)))
         ≡ option_map (λ (v : Use). v.1) (cond b (Some u) (find (λ v. bytes_eq v.0 id) us))
     go true e = refl
     go false e = e
@@ -39,25 +42,35 @@ rows_push : (us : List Use) (u : Use) → rows_for us ++ (row_for u ∷ []) ≡ 
 rows_push [] u = refl
 rows_push (v ∷ us) u = ap (λ rs. row_for v ∷ rs) (rows_push us u)
 
-at_none : (id : Text) (change : Row → List Row) (missing : List Row) (us : List Use) → has_name id us ≡ false → at_row id change missing (rows_for us) ≡ rows_for us ++ missing
+at_none : (id : Text) (change : Row → List Row) (missing : List Row) (us : List Use)
+    → has_name id us ≡ false → at_row id change missing (rows_for us) ≡ rows_for us ++ missing
 at_none id change missing [] none = refl
 at_none id change missing (u ∷ us) none =
-    ap (λ b. cond b (change (row_for u) ++ rows_for us) (row_for u ∷ at_row id change missing (rows_for us))) (or_parts (bytes_eq u.0 id) _ none).0
+    ap (λ b. cond b (change (row_for u) ++ rows_for us)
+          (row_for u ∷ at_row id change missing (rows_for us)))
+        (or_parts (bytes_eq u.0 id) _ none).0
     ∙ ap (λ rs. row_for u ∷ rs) (at_none id change missing us (or_parts (bytes_eq u.0 id) _ none).1)
 
 -- a use of an argument that was not used joins the rows
-pub used_new : (id v : Text) (l : Option Text) (i : Option ℕ) (us : List Use) → has_name id us ≡ false
+pub used_new : (id v : Text) (l : Option Text) (i : Option ℕ) (us : List Use)
+    → has_name id us ≡ false
     → used (usual_rule id l i) (v ∷ []) (rows_for us) ≡ rows_for (us ++ (id, v) ∷ [])
 used_new id v l i us none =
-    ap (λ rs. at_row id (more_values CommandLine (v ∷ [])) (row_for (id, v) ∷ []) rs) (at_none id (λ _. []) [] us none ∙ append-nil (rows_for us))
-    ∙ at_none id (more_values CommandLine (v ∷ [])) (row_for (id, v) ∷ []) us none ∙ rows_push us (id, v)
+    ap (λ rs. at_row id (more_values CommandLine (v ∷ [])) (row_for (id, v) ∷ []) rs)
+        (at_none id (λ _. []) [] us none ∙ append-nil (rows_for us))
+    ∙ at_none id (more_values CommandLine (v ∷ [])) (row_for (id, v) ∷ []) us none
+        ∙ rows_push us (id, v)
 
-pub use_fault_new : (id v : Text) (l : Option Text) (i : Option ℕ) (us : List Use) → has_name id us ≡ false
+pub use_fault_new : (id v : Text) (l : Option Text) (i : Option ℕ) (us : List Use)
+    → has_name id us ≡ false
     → use_fault false (usual_rule id l i) (v ∷ []) (rows_for us) ≡ []
 use_fault_new id v l i us none =
-    ap (λ b. or_else (if b && true then kind.ArgumentConflict ∷ [] else []) []) (has_row_for id us ∙ none)
+    ap (λ b. or_else (if b && true then kind.ArgumentConflict ∷ [] else []) [])
+        (has_row_for id us ∙ none)
 
-pub use_fault_again : (id v : Text) (l : Option Text) (i : Option ℕ) (us : List Use) → has_name id us ≡ true
+pub use_fault_again : (id v : Text) (l : Option Text) (i : Option ℕ) (us : List Use)
+    → has_name id us ≡ true
     → use_fault false (usual_rule id l i) (v ∷ []) (rows_for us) ≡ kind.ArgumentConflict ∷ []
 use_fault_again id v l i us some =
-    ap (λ b. or_else (if b && true then kind.ArgumentConflict ∷ [] else []) []) (has_row_for id us ∙ some)
+    ap (λ b. or_else (if b && true then kind.ArgumentConflict ∷ [] else []) [])
+        (has_row_for id us ∙ some)

@@ -45,35 +45,43 @@ shape_for name names number = record (new_shape name) {
 
 -- ---- what is found in the table
 
-pub long_found : (names : List Text) (number : Bool) (n : Text) → is_among names n ≡ true → arg_by_long (table names number) n ≡ Some (option_rule n)
+pub long_found : (names : List Text) (number : Bool) (n : Text) → is_among names n ≡ true
+    → arg_by_long (table names number) n ≡ Some (option_rule n)
 long_found [] number n e = absurd (true≢false (sym e))
 long_found (m ∷ ms) number n e = go (bytes_eq m n) refl e (long_found ms number n)
   where
-    go : (b : Bool) → bytes_eq m n ≡ b → (b || is_among ms n) ≡ true → (is_among ms n ≡ true → arg_by_long (table ms number) n ≡ Some (option_rule n))
-        → cond (b || false) (Some (option_rule m)) (arg_by_long (table ms number) n) ≡ Some (option_rule n)
+    go : (b : Bool) → bytes_eq m n ≡ b → (b || is_among ms n) ≡ true
+        → (is_among ms n ≡ true → arg_by_long (table ms number) n ≡ Some (option_rule n))
+        → cond (b || false) (Some (option_rule m)) (arg_by_long (table ms number) n) ≡ Some
+            (option_rule n)
     go true is e rec = ap (λ x. Some (option_rule x)) ((bytes_eq-Decides m n).0 is)
     go false is e rec = rec e
 
-pub id_found : (names : List Text) (number : Bool) (n : Text) → is_among names n ≡ true → arg_by_id (table names number) n ≡ Some (option_rule n)
+pub id_found : (names : List Text) (number : Bool) (n : Text) → is_among names n ≡ true
+    → arg_by_id (table names number) n ≡ Some (option_rule n)
 id_found [] number n e = absurd (true≢false (sym e))
 id_found (m ∷ ms) number n e = go (bytes_eq m n) refl e (id_found ms number n)
   where
-    go : (b : Bool) → bytes_eq m n ≡ b → (b || is_among ms n) ≡ true → (is_among ms n ≡ true → arg_by_id (table ms number) n ≡ Some (option_rule n))
+    go : (b : Bool) → bytes_eq m n ≡ b → (b || is_among ms n) ≡ true
+        → (is_among ms n ≡ true → arg_by_id (table ms number) n ≡ Some (option_rule n))
         → cond b (Some (option_rule m)) (arg_by_id (table ms number) n) ≡ Some (option_rule n)
     go true is e rec = ap (λ x. Some (option_rule x)) ((bytes_eq-Decides m n).0 is)
     go false is e rec = rec e
 
-pub number_found : (names : List Text) → is_among names number_id ≡ false → arg_by_id (table names true) number_id ≡ Some number_rule
+pub number_found : (names : List Text) → is_among names number_id ≡ false
+    → arg_by_id (table names true) number_id ≡ Some number_rule
 number_found [] e = refl
 number_found (m ∷ ms) e =
-    ap (λ b. cond b (Some (option_rule m)) (arg_by_id (table ms true) number_id)) (or_parts (bytes_eq m number_id) _ e).0
+    ap (λ b. cond b (Some (option_rule m)) (arg_by_id (table ms true) number_id))
+        (or_parts (bytes_eq m number_id) _ e).0
     ∙ number_found ms (or_parts (bytes_eq m number_id) _ e).1
 
 abbrev pub first_place : Bool → Option Rule
 first_place true = Some number_rule
 first_place false = None
 
-pub place_one : (names : List Text) (number : Bool) → arg_by_index (table names number) 1 ≡ first_place number
+pub place_one : (names : List Text) (number : Bool)
+    → arg_by_index (table names number) 1 ≡ first_place number
 place_one [] true = refl
 place_one [] false = refl
 place_one (m ∷ ms) number = place_one ms number

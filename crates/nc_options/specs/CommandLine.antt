@@ -13,13 +13,22 @@ use Rattle.nc_options.specs.Spellings.{AreSpelled}
 abbrev pub are_names : List Text → Bool
 are_names names = list_all (λ name. not (has_equals name)) names
 
--- words are uses exactly where they are the uses written one behind another, and no name stands twice
+-- words are uses exactly where they are the uses written one behind another, and no name stands
+-- twice
 abbrev pub UsesAreSpelled : Type 0
-UsesAreSpelled = (names : List Text) (takes_number : Bool) (words : List Text) (uses : List Use) → are_names names ≡ true
-    → (uses_of names takes_number words ≡ Some uses) ↔ (AreSpelled names takes_number uses words × (is_distinct uses ≡ true))
+UsesAreSpelled =
+    (names : List Text) (takes_number : Bool) (words : List Text) (uses : List Use)
+    → are_names names ≡ true
+    → (uses_of names takes_number words ≡ Some uses)
+        ↔ (AreSpelled names takes_number uses words × (is_distinct uses ≡ true))
 
--- the order of the uses is free: with the same uses in another order, in any spelling, each name has the same value
+-- the order of the uses is free: with the same uses in another order, in any spelling, each name
+-- has the same value
 abbrev pub OrderIsFree : Type 0
-OrderIsFree = (names : List Text) (takes_number : Bool) (words words' : List Text) (uses uses' : List Use) → are_names names ≡ true
-    → uses_of names takes_number words ≡ Some uses → AreSpelled names takes_number uses' words' → IsPermutation uses uses'
-    → (uses_of names takes_number words' ≡ Some uses') × ((name : Text) → value_of name uses' ≡ value_of name uses)
+OrderIsFree =
+    (names : List Text) (takes_number : Bool) (words words' : List Text) (uses uses' : List Use)
+    → are_names names ≡ true
+    → uses_of names takes_number words ≡ Some uses → AreSpelled names takes_number uses' words'
+        → IsPermutation uses uses'
+    → (uses_of names takes_number words' ≡ Some uses')
+        × ((name : Text) → value_of name uses' ≡ value_of name uses)

@@ -25,7 +25,9 @@ are_fit names words = list_all (is_fit names) words
 
 -- the word is the option of this name: `--name` or `--name=value`
 abbrev pub names_option : Text → Text → Bool
-names_option name word = option_map_or (λ text. bytes_eq (name_in text) name) (option_and_then after_hyphen (after_hyphen word)) false
+names_option name word =
+    option_map_or (λ text. bytes_eq (name_in text) name)
+    (option_and_then after_hyphen (after_hyphen word)) false
 
 -- each option stands in at most one word
 abbrev pub are_single : List Text → List Text → Bool

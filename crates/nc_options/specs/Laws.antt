@@ -23,7 +23,9 @@ takes_number command = bytes_eq command (codes "demo")
 -- the same uses, in another order and in any spelling, give the same
 abbrev pub OptionsInAnyOrder : Type 0
 OptionsInAnyOrder = (command : Text) (words words' : List Text) (uses uses' : List Use)
-    → AreSpelled (names_of command) (takes_number command) uses words → AreSpelled (names_of command) (takes_number command) uses' words' → IsPermutation uses uses'
+    → AreSpelled (names_of command) (takes_number command) uses words
+        → AreSpelled (names_of command) (takes_number command) uses' words'
+        → IsPermutation uses uses'
     → options_of (command ∷ words) ≡ options_of (command ∷ words')
 
 -- the number lies in the range, both ends included
@@ -32,11 +34,18 @@ IsInRange low high number = (low ≤ number) × (number ≤ high)
 
 -- the numbers lie in their ranges
 abbrev pub AreInRange : Options → Type 0
-AreInRange (Basis options) = IsInRange 1 64 options.workers × IsInRange 1 4096 options.window × IsInRange 1 10000000 options.limit
-AreInRange (Member options) = IsInRange 1 64 options.workers × IsInRange 1 4096 options.window × IsInRange 1 10000000 options.limit
+AreInRange (Basis options) =
+    IsInRange 1 64 options.workers × IsInRange 1 4096 options.window
+    × IsInRange 1 10000000 options.limit
+AreInRange (Member options) =
+    IsInRange 1 64 options.workers × IsInRange 1 4096 options.window
+    × IsInRange 1 10000000 options.limit
 AreInRange Check = Unit {0}
-AreInRange (Demo options) = IsInRange 0 65536 options.number × IsInRange 2 10 options.degree × IsInRange 1 64 options.workers × IsInRange 1 4096 options.window
+AreInRange (Demo options) =
+    IsInRange 0 65536 options.number × IsInRange 2 10 options.degree
+    × IsInRange 1 64 options.workers × IsInRange 1 4096 options.window
 
 -- options that words give have numbers in their ranges, the defaults included
 abbrev pub OptionsAreInRange : Type 0
-OptionsAreInRange = (words : List Text) (options : Options) → options_of words ≡ Some options → AreInRange options
+OptionsAreInRange =
+    (words : List Text) (options : Options) → options_of words ≡ Some options → AreInRange options

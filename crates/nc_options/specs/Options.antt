@@ -37,13 +37,19 @@ demo_with _ _ _ _ = None
 
 -- the options of a command, by the texts that were given under each name
 abbrev pub basis_of : (Text → Option Text) → Option BasisOptions
-basis_of given = basis_with (workers_option given) (window_option given) (limit_option given) (cofactors_option given)
+basis_of given =
+    basis_with (workers_option given) (window_option given) (limit_option given)
+    (cofactors_option given)
 
 abbrev pub member_of : (Text → Option Text) → Option MemberOptions
-member_of given = member_with (workers_option given) (window_option given) (limit_option given) (form_option given)
+member_of given =
+    member_with (workers_option given) (window_option given) (limit_option given)
+    (form_option given)
 
 abbrev pub demo_of : (Text → Option Text) → Option DemoOptions
-demo_of given = demo_with (number_option given) (degree_option given) (workers_option given) (window_option given)
+demo_of given =
+    demo_with (number_option given) (degree_option given) (workers_option given)
+    (window_option given)
 
 -- the names of a command's options
 abbrev pub basis_names : List Text
@@ -57,15 +63,21 @@ demo_names = codes "degree" ∷ codes "workers" ∷ codes "window" ∷ []
 
 -- the words are uses, and their values are options
 abbrev pub basis_after : List Text → Option Options
-basis_after words = option_and_then (λ uses. option_map Basis (basis_of (λ name. value_of name uses))) (uses_of basis_names false words)
+basis_after words =
+    option_and_then (λ uses. option_map Basis (basis_of (λ name. value_of name uses)))
+    (uses_of basis_names false words)
 
 -- the same of `member`
 abbrev pub member_after : List Text → Option Options
-member_after words = option_and_then (λ uses. option_map Member (member_of (λ name. value_of name uses))) (uses_of member_names false words)
+member_after words =
+    option_and_then (λ uses. option_map Member (member_of (λ name. value_of name uses)))
+    (uses_of member_names false words)
 
 -- the same of `demo`, which takes a number
 abbrev pub demo_after : List Text → Option Options
-demo_after words = option_and_then (λ uses. option_map Demo (demo_of (λ name. value_of name uses))) (uses_of demo_names true words)
+demo_after words =
+    option_and_then (λ uses. option_map Demo (demo_of (λ name. value_of name uses)))
+    (uses_of demo_names true words)
 
 -- `check` has no options and no number, so that no word may follow
 abbrev pub check_after : List Text → Option Options

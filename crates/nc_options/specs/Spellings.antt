@@ -39,10 +39,12 @@ pub record IsNumber (takes_number : Bool) (u : Use) (words : List Text) : Type 0
 
 -- the words are one use, in one of the three ways
 abbrev pub IsSpelled : List Text → Bool → Use → List Text → Type 0
-IsSpelled names takes_number u words = IsJoined names u words ⊎ (IsParted names u words ⊎ IsNumber takes_number u words)
+IsSpelled names takes_number u words =
+    IsJoined names u words ⊎ (IsParted names u words ⊎ IsNumber takes_number u words)
 
 -- the words are these uses, one behind another
 abbrev pub AreSpelled : List Text → Bool → List Use → List Text → Type 0
 AreSpelled names takes_number [] words = words ≡ []
 AreSpelled names takes_number (u ∷ uses) words =
-    (first : List Text) × (rest : List Text) × (words ≡ first ++ rest) × IsSpelled names takes_number u first × AreSpelled names takes_number uses rest
+    (first : List Text) × (rest : List Text) × (words ≡ first ++ rest)
+        × IsSpelled names takes_number u first × AreSpelled names takes_number uses rest

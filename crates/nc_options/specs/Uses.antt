@@ -24,9 +24,11 @@ number_id = codes "number"
 abbrev pub with_use : Text → Text → Option (List Use) → Option (List Use)
 with_use name value rest = option_map (λ uses. (name, value) ∷ uses) rest
 
--- the uses from a piece on. `wanted` is the option before it that still wants its value, and `next` gives the uses of
+-- the uses from a piece on. `wanted` is the option before it that still wants its value, and `next`
+-- gives the uses of
 -- the words behind the piece, by the option that then wants its value.
-abbrev pub split_piece : Bool → Option Text → Piece → (Option Text → Option (List Use)) → Option (List Use)
+abbrev pub split_piece : Bool → Option Text → Piece → (Option Text → Option (List Use))
+    → Option (List Use)
 split_piece takes_number None (joined name value) next = with_use name value (next None)
 split_piece takes_number None (named name) next = next (Some name)
 split_piece takes_number None (plain word) next =

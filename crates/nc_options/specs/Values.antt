@@ -3,7 +3,8 @@
 -- Values are texts until here. `given` is a function from names to the texts that were given, or
 -- `None`. A number has 1 to 18 decimal digits and lies in its range; leading zeros are digits. A
 -- default holds where the option was not given, and never for a text that is no value. `cofactors`
--- says what is shown of the cofactors: none, the traces, or the labels in full; `form` says whether a
+-- says what is shown of the cofactors: none, the traces, or the labels in full; `form` says whether
+-- a
 -- certificate is printed as terms or as lines.
 use Rattle.std.specs.Prelude.{◌&&◌, ◌==◌, ℕ, Option, Some, None, codes, if◌then◌else◌, length, nat_le, nat_lt, option_and_then, option_map}
 use Rattle.std.specs.Char.{is_ascii_digit}
@@ -19,7 +20,8 @@ use Rattle.nc_options.specs.declared.options.Form.TheVariants.{Terms, Lines}
 
 -- the value of 1 to 18 decimal digits; leading zeros are digits
 abbrev pub digits_of : Text → Option ℕ
-digits_of text = if nat_lt 0 (length text) && (nat_le (length text) 18 && list_all is_ascii_digit text)
+digits_of text =
+    if nat_lt 0 (length text) && (nat_le (length text) 18 && list_all is_ascii_digit text)
     then Some (digits_value 10 text) else None
 
 -- a number from `low` to `high`

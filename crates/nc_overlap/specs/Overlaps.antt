@@ -16,11 +16,13 @@ use Rattle.nc_theory.specs.Ambiguities.{NewAmbiguity}
 use Rattle.nc_theory.specs.States.{Entry}
 use Rattle.std.specs.Prelude.{All, Contains, List, map, ℕ, ◌+◌, ◌<◌, ◌↔◌, ◌≡◌, ◌≤◌, ◌⊎◌}
 
--- the signatures are those, within the bound, of all ambiguities of an entry with signature σ and leading word w
+-- the signatures are those, within the bound, of all ambiguities of an entry with signature σ and
+-- leading word w
 abbrev pub AreNewSignatures : Problem → List Entry → Word → Monomial → List Sig → Type 0
 AreNewSignatures P entries w σ found =
     (new : Entry) → new.signature ≡ σ → leading P.setting.prime new.polynomial ≡ w
-    → (ρ : Monomial) → Contains (map monomial_of found) ρ ↔ (IsWithin P ρ × NewAmbiguity P.setting entries new ρ)
+    → (ρ : Monomial) → Contains (map monomial_of found) ρ
+        ↔ (IsWithin P ρ × NewAmbiguity P.setting entries new ρ)
 
 -- the degree beside the signature is its degree in the setting, which has its generator
 pub record IsSignatureOver (s : Setting) (σ : Sig) : Type 0 where
@@ -34,12 +36,16 @@ pub record IsLedBy (s : Setting) (l : Lead) (e : Entry) : Type 0 where
 
 -- an entry meets the new one: one of the two leading words begins within the other
 abbrev pub MeetsEither : Setting → List Entry → Entry → Monomial → Type 0
-MeetsEither s entries new ρ = (e : Entry) × Contains entries e × (MeetSomewhere s e new ρ ⊎ MeetSomewhere s new e ρ)
+MeetsEither s entries new ρ =
+    (e : Entry) × Contains entries e × (MeetSomewhere s e new ρ ⊎ MeetSomewhere s new e ρ)
 
--- the later list has what the earlier one has and what the set has within the bound, each with its degree
-pub record AddsAmbiguities (P : Problem) (set : Monomial → Type 0) (old new : List Sig) : Type 0 where
+-- the later list has what the earlier one has and what the set has within the bound, each with its
+-- degree
+pub record AddsAmbiguities (P : Problem) (set : Monomial → Type 0) (old new : List Sig) : Type 0
+    where
   pub degrees : All (HasDegree P.setting) old → All (HasDegree P.setting) new
-  pub exact : (ρ : Monomial) → Contains (map monomial_of new) ρ ↔ (Contains (map monomial_of old) ρ ⊎ (IsWithin P ρ × set ρ))
+  pub exact : (ρ : Monomial) → Contains (map monomial_of new) ρ
+      ↔ (Contains (map monomial_of old) ρ ⊎ (IsWithin P ρ × set ρ))
 
 -- no more than n places count, or those from n on are past the bound for an entry of this degree
 abbrev pub IsEnough : Problem → ℕ → ℕ → ℕ → Type 0
@@ -47,4 +53,6 @@ IsEnough P all degree n = (all ≤ n) ⊎ (bound_degree P.setting P.bound < n + 
 
 -- the later list has what is added where the second leading word begins within the first one
 abbrev pub AddsMeetings : Problem → Lead → Lead → List Sig → List Sig → Type 0
-AddsMeetings P first second old new = (e f : Entry) → IsLedBy P.setting first e → IsLedBy P.setting second f → AddsAmbiguities P (MeetSomewhere P.setting e f) old new
+AddsMeetings P first second old new =
+    (e f : Entry) → IsLedBy P.setting first e → IsLedBy P.setting second f
+    → AddsAmbiguities P (MeetSomewhere P.setting e f) old new

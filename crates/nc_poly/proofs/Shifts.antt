@@ -10,9 +10,11 @@ module _ (u v : Word) where
   shifted_is [] = refl
   shifted_is (t ∷ f) = ap (λ (g : Polynomial). shifted_of u v t ∷ g) (shifted_is f)
 
-  shifted_less : (w : Word) (f : Polynomial) → AllLess w f → AllLess (u ++ (w ++ v)) (polynomial_times u f v)
+  shifted_less : (w : Word) (f : Polynomial) → AllLess w f
+      → AllLess (u ++ (w ++ v)) (polynomial_times u f v)
   shifted_less w [] a = tt
-  shifted_less w (t ∷ f) a = (word_front u (t.key ++ v) (w ++ v) (word_back t.key w v a.0), shifted_less w f a.1)
+  shifted_less w (t ∷ f) a =
+      (word_front u (t.key ++ v) (w ++ v) (word_back t.key w v a.0), shifted_less w f a.1)
 
   pub shifted_descends : (f : Polynomial) → IsDescending f → IsDescending (polynomial_times u f v)
   shifted_descends [] d = tt

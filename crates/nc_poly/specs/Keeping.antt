@@ -25,7 +25,8 @@ added pass p c s = record { now = (s.now + c) % p; before = before_at pass s; pa
 abbrev pub shown : {K : Type 0} → ℕ → K → List (Term K)
 shown c k = cond (nat_eq c 0) [] (record { coefficient = c; key = k } ∷ [])
 
--- the terms of the entries, the last one first, with the coefficients that φ reads and without those that are 0
+-- the terms of the entries, the last one first, with the coefficients that φ reads and without
+-- those that are 0
 abbrev pub terms_by : {K S : Type 0} → (S → ℕ) → List (K × S) → List (Term K)
 terms_by φ [] = []
 terms_by φ (e ∷ es) = terms_by φ es ++ shown (φ e.1) e.0
@@ -40,4 +41,5 @@ IsTopped {K} es = (front : List (K × Slot)) (e : K × Slot) → es ≡ front ++
 
 -- the last entry has the coefficient 0
 abbrev pub EndsInZero : {K : Type 0} → List (K × Slot) → Type 0
-EndsInZero {K} es = (front : List (K × Slot)) × (e : K × Slot) × (es ≡ front ++ e ∷ []) × (e.1.now ≡ 0)
+EndsInZero {K} es =
+    (front : List (K × Slot)) × (e : K × Slot) × (es ≡ front ++ e ∷ []) × (e.1.now ≡ 0)

@@ -64,7 +64,8 @@ impl Heap {
     /// The greatest word and its coefficient. No memory is taken.
     pub fn greatest(&self) -> Option<(&Word, &Residue)>
         ensures none { IsNone result ↔ (self.now ≡ []) }
-        ensures some { IfSome result (λ t. (others : Polynomial) × (self.now ≡ record { coefficient = t.1.now; key = t.0.now } ∷ others)) }
+        ensures some { IfSome result (λ t. (others : Polynomial)
+                × (self.now ≡ record { coefficient = t.1.now; key = t.0.now } ∷ others)) }
     {
         self.sum.greatest()
     }
@@ -95,7 +96,8 @@ impl Heap {
         requires residues { AreResidues p self.old }
         requires other_residues { AreResidues p g.now }
         requires few { All (λ t. length u.now + length t.key + length v.now ≤ 200000) g.now }
-        ensures difference { OnOk result (self.new ≡ normal_form p (minus p self.old c (polynomial_times u.now g.now v.now))) }
+        ensures difference { OnOk result
+              (self.new ≡ normal_form p (minus p self.old c (polynomial_times u.now g.now v.now))) }
         ensures residues { AreResidues p self.new }
         ensures err { OnErr result (self.new ≡ self.old) }
     {

@@ -84,7 +84,8 @@ fn add_at<K: Ord + Drop>(
 ) -> Result<(), AllocError>
     requires residues { AreResiduesBy p (terms_by now_of map.old.entries) }
     requires factor { c < p }
-    ensures entries { OnOk result (map.new.entries ≡ insert_entry K.cmp map.old.entries key (added pass p c (unwrap_or (get K.cmp map.old key) (fresh pass)))) }
+    ensures entries { OnOk result (map.new.entries ≡ insert_entry K.cmp map.old.entries key
+            (added pass p c (unwrap_or (get K.cmp map.old key) (fresh pass)))) }
     ensures err { OnErr result (map.new.entries ≡ map.old.entries) }
     ensures ordered { IsOrdered K.cmp map.old }
     ensures ordered_after { IsOrdered K.cmp map.new }
@@ -103,10 +104,13 @@ fn add_each<K: Ord + Drop>(
 ) -> Result<(), AllocError>
     requires residues { AreResiduesBy p (terms_by now_of map.old.entries) }
     requires factors { All (λ e. e.1 < p) terms.items }
-    ensures sum { OnOk result (SameSum (eq_by_cmp K.cmp) p (terms_by now_of map.new.entries) (listed terms.items ++ terms_by now_of map.old.entries)) }
-    ensures before { terms_by (before_at pass) map.new.entries ≡ terms_by (before_at pass) map.old.entries }
+    ensures sum { OnOk result (SameSum (eq_by_cmp K.cmp) p (terms_by now_of map.new.entries)
+            (listed terms.items ++ terms_by now_of map.old.entries)) }
+    ensures before { terms_by (before_at pass) map.new.entries ≡ terms_by (before_at pass)
+          map.old.entries }
     ensures residues { AreResiduesBy p (terms_by now_of map.new.entries) }
-    ensures stamps { All (λ e. e.1.pass ≤ pass) map.old.entries → All (λ e. e.1.pass ≤ pass) map.new.entries }
+    ensures stamps { All (λ e. e.1.pass ≤ pass) map.old.entries
+          → All (λ e. e.1.pass ≤ pass) map.new.entries }
 {
     let mut left = terms;
     while let Some((key, c)) = left.pop() {
@@ -118,7 +122,8 @@ fn add_each<K: Ord + Drop>(
 /// Undoes the pass.
 fn go_back<K: Ord + Drop>(map: &mut BTreeMap<K, Slot>, pass: u64)
     ensures terms { terms_by now_of map.new.entries ≡ terms_by (before_at pass) map.old.entries }
-    ensures stamps { All (λ e. e.1.pass ≤ pass) map.old.entries → All (λ e. e.1.pass ≤ pass) map.new.entries }
+    ensures stamps { All (λ e. e.1.pass ≤ pass) map.old.entries
+          → All (λ e. e.1.pass ≤ pass) map.new.entries }
 {
     map.retain(|_, slot| slot.go_back(pass));
 }
@@ -154,7 +159,8 @@ fn ends_in_zero<K: Ord>(map: &BTreeMap<K, Slot>) -> bool
 /// Drops the last entries with the coefficient 0.
 fn drop_zeros<K: Ord + Drop>(map: &mut BTreeMap<K, Slot>)
     ensures terms { terms_by now_of map.new.entries ≡ terms_by now_of map.old.entries }
-    ensures stamps { (pass : ℕ) → All (λ e. e.1.pass ≤ pass) map.old.entries → All (λ e. e.1.pass ≤ pass) map.new.entries }
+    ensures stamps { (pass : ℕ) → All (λ e. e.1.pass ≤ pass) map.old.entries
+          → All (λ e. e.1.pass ≤ pass) map.new.entries }
     ensures topped { IsTopped map.new.entries }
     ensures ordered { IsOrdered K.cmp map.new }
 {
@@ -173,7 +179,8 @@ fn add_or_go_back<K: Ord + Drop>(
     requires residues { AreResiduesBy p (terms_by now_of map.old.entries) }
     requires factors { All (λ e. e.1 < p) terms.items }
     requires stamps { All (λ e. e.1.pass < pass) map.old.entries }
-    ensures sum { OnOk result (SameSum (eq_by_cmp K.cmp) p (terms_by now_of map.new.entries) (listed terms.items ++ terms_by now_of map.old.entries)) }
+    ensures sum { OnOk result (SameSum (eq_by_cmp K.cmp) p (terms_by now_of map.new.entries)
+            (listed terms.items ++ terms_by now_of map.old.entries)) }
     ensures residues { AreResiduesBy p (terms_by now_of map.new.entries) }
     ensures stamps { All (λ e. e.1.pass ≤ pass) map.new.entries }
     ensures topped { IsTopped map.new.entries }
@@ -212,7 +219,8 @@ impl<K: Ord> Model for Sum<K> {
 
     ghost view = { λ s. terms_by now_of s.kept.entries };
 
-    ghost invariant = { λ s. IsTopped s.kept.entries × All (λ e. e.1.pass ≤ s.pass) s.kept.entries };
+    ghost invariant =
+        { λ s. IsTopped s.kept.entries × All (λ e. e.1.pass ≤ s.pass) s.kept.entries };
 }
 
 impl<K: Ord> Sum<K> {
@@ -229,7 +237,8 @@ impl<K: Ord> Sum<K> {
     /// The key and the coefficient of the greatest term. No memory is taken.
     pub fn greatest(&self) -> Option<(&K, &Residue)>
         ensures none { IsNone result ↔ (self.now ≡ []) }
-        ensures some { IfSome result (λ t. (others : List (Term _)) × (self.now ≡ record { coefficient = t.1.now; key = t.0.now } ∷ others)) }
+        ensures some { IfSome result (λ t. (others : List (Term _))
+                × (self.now ≡ record { coefficient = t.1.now; key = t.0.now } ∷ others)) }
     {
         match self.kept.last_key_value() {
             Some((key, slot)) => Some((key, &slot.now)),
@@ -259,7 +268,8 @@ impl<K: Ord + Drop> Sum<K> {
     pub fn take_greatest(&mut self) -> Option<(K, Residue)>
         ensures none { IsNone result ↔ (self.old ≡ []) }
         ensures unchanged { IsNone result → self.new ≡ self.old }
-        ensures some { IfSome result (λ t. self.old ≡ record { coefficient = t.1; key = t.0 } ∷ self.new) }
+        ensures some { IfSome result (λ t. self.old ≡ record { coefficient = t.1;
+                  key = t.0 } ∷ self.new) }
     {
         match self.kept.pop_last() {
             Some((key, slot)) => {
@@ -274,7 +284,8 @@ impl<K: Ord + Drop> Sum<K> {
     pub fn add_all(&mut self, p: Prime, terms: Vec<(K, Residue)>) -> Result<(), AllocError>
         requires residues { AreResiduesBy p self.old }
         requires factors { All (λ e. e.1 < p) terms.items }
-        ensures sum { OnOk result (SameSum (eq_by_cmp K.cmp) p self.new (listed terms.items ++ self.old)) }
+        ensures sum { OnOk result (SameSum (eq_by_cmp K.cmp) p self.new
+                (listed terms.items ++ self.old)) }
         ensures residues { AreResiduesBy p self.new }
         ensures descending { Descends K.cmp self.new }
         ensures err { OnErr result (self.new ≡ self.old) }

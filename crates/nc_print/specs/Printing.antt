@@ -35,10 +35,12 @@ abbrev pub word_text : List (List ℕ) → Word → List ℕ
 word_text names [] = codes "1"
 word_text names (x ∷ w) = joined (codes "*") (map (name_of names) (x ∷ w))
 
--- the word alone where the coefficient is 1, the coefficient alone where the word is empty, else both
+-- the word alone where the coefficient is 1, the coefficient alone where the word is empty, else
+-- both
 abbrev pub coefficient_and_word : List (List ℕ) → ℕ → Word → List ℕ
 coefficient_and_word names c [] = decimal c
-coefficient_and_word names c (x ∷ w) = (if c == 1 then [] else decimal c ++ codes "*") ++ word_text names (x ∷ w)
+coefficient_and_word names c (x ∷ w) =
+    (if c == 1 then [] else decimal c ++ codes "*") ++ word_text names (x ∷ w)
 
 -- a term, as above
 abbrev pub term_text : List (List ℕ) → Term Word → List ℕ
@@ -51,11 +53,14 @@ poly_text names (t ∷ f) = joined (codes " + ") (map (term_text names) (t ∷ f
 
 -- the left word, the generator's number in brackets, the right word
 abbrev pub sig_text : List (List ℕ) → Monomial → List ℕ
-sig_text names σ = word_text names σ.left ++ (codes " [" ++ (decimal σ.generator ++ (codes "] " ++ word_text names σ.right)))
+sig_text names σ =
+    word_text names σ.left ++ (codes
+      " [" ++ (decimal σ.generator ++ (codes "] " ++ word_text names σ.right)))
 
 -- the monomial alone where the coefficient is 1, else behind the coefficient
 abbrev pub module_term_text : List (List ℕ) → Term Monomial → List ℕ
-module_term_text names t = (if t.coefficient == 1 then [] else decimal t.coefficient ++ codes "*") ++ sig_text names t.key
+module_term_text names t =
+    (if t.coefficient == 1 then [] else decimal t.coefficient ++ codes "*") ++ sig_text names t.key
 
 -- the terms joined by ` + `; zero is `0`
 abbrev pub module_text : List (List ℕ) → Element → List ℕ
@@ -74,7 +79,9 @@ printed_weights weights = codes "weights" ++ flat_map (λ m. codes " " ++ decima
 
 -- the lines `letters` and, where some weight is not 1, `weights`
 abbrev pub printed_alphabet : Alphabet → List (List ℕ)
-printed_alphabet a = names_line a.names ∷ (if list_all (λ m. m == 1) a.weights then [] else printed_weights a.weights ∷ [])
+printed_alphabet a =
+    names_line a.names ∷ (if list_all (λ m. m == 1) a.weights then [] else printed_weights
+      a.weights ∷ [])
 
 -- a generator behind its keyword
 abbrev pub generator_line : List (List ℕ) → Polynomial → List ℕ
@@ -82,7 +89,9 @@ generator_line names f = codes "generator " ++ poly_text names f
 
 -- the lines `field`, `letters`, `weights` and `generator`
 abbrev pub printed_setting : NamedSetting → List (List ℕ)
-printed_setting s = (codes "field " ++ decimal s.setting.prime) ∷ (printed_alphabet s.alphabet ++ map (generator_line s.alphabet.names) s.setting.generators)
+printed_setting s =
+    (codes "field " ++ decimal s.setting.prime)
+    ∷ (printed_alphabet s.alphabet ++ map (generator_line s.alphabet.names) s.setting.generators)
 
 -- a generator's number in brackets, or a line's in braces
 abbrev pub factor_text : Factor → List ℕ
@@ -91,7 +100,10 @@ factor_text (Factor.a_line k) = codes " {" ++ (decimal k ++ codes "} ")
 
 -- a part: the coefficient as it is, the left word, what is multiplied, the right word
 abbrev pub part_line : List (List ℕ) → Part → List ℕ
-part_line names part = codes "part " ++ (decimal part.coefficient ++ (codes " " ++ (word_text names part.left ++ (factor_text part.of ++ word_text names part.right))))
+part_line names part =
+    codes "part " ++ (decimal part.coefficient
+      ++ (codes " " ++ (word_text names
+          part.left ++ (factor_text part.of ++ word_text names part.right))))
 
 -- the line `line`, and the parts
 abbrev pub printed_line : List (List ℕ) → List Part → List (List ℕ)

@@ -29,7 +29,8 @@ fn push_name(out: &mut Vec<u8>, names: &[Name], letter: Letter) -> Result<(), Al
 /// Appends names of letters, with a `*` before each.
 fn write_factors(out: &mut Vec<u8>, names: &[Name], letters: &[Letter]) -> Result<(), AllocError>
     requires { All (λ x. x.index < length names.now) letters.now }
-    ensures { OnOk result (out.new.items ≡ out.old.items ++ flat_map (λ y. codes "*" ++ y) (map (name_of names.now) letters.now)) }
+    ensures { OnOk result (out.new.items ≡ out.old.items ++ flat_map (λ y. codes "*" ++ y)
+            (map (name_of names.now) letters.now)) }
 {
     for letter in letters {
         out.push(b'*')?;
@@ -72,7 +73,8 @@ fn write_term(out: &mut Vec<u8>, names: &[Name], t: &Term) -> Result<(), AllocEr
 /// Appends terms, with ` + ` before each.
 fn write_others(out: &mut Vec<u8>, names: &[Name], terms: &[Term]) -> Result<(), AllocError>
     requires { All (λ t. All (λ x. x.index < length names.now) t.key) terms.now }
-    ensures { OnOk result (out.new.items ≡ out.old.items ++ flat_map (λ y. codes " + " ++ y) (map (term_text names.now) terms.now)) }
+    ensures { OnOk result (out.new.items ≡ out.old.items ++ flat_map (λ y. codes " + " ++ y)
+            (map (term_text names.now) terms.now)) }
 {
     for t in terms {
         out.extend_from_slice(b" + ")?;

@@ -16,7 +16,9 @@ use std::alloc::AllocError;
 fn write_term(out: &mut Vec<u8>, names: &[Name], t: &ModuleTerm) -> Result<(), AllocError>
     requires left { All (λ x. x.index < length names.now) t.now.key.left }
     requires right { All (λ x. x.index < length names.now) t.now.key.right }
-    ensures { OnOk result (out.new.items ≡ out.old.items ++ (term_line names.now (record { coefficient = t.now.coefficient; key = monomial_of t.now.key }) ++ 10 ∷ [])) }
+    ensures { OnOk result (out.new.items ≡ out.old.items
+            ++ (term_line names.now (record { coefficient = t.now.coefficient;
+                key = monomial_of t.now.key }) ++ 10 ∷ [])) }
 {
     out.extend_from_slice(b"term ")?;
     push_number(out, t.coefficient)?;
@@ -29,7 +31,8 @@ fn write_term(out: &mut Vec<u8>, names: &[Name], t: &ModuleTerm) -> Result<(), A
 fn write_each(out: &mut Vec<u8>, names: &[Name], terms: &[ModuleTerm]) -> Result<(), AllocError>
     requires left { All (λ t. All (λ x. x.index < length names.now) t.key.left) terms.now }
     requires right { All (λ t. All (λ x. x.index < length names.now) t.key.right) terms.now }
-    ensures { OnOk result (out.new.items ≡ out.old.items ++ ended (map (term_line names.now) (element_of terms.now))) }
+    ensures { OnOk result (out.new.items ≡ out.old.items ++ ended
+            (map (term_line names.now) (element_of terms.now))) }
 {
     for t in terms {
         write_term(out, names, t)?;
@@ -45,10 +48,14 @@ pub fn write_terms(
     claim: &Poly,
     m: &Module,
 ) -> Result<(), AllocError>
-    requires claim { All (λ t. All (λ x. x.index < length setting.now.alphabet.names) t.key) claim.now }
-    requires left { All (λ t. All (λ x. x.index < length setting.now.alphabet.names) t.key.left) m.now }
-    requires right { All (λ t. All (λ x. x.index < length setting.now.alphabet.names) t.key.right) m.now }
-    ensures { OnOk result (out.new.items ≡ out.old.items ++ terms_text setting.now claim.now (element_of m.now)) }
+    requires claim { All (λ t. All (λ x. x.index < length setting.now.alphabet.names) t.key)
+          claim.now }
+    requires left { All (λ t. All (λ x. x.index < length setting.now.alphabet.names) t.key.left)
+          m.now }
+    requires right { All (λ t. All (λ x. x.index < length setting.now.alphabet.names) t.key.right)
+          m.now }
+    ensures { OnOk result (out.new.items ≡ out.old.items ++ terms_text setting.now claim.now
+            (element_of m.now)) }
 {
     let names = setting.names();
     out.extend_from_slice(b"certificate 1\n")?;

@@ -21,8 +21,14 @@ passes σ τ e = and-true (is_lt (compare_sigs σ τ)) ∙ ap is_lt e
 less : (σ τ : Sig) → is_after σ τ ≡ true → compare_sigs σ τ ≡ Less
 less σ τ e = less_from_test (compare_sigs σ τ) (sym (and-true (is_lt (compare_sigs σ τ))) ∙ e)
 
-pub least_after_first : {A : Type 0} (f : A → Sig) (ss : List Sig) (σ : Sig) (range rest : List A) (o : Option (Bor A)) → IsAscending ss → map f range ≡ filter (is_after σ) ss → MatchOption o ((range ≡ []) × (rest ≡ [])) (λ x. range ≡ x.now ∷ rest) → IsLeastAfter ss σ (option_map f (option_copied o))
-least_after_first f ss σ range rest None s e h = λ τ c l. none_passes sigs_order sigs_same (is_after σ) ss (sym e ∙ ap (map f) h.0) τ c (passes σ τ l)
+pub least_after_first : {A : Type 0} (f : A → Sig) (ss : List Sig) (σ : Sig) (range rest : List A)
+    (o : Option (Bor A)) → IsAscending ss → map f range ≡ filter (is_after σ) ss
+    → MatchOption o ((range ≡ []) × (rest ≡ [])) (λ x. range ≡ x.now ∷ rest)
+    → IsLeastAfter ss σ (option_map f (option_copied o))
+least_after_first f ss σ range rest None s e h =
+    λ τ c l. none_passes sigs_order sigs_same (is_after σ) ss (sym e ∙ ap (map f) h.0) τ c
+    (passes σ τ l)
 least_after_first f ss σ range rest (Some x) s e h =
-    let t = first_passes sigs_order sigs_same (is_after σ) ss (f x.now) (map f rest) s (sym e ∙ ap (map f) h) in
+    let t = first_passes sigs_order sigs_same (is_after σ) ss (f x.now) (map f rest) s
+        (sym e ∙ ap (map f) h) in
     (t.0, less σ (f x.now) t.1, λ ρ c l. t.2 ρ c (passes σ ρ l))

@@ -23,7 +23,9 @@ module _ (P : Problem) where
       go (inl l) = inl (u.0, l, u.2)
       go (inr e) = inr (subst (λ i. IsUnitAt P i σ) e u.2)
 
-  pub units_more : (n : ℕ) (old new : List Sig) → IsWithUnit P (n + 1) old new → ((σ : Sig) → Contains old σ ↔ IsUnitTo P n σ) → (σ : Sig) → Contains new σ ↔ IsUnitTo P (n + 1) σ
+  pub units_more : (n : ℕ) (old new : List Sig) → IsWithUnit P (n + 1) old new
+      → ((σ : Sig) → Contains old σ ↔ IsUnitTo P n σ) → (σ : Sig) → Contains new σ
+      ↔ IsUnitTo P (n + 1) σ
   units_more n old new w h σ = (λ c. there ((w σ).0 c), λ u. (w σ).1 (back (fewer n σ u)))
     where
       there : Contains old σ ⊎ IsUnitAt P (n + 1) σ → IsUnitTo P (n + 1) σ
@@ -34,12 +36,16 @@ module _ (P : Problem) where
       back (inl u) = inl ((h σ).1 u)
       back (inr u) = inr u
 
-  pub units_all : (n : ℕ) (old : List Sig) → length P.setting.generators ≤ n → ((σ : Sig) → Contains old σ ↔ IsUnitTo P n σ) → (σ : Sig) → Contains old σ ↔ IsUnitWithin P σ
-  units_all n old l h σ = (λ c. let u = (h σ).0 c in (u.0, u.2), λ u. (h σ).1 (u.0, omega (arith, u.1.0.0.1), u.1))
+  pub units_all : (n : ℕ) (old : List Sig) → length P.setting.generators ≤ n
+      → ((σ : Sig) → Contains old σ ↔ IsUnitTo P n σ) → (σ : Sig) → Contains old σ
+      ↔ IsUnitWithin P σ
+  units_all n old l h σ =
+      (λ c. let u = (h σ).0 c in (u.0, u.2), λ u. (h σ).1 (u.0, omega (arith, u.1.0.0.1), u.1))
 
   -- ---- one generator
 
-  pub unit_added : (i : ℕ) (τ : Sig) (old new : List Sig) → τ ≡ sig_of (generator_weight P.setting) (unit_monomial i) → IsWithin P (unit_monomial i) → IsWith old τ new → IsWithUnit P i old new
+  pub unit_added : (i : ℕ) (τ : Sig) (old new : List Sig) → τ ≡ sig_of (generator_weight P.setting)
+      (unit_monomial i) → IsWithin P (unit_monomial i) → IsWith old τ new → IsWithUnit P i old new
   unit_added i τ old new e b w = λ σ. (λ c. there σ ((w σ).0 c), λ c. (w σ).1 (back σ c))
     where
       there : (σ : Sig) → Contains old σ ⊎ (σ ≡ τ) → Contains old σ ⊎ IsUnitAt P i σ
@@ -50,5 +56,11 @@ module _ (P : Problem) where
       back σ (inl c) = inl c
       back σ (inr u) = inr (u.1 ∙ sym e)
 
-  pub unit_sig : (weight i : ℕ) (u v : Word) (τ : Sig) → τ ≡ record { degree = word_weight u + weight + word_weight v; generator = i; left = u; right = v } → u ≡ [] → v ≡ [] → weight ≡ generator_weight P.setting i → τ ≡ sig_of (generator_weight P.setting) (unit_monomial i)
-  unit_sig weight i u v τ e l r w = e ∙ (λ x. record { degree = word_weight (l x) + w x + word_weight (r x); generator = i; left = l x; right = r x })
+  pub unit_sig : (weight i : ℕ) (u v : Word) (τ : Sig)
+      → τ ≡ record { degree = word_weight u + weight + word_weight v;
+        generator = i; left = u; right = v } → u ≡ [] → v ≡ []
+      → weight ≡ generator_weight P.setting i → τ ≡ sig_of (generator_weight P.setting)
+      (unit_monomial i)
+  unit_sig weight i u v τ e l r w =
+      e ∙ (λ x. record { degree = word_weight (l x) + w x + word_weight (r x);
+          generator = i; left = l x; right = r x })

@@ -17,7 +17,8 @@ IsAscending = IsStrictlySortedBy compare_sigs
 
 -- σ is 1 [i] 1 with its degree, and lies within the problem's bound
 abbrev pub IsUnitAt : Problem → ℕ → Sig → Type 0
-IsUnitAt P i σ = IsWithin P (unit_monomial i) × (σ ≡ sig_of (generator_weight P.setting) (unit_monomial i))
+IsUnitAt P i σ =
+    IsWithin P (unit_monomial i) × (σ ≡ sig_of (generator_weight P.setting) (unit_monomial i))
 
 -- 1 [i] 1 with its degree, within the problem's bound
 abbrev pub IsUnitWithin : Problem → Sig → Type 0
@@ -46,4 +47,6 @@ IsDifference old less new = (σ : Sig) → Contains new σ ↔ (Contains old σ 
 -- the least one that is greater than σ, and None exactly where none is
 abbrev pub IsLeastAfter : List Sig → Sig → Option Sig → Type 0
 IsLeastAfter ss σ None = (τ : Sig) → Contains ss τ → ¬ (compare_sigs σ τ ≡ Less)
-IsLeastAfter ss σ (Some τ) = Contains ss τ × (compare_sigs σ τ ≡ Less) × ((ρ : Sig) → Contains ss ρ → compare_sigs σ ρ ≡ Less → (τ ≡ ρ) ⊎ (compare_sigs τ ρ ≡ Less))
+IsLeastAfter ss σ (Some τ) =
+    Contains ss τ × (compare_sigs σ τ ≡ Less)
+    × ((ρ : Sig) → Contains ss ρ → compare_sigs σ ρ ≡ Less → (τ ≡ ρ) ⊎ (compare_sigs τ ρ ≡ Less))

@@ -44,7 +44,8 @@ fn insert_unit(
 ) -> Result<(), AllocError>
     requires generator { IsGenerator problem.now.problem.setting number }
     requires ascending { IsAscending (map arc_value kept.old.keys) }
-    ensures added { OnOk result (IsWithUnit problem.now.problem number (map arc_value kept.old.keys) (map arc_value kept.new.keys)) }
+    ensures added { OnOk result (IsWithUnit problem.now.problem number (map arc_value kept.old.keys)
+            (map arc_value kept.new.keys)) }
     ensures ascending { IsAscending (map arc_value kept.new.keys) }
 {
     let weight = problem.setting().weight(number);
@@ -57,7 +58,8 @@ fn insert_unit(
 
 /// Those that are not in the set.
 fn without(sigs: Vec<Arc<Sig>>, kept: &BTreeSet<Arc<Sig>>) -> Vec<Arc<Sig>>
-    ensures { IsDifference (map arc_value sigs.items) (map arc_value kept.now.keys) (map arc_value result.items) }
+    ensures { IsDifference (map arc_value sigs.items) (map arc_value kept.now.keys)
+          (map arc_value result.items) }
 {
     let mut fresh = sigs;
     fresh.retain(|sig| !kept.contains(sig));
@@ -67,7 +69,8 @@ fn without(sigs: Vec<Arc<Sig>>, kept: &BTreeSet<Arc<Sig>>) -> Vec<Arc<Sig>>
 impl Waiting {
     /// Those `1 [i] 1` that lie within the problem's bound.
     pub fn of(alloc: Global, problem: &Problem) -> Result<Waiting, AllocError>
-        ensures units { IfOk result (λ w. (σ : Value) → Contains w σ ↔ IsUnitWithin problem.now.problem σ) }
+        ensures units { IfOk result (λ w. (σ : Value) → Contains w σ
+                ↔ IsUnitWithin problem.now.problem σ) }
         ensures ascending { IfOk result IsAscending }
     {
         let mut kept = BTreeSet::new(alloc);
@@ -103,7 +106,8 @@ impl Waiting {
     /// The least one.
     pub fn least(&self) -> Option<&Arc<Sig>>
         ensures none { IsNone result ↔ (self.now ≡ []) }
-        ensures least { IfSome result (λ s. (others : List Value) × (self.now ≡ arc_value s.now ∷ others)) }
+        ensures least { IfSome result (λ s. (others : List Value)
+                × (self.now ≡ arc_value s.now ∷ others)) }
         ensures ascending { IsAscending self.now }
     {
         self.kept.first()
@@ -121,7 +125,8 @@ impl Waiting {
 
     /// The least one that is greater than this.
     pub fn after(&self, sig: &Arc<Sig>) -> Option<&Arc<Sig>>
-        ensures { IsLeastAfter self.now (arc_value sig.now) (option_map arc_value (option_copied result)) }
+        ensures { IsLeastAfter self.now (arc_value sig.now)
+              (option_map arc_value (option_copied result)) }
     {
         least_after(&self.kept, sig)
     }

@@ -17,23 +17,40 @@ use Rattle.std.specs.declared.alloc.AllocError.{AllocError}
 use Rattle.std.proofs.Common.{Contains, Err, IfOk, List, Ok, Result, refl, subst, sym, ◌↔◌, ◌≡◌}
 
 -- where its degree stands beside it
-below_sig : (s : Setting) (β : Sig) → HasDegree s β → (σ : Monomial) → IsBelowSig s β σ ↔ IsLess s σ (monomial_of β)
-below_sig s β h σ = (less_from_sigs s (sig_of (generator_weight s) σ) β refl h, sigs_from_less s (sig_of (generator_weight s) σ) β refl h)
+below_sig : (s : Setting) (β : Sig) → HasDegree s β → (σ : Monomial) → IsBelowSig s β σ
+    ↔ IsLess s σ (monomial_of β)
+below_sig s β h σ =
+    (less_from_sigs s (sig_of (generator_weight s) σ) β refl h,
+      sigs_from_less s (sig_of (generator_weight s) σ) β refl h)
 
-pub reduced_at : (s : Setting) (entries : List Entry) (β : Sig) → HasDegree s β → {f kept : Polynomial} {steps : List Step} → Reduction s entries (IsBelowSig s β) f kept steps → ReductionAt s entries (monomial_of β) f kept steps
-reduced_at s entries β h r = reduction_by s entries (IsBelowSig s β) (λ σ. IsLess s σ (monomial_of β)) (λ w d. below_sig s β h _) r
+pub reduced_at : (s : Setting) (entries : List Entry) (β : Sig) → HasDegree s β
+    → {f kept : Polynomial} {steps : List Step} → Reduction s entries (IsBelowSig s β) f kept steps
+    → ReductionAt s entries (monomial_of β) f kept steps
+reduced_at s entries β h r =
+    reduction_by s entries (IsBelowSig s β) (λ σ. IsLess s σ (monomial_of β))
+    (λ w d. below_sig s β h _) r
 
-pub limit_under : (P : Problem) (β : Sig) → Bound.under (monomial_of β) ≡ P.bound → HasDegree P.setting β → (γ : Sig) → γ ≡ β → IsLimitOf P γ
+pub limit_under : (P : Problem) (β : Sig) → Bound.under (monomial_of β) ≡ P.bound
+    → HasDegree P.setting β → (γ : Sig) → γ ≡ β → IsLimitOf P γ
 limit_under P β is h γ e σ g =
     subst (λ (b : Bound). IsBelowSig P.setting γ σ ↔ IsWithinBound P.setting b σ) is
-    (subst (λ (x : Sig). IsBelowSig P.setting x σ ↔ IsWithinBound P.setting (Bound.under (monomial_of β)) σ) (sym e) under)
+    (subst (λ (x : Sig). IsBelowSig P.setting x σ
+            ↔ IsWithinBound P.setting (Bound.under (monomial_of β)) σ) (sym e) under)
   where
     under : IsBelowSig P.setting β σ ↔ IsWithinBound P.setting (Bound.under (monomial_of β)) σ
     under = let b = below_sig P.setting β h σ in (λ l. (g, b.0 l), λ w. b.1 w.1)
 
-pub reduced_within : (P : Problem) (entries : List Entry) → ((e : Entry) → Contains entries e → IsWithin P e.signature) → (β : Sig) → IsLimitOf P β → {f kept : Polynomial} {steps : List Step} → Reduction P.setting entries (IsBelowSig P.setting β) f kept steps → Reduction P.setting entries (IsWithin P) f kept steps
-reduced_within P entries within β limit r = reduction_by P.setting entries (IsBelowSig P.setting β) (IsWithin P) (λ w d. limit _ (within d.entry d.listed).0) r
+pub reduced_within : (P : Problem) (entries : List Entry)
+    → ((e : Entry) → Contains entries e → IsWithin P e.signature) → (β : Sig) → IsLimitOf P β
+    → {f kept : Polynomial} {steps : List Step}
+    → Reduction P.setting entries (IsBelowSig P.setting β) f kept steps
+    → Reduction P.setting entries (IsWithin P) f kept steps
+reduced_within P entries within β limit r =
+    reduction_by P.setting entries (IsBelowSig P.setting β) (IsWithin P)
+    (λ w d. limit _ (within d.entry d.listed).0) r
 
-pub limit_copied : (P : Problem) (β : Sig) → Bound.under (monomial_of β) ≡ P.bound → HasDegree P.setting β → (r : Result Sig AllocError) → IfOk r (λ γ. γ ≡ β) → IfOk r (IsLimitOf P)
+pub limit_copied : (P : Problem) (β : Sig) → Bound.under (monomial_of β) ≡ P.bound
+    → HasDegree P.setting β → (r : Result Sig AllocError) → IfOk r (λ γ. γ ≡ β)
+    → IfOk r (IsLimitOf P)
 limit_copied P β is h (Ok γ) e = limit_under P β is h γ e
 limit_copied P β is h (Err x) e = tt

@@ -31,9 +31,14 @@ use Rattle.std.proofs.lemmas.List.Elements.{All-from_recursion, recursion_from_A
 use Rattle.std.proofs.lemmas.Option.{get_or_from_slice_get}
 use Rattle.std.specs.List.{All, slice_get}
 
--- what stands behind the first term of a normal form is what the difference with that term has as its own
-rest_is : (p : ℕ) (t : Term Word) (f : Polynomial) → IsNormal p (t ∷ f) → f ≡ normal_form p (minus p (t ∷ f) 1 (t ∷ []))
-rest_is p t f n = normal_form_only p (minus p (t ∷ f) 1 (t ∷ [])) f some (n.0.2, All-from_recursion (λ u. u.coefficient < p) f (recursion_from_All (λ u. u.coefficient < p) (t ∷ f) n.1).1) (record { at = same })
+-- what stands behind the first term of a normal form is what the difference with that term has as
+-- its own
+rest_is : (p : ℕ) (t : Term Word) (f : Polynomial) → IsNormal p (t ∷ f)
+    → f ≡ normal_form p (minus p (t ∷ f) 1 (t ∷ []))
+rest_is p t f n =
+    normal_form_only p (minus p (t ∷ f) 1 (t ∷ [])) f some
+    (n.0.2, All-from_recursion (λ u. u.coefficient < p) f
+      (recursion_from_All (λ u. u.coefficient < p) (t ∷ f) n.1).1) (record { at = same })
   where
     some : 0 < p
     some = omega (arith, (recursion_from_All (λ u. u.coefficient < p) (t ∷ f) n.1).0)
@@ -42,19 +47,32 @@ rest_is p t f n = normal_form_only p (minus p (t ∷ f) 1 (t ∷ [])) f some (n.
     whole q a c e = omega (arith, ap (λ n. n * a) e)
 
     same : (w : Word) → coefficient f w % p ≡ coefficient (minus p (t ∷ f) 1 (t ∷ [])) w % p
-    same w = sym (ap (λ n. n % p) (coefficient-minus same_word IsWordLess word_laws p (t ∷ f) 1 (t ∷ []) w ∙ whole (p - 1) (t.coefficient * is_at same_word w t.key) (coefficient f w) (omega (arith, some))) ∙ add-mul-mod_self_left _ _ _)
+    same w =
+        sym (ap (λ n. n % p) (coefficient-minus same_word IsWordLess word_laws p (t ∷ f) 1 (t ∷ [])
+            w ∙ whole (p - 1) (t.coefficient * is_at same_word w t.key) (coefficient f w)
+            (omega (arith, some))) ∙ add-mul-mod_self_left _ _ _)
 
 -- a polynomial with this greatest term, and what the leads give for its word x
-module _ (law : LeadsLaw) (s : Setting) (entries : List Entry) (usable : All (IsUsable s) entries) (β : Sig) (leads : List Lead) (are : leads ≡ leads_of s entries)
-    (old : Polynomial) (normal : IsNormal s.prime old) (t : Term Word) (others : Polynomial) (parts : old ≡ t ∷ others) (x : Word) (is_word : x ≡ t.key) where
-  chosen : (answer : Option Hit) → IsFirstRegular leads x β answer → IsChosen s entries t.key β answer
-  chosen answer first = law s entries t.key β answer (subst (λ l. IsFirstRegular l t.key β answer) are (subst (λ w. IsFirstRegular leads w β answer) is_word first))
+module _ (law : LeadsLaw) (s : Setting) (entries : List Entry) (usable : All (IsUsable s) entries)
+    (β : Sig) (leads : List Lead) (are : leads ≡ leads_of s entries)
+    (old : Polynomial) (normal : IsNormal s.prime old) (t : Term Word) (others : Polynomial)
+        (parts : old ≡ t ∷ others) (x : Word) (is_word : x ≡ t.key) where
+  chosen : (answer : Option Hit) → IsFirstRegular leads x β answer
+      → IsChosen s entries t.key β answer
+  chosen answer first =
+      law s entries t.key β answer (subst (λ l. IsFirstRegular l t.key β answer) are
+        (subst (λ w. IsFirstRegular leads w β answer) is_word first))
 
-  pub none_turn : IsFirstRegular leads x β None → (u : Term Word) (new : Polynomial) → old ≡ u ∷ new → IsKept s entries (IsBelowSig s β) old new u
+  pub none_turn : IsFirstRegular leads x β None → (u : Term Word) (new : Polynomial) → old ≡ u ∷ new
+      → IsKept s entries (IsBelowSig s β) old new u
   none_turn none u new e =
-      let same : t.key ≡ u.key = ap (λ (y : Term Word). y.key) (let h : t ∷ others ≡ u ∷ new = sym parts ∙ e in let i : t ≡ u = cc in i) in
-      kept_turn s entries usable (IsBelowSig s β) old u new e normal t.key new same (chosen None none)
-      (rest_is s.prime u new (subst (IsNormal s.prime) e normal) ∙ ap (λ f. normal_form s.prime (minus s.prime f 1 (u ∷ []))) (sym e))
+      let same : t.key ≡ u.key =
+          ap (λ (y : Term Word). y.key) (let h : t ∷ others ≡ u ∷ new = sym parts ∙ e in
+            let i : t ≡ u = cc in i) in
+      kept_turn s entries usable (IsBelowSig s β) old u new e normal t.key new same
+          (chosen None none)
+      (rest_is s.prime u new (subst (IsNormal s.prime) e normal)
+            ∙ ap (λ f. normal_form s.prime (minus s.prime f 1 (u ∷ []))) (sym e))
 
   module _ (h : Hit) (first : IsFirstRegular leads x β (Some h)) where
     found : IsChosen s entries t.key β (Some h)
@@ -64,15 +82,20 @@ module _ (law : LeadsLaw) (s : Setting) (entries : List Entry) (usable : All (Is
     hit_within = number_within s entries β t.key h found
 
     -- its entry's polynomial f, and the setting's prime p, as code reads them
-    module _ (e : Entry) (at : slice_get entries (h.number - 1) ≡ Some e) (f : Polynomial) (of_entry : f ≡ e.polynomial) (p : ℕ) (is_prime : p ≡ s.prime) where
+    module _ (e : Entry) (at : slice_get entries (h.number - 1) ≡ Some e) (f : Polynomial)
+        (of_entry : f ≡ e.polynomial) (p : ℕ) (is_prime : p ≡ s.prime) where
       usable_one : IsUsable s e
       usable_one = usable_at s entries usable (h.number - 1) e at
 
       pub turn_residue : t.coefficient < p
-      turn_residue = subst (λ q. t.coefficient < q) (sym is_prime) (lead_residue s entries usable (IsBelowSig s β) old t others parts normal)
+      turn_residue =
+          subst (λ q. t.coefficient < q) (sym is_prime)
+          (lead_residue s entries usable (IsBelowSig s β) old t others parts normal)
 
       pub divisor_normal : IsNormal p f
-      divisor_normal = subst (λ q. IsNormal q f) (sym is_prime) (subst (IsNormal s.prime) (sym of_entry) usable_one.normal)
+      divisor_normal =
+          subst (λ q. IsNormal q f) (sym is_prime)
+          (subst (IsNormal s.prime) (sym of_entry) usable_one.normal)
 
       pub divisor_some : f ≢ []
       divisor_some i = usable_one.some (sym of_entry ∙ i)
@@ -81,30 +104,52 @@ module _ (law : LeadsLaw) (s : Setting) (entries : List Entry) (usable : All (Is
       lead_is = ap (leading s.prime) (sym of_entry) ∙ ap (λ q. leading q f) (sym is_prime)
 
       pub divisor_stands : OccursAt (leading p f) t.key h.place
-      divisor_stands = subst (λ v. OccursAt v t.key h.place) lead_is (hit_stands s entries β t.key h found e at)
+      divisor_stands =
+          subst (λ v. OccursAt v t.key h.place) lead_is (hit_stands s entries β t.key h found e at)
 
       -- and a step that was made of them
-      module _ (step : Step) (spells : step.left ++ (leading p f ++ step.right) ≡ t.key) (place : length step.left ≡ h.place) (number : step.number ≡ h.number) where
+      module _ (step : Step) (spells : step.left ++ (leading p f ++ step.right) ≡ t.key)
+          (place : length step.left ≡ h.place) (number : step.number ≡ h.number) where
         abbrev choice : Chosen
         choice = record { left = step.left; number = step.number; right = step.right }
 
         is_choice : IsChoiceOf s entries (IsBelowSig s β) t.key (Some choice)
-        is_choice = hit_choice s entries β t.key h found e at step.left step.number step.right (ap (λ v. step.left ++ (v ++ step.right)) lead_is ∙ spells) place number
+        is_choice =
+            hit_choice s entries β t.key h found e at step.left step.number step.right
+            (ap (λ v. step.left ++ (v ++ step.right)) lead_is ∙ spells) place number
 
         read : e ≡ get_or entries (step.number - 1) e
-        read = sym (get_or_from_slice_get entries (step.number - 1) e e (ap (λ n. slice_get entries (n - 1)) number ∙ at))
+        read = sym (get_or_from_slice_get entries (step.number - 1) e e
+              (ap (λ n. slice_get entries (n - 1)) number ∙ at))
 
-        pub step_few : HasSmallWords s old → All (λ y. length step.left + length y.key + length step.right ≤ 200000) f
-        step_few small = chosen_few s entries usable (IsBelowSig s β) old t others parts normal t.key refl choice is_choice e read f of_entry step.left step.right refl refl small
+        pub step_few : HasSmallWords s old
+            → All (λ y. length step.left + length y.key + length step.right ≤ 200000) f
+        step_few small =
+            chosen_few s entries usable (IsBelowSig s β) old t others parts normal t.key refl choice
+            is_choice e read f of_entry step.left step.right refl refl small
 
-        pub hit_turn : (new : Polynomial) → step.coefficient < p → step.coefficient * coefficient f (leading p f) % p ≡ t.coefficient → new ≡ normal_form p (minus p old step.coefficient (polynomial_times step.left f step.right)) → IsSubtracted s entries (IsBelowSig s β) old new step
+        pub hit_turn : (new : Polynomial) → step.coefficient < p
+            → step.coefficient * coefficient f (leading p f) % p ≡ t.coefficient
+            → new ≡ normal_form p (minus p old step.coefficient
+              (polynomial_times step.left f step.right)) → IsSubtracted s entries (IsBelowSig s β)
+            old new step
         hit_turn new small cancels rest =
-            subtracted_turn s entries usable (IsBelowSig s β) old t others parts normal t.key refl choice is_choice e read f of_entry new step.coefficient step.left step.right
-            (subst (λ q. step.coefficient < q) is_prime small) (subst (λ q. step.coefficient * coefficient f (leading q f) % q ≡ t.coefficient) is_prime cancels) refl refl
-            (subst (λ q. new ≡ normal_form q (minus q old step.coefficient (polynomial_times step.left f step.right))) is_prime rest)
+            subtracted_turn s entries usable (IsBelowSig s β) old t others parts normal t.key refl
+                choice is_choice e read f of_entry new step.coefficient step.left step.right
+            (subst (λ q. step.coefficient < q) is_prime small)
+                (subst (λ q. step.coefficient * coefficient f (leading q f) % q ≡ t.coefficient)
+                  is_prime cancels) refl refl
+            (subst (λ q. new ≡ normal_form q
+                    (minus q old step.coefficient (polynomial_times step.left f step.right)))
+                  is_prime rest)
 
 -- what is left
-module _ (s : Setting) (field : IsField s.prime) (entries : List Entry) (usable : All (IsUsable s) entries) (β : Sig) where
-  pub turn_leaves : (old new : Polynomial) (turn : Turn) → IsTurn s entries β old new turn → IsNormal s.prime old → HasSmallWords s old → IsLeft s field entries usable (IsBelowSig s β) old new
-  turn_leaves old new (Kept x) t n k = kept_leaves s field entries usable (IsBelowSig s β) old new x t n k
-  turn_leaves old new (Subtracted step) t n k = subtracted_leaves s field entries usable (IsBelowSig s β) old new step t n k
+module _ (s : Setting) (field : IsField s.prime) (entries : List Entry)
+    (usable : All (IsUsable s) entries) (β : Sig) where
+  pub turn_leaves : (old new : Polynomial) (turn : Turn) → IsTurn s entries β old new turn
+      → IsNormal s.prime old → HasSmallWords s old → IsLeft s field entries usable (IsBelowSig s β)
+      old new
+  turn_leaves old new (Kept x) t n k =
+      kept_leaves s field entries usable (IsBelowSig s β) old new x t n k
+  turn_leaves old new (Subtracted step) t n k =
+      subtracted_leaves s field entries usable (IsBelowSig s β) old new step t n k

@@ -1,4 +1,5 @@
--- What the searches for reducers read, beside a snapshot: leading word and signature of each of its entries.
+-- What the searches for reducers read, beside a snapshot: leading word and signature of each of its
+-- entries.
 use Rattle.nc_index.specs.Chosen.{leads_of}
 use Rattle.nc_index.specs.Pairs.{Lead}
 use Rattle.nc_snapshot.specs.Snapshots.{Snapshot}

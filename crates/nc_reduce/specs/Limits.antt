@@ -10,4 +10,5 @@ use Rattle.std.specs.Prelude.{◌↔◌}
 
 -- exactly the monomials of the problem's bound are below β
 abbrev pub IsLimitOf : Problem → Sig → Type 0
-IsLimitOf P β = (σ : Monomial) → IsGenerator P.setting σ.generator → IsBelowSig P.setting β σ ↔ IsWithin P σ
+IsLimitOf P β =
+    (σ : Monomial) → IsGenerator P.setting σ.generator → IsBelowSig P.setting β σ ↔ IsWithin P σ

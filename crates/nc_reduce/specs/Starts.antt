@@ -22,9 +22,12 @@ start_polynomial s entries (Start.a_multiple u j v) = polynomial_times u (polyno
 -- a start with signature τ: the generator of 1 [i] 1, or a multiple of a listed entry
 abbrev pub IsStartAt : Setting → List Entry → Monomial → Start → Type 0
 IsStartAt s entries τ (Start.a_generator i) = IsGenerator s i × (τ ≡ unit_monomial i)
-IsStartAt s entries τ (Start.a_multiple u j v) = (e : Entry) × (1 ≤ j) × (slice_get entries (j - 1) ≡ Some e) × (times u e.signature v ≡ τ)
+IsStartAt s entries τ (Start.a_multiple u j v) =
+    (e : Entry) × (1 ≤ j) × (slice_get entries (j - 1) ≡ Some e) × (times u e.signature v ≡ τ)
 
 -- it names a generator, or a listed entry and a multiple whose words are within the length limit
 abbrev pub IsReadable : Setting → List Entry → Start → Type 0
 IsReadable s entries (Start.a_generator i) = IsGenerator s i
-IsReadable s entries (Start.a_multiple u j v) = (1 ≤ j) × (j ≤ length entries) × All (λ t. length u + length t.key + length v ≤ 200000) (polynomial_of entries j)
+IsReadable s entries (Start.a_multiple u j v) =
+    (1 ≤ j) × (j ≤ length entries) × All (λ t. length u + length t.key + length v ≤ 200000)
+    (polynomial_of entries j)

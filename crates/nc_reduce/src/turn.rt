@@ -54,7 +54,8 @@ pub(crate) fn take_turn(
     requires normal { IsNormal snapshot.now.problem.problem.setting.prime rest.old }
     requires some { rest.old ≢ [] }
     requires small { HasSmallWords snapshot.now.problem.problem.setting rest.old }
-    ensures turn { IfOk result (IsTurn snapshot.now.problem.problem.setting snapshot.now.state.entries bound.now rest.old rest.new) }
+    ensures turn { IfOk result (IsTurn snapshot.now.problem.problem.setting
+            snapshot.now.state.entries bound.now rest.old rest.new) }
 {
     leads_law();
     let p = prime_of(snapshot);

@@ -33,7 +33,8 @@ module _ (s : Snapshot) (h : IsSnapshot s) where
   over = over_alphabet s.problem h.problem (snapshot_prime s h) s.handled s.state h.run
 
   module _ (n : ℕ) (e : Entry) (at : slice_get s.state.entries n ≡ Some e) where
-    entry_over : IsMonomialIn s.problem.alphabet e.signature × AreWordsIn s.problem.alphabet e.polynomial
+    entry_over : IsMonomialIn s.problem.alphabet e.signature
+        × AreWordsIn s.problem.alphabet e.polynomial
     entry_over = over.entries e (listed s.state.entries n e at)
 
     pub entry_left : IsNamed s.problem.alphabet e.signature.left
@@ -59,8 +60,11 @@ module _ (s : Snapshot) (h : IsSnapshot s) where
     next_over : IsMonomialIn s.problem.alphabet τ
     next_over = go e.ends
       where
-        go : IsEnd s.problem.problem s.handled e.run (End.budget τ) → IsMonomialIn s.problem.alphabet τ
-        go (IsEnd.is_budget i runs σ next) = over.candidates τ (moved_candidate s.problem.problem e.run s.state (sym (same_run s.state e.run e.stands)) τ next.candidate)
+        go : IsEnd s.problem.problem s.handled e.run (End.budget τ)
+            → IsMonomialIn s.problem.alphabet τ
+        go (IsEnd.is_budget i runs σ next) =
+            over.candidates τ (moved_candidate s.problem.problem e.run s.state
+              (sym (same_run s.state e.run e.stands)) τ next.candidate)
 
     next_left : IsNamed s.problem.alphabet τ.left
     next_left = named s.problem.alphabet τ.left next_over.0
@@ -69,12 +73,18 @@ module _ (s : Snapshot) (h : IsSnapshot s) where
     next_right = named s.problem.alphabet τ.right next_over.1
 
   -- the next signature of a run whose steps were used up
-  module _ (ending : End) (e : IsEndAt s ending) (σ : Sig) (is : End.budget (monomial_of σ) ≡ ending) (names : List (List ℕ)) (same : names ≡ s.problem.alphabet.names) where
+  module _ (ending : End) (e : IsEndAt s ending) (σ : Sig)
+      (is : End.budget (monomial_of σ) ≡ ending) (names : List (List ℕ))
+      (same : names ≡ s.problem.alphabet.names) where
     budget : IsEndAt s (End.budget (monomial_of σ))
     budget = subst (IsEndAt s) (sym is) e
 
     pub budget_left : All (λ x. x.index < length names) σ.left
-    budget_left = subst (λ (ns : List (List ℕ)). All (λ x. x.index < length ns) σ.left) (sym same) (next_left (monomial_of σ) budget)
+    budget_left =
+        subst (λ (ns : List (List ℕ)). All (λ x. x.index < length ns) σ.left) (sym same)
+        (next_left (monomial_of σ) budget)
 
     pub budget_right : All (λ x. x.index < length names) σ.right
-    budget_right = subst (λ (ns : List (List ℕ)). All (λ x. x.index < length ns) σ.right) (sym same) (next_right (monomial_of σ) budget)
+    budget_right =
+        subst (λ (ns : List (List ℕ)). All (λ x. x.index < length ns) σ.right) (sym same)
+        (next_right (monomial_of σ) budget)

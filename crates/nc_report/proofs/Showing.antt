@@ -45,17 +45,24 @@ module _ (s : Snapshot) (h : IsSnapshot s) where
   stands run a = h.run.stands ∙ ap untraced (one_run h.run.run run the_run a)
 
   -- the trace of an item is the one that the run has
-  pub trace_in : (listed : Listed) (t : Trace) → HasTrace s.problem.problem s.handled listed t → (run : State) → IsRunAt s run → IsTraceIn run listed t
-  trace_in listed t has run a = subst (λ (r : State). IsTraceIn r listed t) (one_run has.run run (has.last, has.runs) a) has.is
+  pub trace_in : (listed : Listed) (t : Trace) → HasTrace s.problem.problem s.handled listed t
+      → (run : State) → IsRunAt s run → IsTraceIn run listed t
+  trace_in listed t has run a =
+      subst (λ (r : State). IsTraceIn r listed t) (one_run has.run run (has.last, has.runs) a)
+      has.is
 
   -- ---- letters
 
   cofactors_over : (run : State) → IsRunAt s run → (listed : Listed) →
       ((t : Trace) → IsTraceIn run listed t → IsTraceOver s.problem.alphabet t)
-      × ((m : List (Term Sig)) → IsLabelOf s.problem.problem.setting run listed m → All (λ t. IsWordIn s.problem.alphabet t.key.left) m × All (λ t. IsWordIn s.problem.alphabet t.key.right) m)
-  cofactors_over run a listed = all_over s.problem h.problem (snapshot_prime s h) s.handled run a.0 a.1 listed
+      × ((m : List (Term Sig)) → IsLabelOf s.problem.problem.setting run listed m
+            → All (λ t. IsWordIn s.problem.alphabet t.key.left) m
+            × All (λ t. IsWordIn s.problem.alphabet t.key.right) m)
+  cofactors_over run a listed =
+      all_over s.problem h.problem (snapshot_prime s h) s.handled run a.0 a.1 listed
 
-  pub trace_named : (listed : Listed) (t : Trace) → HasTrace s.problem.problem s.handled listed t → IsTraceNamed (length s.problem.alphabet.names) t
+  pub trace_named : (listed : Listed) (t : Trace) → HasTrace s.problem.problem s.handled listed t
+      → IsTraceNamed (length s.problem.alphabet.names) t
   trace_named listed t has = record {
     start = start_named t.start over.start;
     left = λ k d l. named s.problem.alphabet _ (over.left k d l);
@@ -65,21 +72,27 @@ module _ (s : Snapshot) (h : IsSnapshot s) where
       over : IsTraceOver s.problem.alphabet t
       over = (cofactors_over has.run (has.last, has.runs) listed).0 t has.is
 
-      start_named : (x : Start) → IsStartIn s.problem.alphabet x → StartIsNamed (length s.problem.alphabet.names) x
+      start_named : (x : Start) → IsStartIn s.problem.alphabet x
+          → StartIsNamed (length s.problem.alphabet.names) x
       start_named (Start.a_generator i) o = tt
-      start_named (Start.a_multiple u j v) o = (named s.problem.alphabet u o.0, named s.problem.alphabet v o.1)
+      start_named (Start.a_multiple u j v) o =
+          (named s.problem.alphabet u o.0, named s.problem.alphabet v o.1)
 
-  module _ (listed : Listed) (run : State) (a : IsRunAt s run) (m : List (Term Sig)) (is : IsLabelOf s.problem.problem.setting run listed m) where
+  module _ (listed : Listed) (run : State) (a : IsRunAt s run) (m : List (Term Sig))
+      (is : IsLabelOf s.problem.problem.setting run listed m) where
     pub label_left : All (λ t. All (λ x. x.index < length s.problem.alphabet.names) t.key.left) m
-    label_left = λ k d l. named s.problem.alphabet _ (((cofactors_over run a listed).1 m is).0 k d l)
+    label_left =
+        λ k d l. named s.problem.alphabet _ (((cofactors_over run a listed).1 m is).0 k d l)
 
     pub label_right : All (λ t. All (λ x. x.index < length s.problem.alphabet.names) t.key.right) m
-    label_right = λ k d l. named s.problem.alphabet _ (((cofactors_over run a listed).1 m is).1 k d l)
+    label_right =
+        λ k d l. named s.problem.alphabet _ (((cofactors_over run a listed).1 m is).1 k d l)
 
   -- ---- the labels that were made
 
   module _ (entries syzygies : List (List (Term Sig))) (are : AreAllLabels s entries syzygies) where
-    entry_is : (k : ℕ) (m : List (Term Sig)) → 1 ≤ k → slice_get entries (k - 1) ≡ Some m → IsLabelOf s.problem.problem.setting are.entries_are.run (EntryOf k) m
+    entry_is : (k : ℕ) (m : List (Term Sig)) → 1 ≤ k → slice_get entries (k - 1) ≡ Some m
+        → IsLabelOf s.problem.problem.setting are.entries_are.run (EntryOf k) m
     entry_is k m some at = are.entries_are.are k m some at
 
     entries_run : IsRunAt s are.entries_are.run
@@ -88,32 +101,43 @@ module _ (s : Snapshot) (h : IsSnapshot s) where
     syzygies_run : IsRunAt s are.syzygies_are.run
     syzygies_run = (are.syzygies_are.last, are.syzygies_are.runs)
 
-    pub entry_label : (k : ℕ) (m : List (Term Sig)) → slice_get entries (k - 1) ≡ Some m → element_of m ≡ label_among entries syzygies (EntryOf k)
+    pub entry_label : (k : ℕ) (m : List (Term Sig)) → slice_get entries (k - 1) ≡ Some m
+        → element_of m ≡ label_among entries syzygies (EntryOf k)
     entry_label k m at = ap element_of (sym (get_or_from_slice_get entries (k - 1) m [] at))
 
-    pub entry_label_left : (k : ℕ) (m : List (Term Sig)) → 1 ≤ k → slice_get entries (k - 1) ≡ Some m → All (λ t. All (λ x. x.index < length s.problem.alphabet.names) t.key.left) m
-    entry_label_left k m some at = label_left (EntryOf k) are.entries_are.run entries_run m (entry_is k m some at)
+    pub entry_label_left : (k : ℕ) (m : List (Term Sig)) → 1 ≤ k
+        → slice_get entries (k - 1) ≡ Some m
+        → All (λ t. All (λ x. x.index < length s.problem.alphabet.names) t.key.left) m
+    entry_label_left k m some at =
+        label_left (EntryOf k) are.entries_are.run entries_run m (entry_is k m some at)
 
-    pub entry_label_right : (k : ℕ) (m : List (Term Sig)) → 1 ≤ k → slice_get entries (k - 1) ≡ Some m → All (λ t. All (λ x. x.index < length s.problem.alphabet.names) t.key.right) m
-    entry_label_right k m some at = label_right (EntryOf k) are.entries_are.run entries_run m (entry_is k m some at)
+    pub entry_label_right : (k : ℕ) (m : List (Term Sig)) → 1 ≤ k
+        → slice_get entries (k - 1) ≡ Some m
+        → All (λ t. All (λ x. x.index < length s.problem.alphabet.names) t.key.right) m
+    entry_label_right k m some at =
+        label_right (EntryOf k) are.entries_are.run entries_run m (entry_is k m some at)
 
-    module _ (k : ℕ) (m : List (Term Sig)) (some : 1 ≤ k) (at : slice_get syzygies (k - 1) ≡ Some m) where
+    module _ (k : ℕ) (m : List (Term Sig)) (some : 1 ≤ k) (at : slice_get syzygies (k - 1) ≡ Some m)
+        where
       syzygy_is : IsLabelOf s.problem.problem.setting are.syzygies_are.run (SyzygyOf k) m
       syzygy_is = are.syzygies_are.are k m some at
 
       pub syzygy_label : element_of m ≡ label_among entries syzygies (SyzygyOf k)
       syzygy_label = ap element_of (sym (get_or_from_slice_get syzygies (k - 1) m [] at))
 
-      pub syzygy_label_left : All (λ t. All (λ x. x.index < length s.problem.alphabet.names) t.key.left) m
+      pub syzygy_label_left : All (λ t. All (λ x. x.index < length s.problem.alphabet.names)
+            t.key.left) m
       syzygy_label_left = label_left (SyzygyOf k) are.syzygies_are.run syzygies_run m syzygy_is
 
-      pub syzygy_label_right : All (λ t. All (λ x. x.index < length s.problem.alphabet.names) t.key.right) m
+      pub syzygy_label_right : All (λ t. All (λ x. x.index < length s.problem.alphabet.names)
+            t.key.right) m
       syzygy_label_right = label_right (SyzygyOf k) are.syzygies_are.run syzygies_run m syzygy_is
 
   -- ---- the lines of an item
 
   module _ (run : State) (a : IsRunAt s run) where
-    mapped_get : {X : Type 0} (f : X → X) (xs : List X) (i : ℕ) (x y : X) → slice_get xs i ≡ Some x → slice_get (map f xs) i ≡ Some y → f x ≡ y
+    mapped_get : {X : Type 0} (f : X → X) (xs : List X) (i : ℕ) (x y : X) → slice_get xs i ≡ Some x
+        → slice_get (map f xs) i ≡ Some y → f x ≡ y
     mapped_get f [] i x y p q = absurd cc
     mapped_get f (z ∷ xs) zero x y p q = ap f (sym (some_same p)) ∙ some_same q
       where
@@ -121,44 +145,73 @@ module _ (s : Snapshot) (h : IsSnapshot s) where
         some_same {x = x} e = ap (λ o. unwrap_or o x) e
     mapped_get f (z ∷ xs) (suc i) x y p q = mapped_get f xs i x y p q
 
-    pub entry_alike : (n : ℕ) (e e0 : Entry) → slice_get run.entries n ≡ Some e → slice_get s.state.entries n ≡ Some e0 → untraced_entry e ≡ e0
-    entry_alike n e e0 at at0 = mapped_get untraced_entry run.entries n e e0 at (subst (λ (t : State). slice_get t.entries n ≡ Some e0) (stands run a) at0)
+    pub entry_alike : (n : ℕ) (e e0 : Entry) → slice_get run.entries n ≡ Some e
+        → slice_get s.state.entries n ≡ Some e0 → untraced_entry e ≡ e0
+    entry_alike n e e0 at at0 =
+        mapped_get untraced_entry run.entries n e e0 at
+        (subst (λ (t : State). slice_get t.entries n ≡ Some e0) (stands run a) at0)
 
-    pub syzygy_alike : (n : ℕ) (g g0 : Syzygy) → slice_get run.syzygies n ≡ Some g → slice_get s.state.syzygies n ≡ Some g0 → untraced_syzygy g ≡ g0
-    syzygy_alike n g g0 at at0 = mapped_get untraced_syzygy run.syzygies n g g0 at (subst (λ (t : State). slice_get t.syzygies n ≡ Some g0) (stands run a) at0)
+    pub syzygy_alike : (n : ℕ) (g g0 : Syzygy) → slice_get run.syzygies n ≡ Some g
+        → slice_get s.state.syzygies n ≡ Some g0 → untraced_syzygy g ≡ g0
+    syzygy_alike n g g0 at at0 =
+        mapped_get untraced_syzygy run.syzygies n g g0 at
+        (subst (λ (t : State). slice_get t.syzygies n ≡ Some g0) (stands run a) at0)
 
     -- the number of items
     pub entries_count : length s.state.entries ≡ length run.entries
-    entries_count = ap (λ (t : State). length t.entries) (stands run a) ∙ length-map run.entries untraced_entry
+    entries_count =
+        ap (λ (t : State). length t.entries) (stands run a) ∙ length-map run.entries untraced_entry
 
     pub syzygies_count : length s.state.syzygies ≡ length run.syzygies
-    syzygies_count = ap (λ (t : State). length t.syzygies) (stands run a) ∙ length-map run.syzygies untraced_syzygy
+    syzygies_count =
+        ap (λ (t : State). length t.syzygies) (stands run a) ∙ length-map run.syzygies
+        untraced_syzygy
 
     pub counts_same : counts_line s.handled s.state ≡ counts_line s.handled run
     counts_same =
-        ap (counts_line s.handled) (stands run a) ∙ rw (length-map run.entries untraced_entry, length-map run.syzygies untraced_syzygy) refl
+        ap (counts_line s.handled) (stands run a)
+            ∙ rw (length-map run.entries untraced_entry, length-map run.syzygies untraced_syzygy)
+            refl
 
 -- the line of an item, and what is shown behind it
-pub behind : (old middle new line : List ℕ) (lines : List (List ℕ)) → middle ≡ old ++ (line ++ 10 ∷ []) → new ≡ middle ++ ended lines → new ≡ old ++ ended (line ∷ lines)
-behind old middle new line lines one two = two ∙ (ap (λ (l : List ℕ). l ++ ended lines) one ∙ append_assoc old (line ++ 10 ∷ []) (ended lines))
+pub behind : (old middle new line : List ℕ) (lines : List (List ℕ))
+    → middle ≡ old ++ (line ++ 10 ∷ []) → new ≡ middle ++ ended lines
+    → new ≡ old ++ ended (line ∷ lines)
+behind old middle new line lines one two =
+    two ∙ (ap (λ (l : List ℕ). l ++ ended lines) one ∙ append_assoc old (line ++ 10 ∷ [])
+      (ended lines))
 
 -- the pieces of a report in a row
-pub in_a_row : (old first second third last ending counts : List ℕ) (es hs : List (List ℕ)) → first ≡ old ++ (ending ++ 10 ∷ []) → second ≡ first ++ (counts ++ 10 ∷ []) → third ≡ second ++ ended es → last ≡ third ++ ended hs → last ≡ old ++ ended (ending ∷ counts ∷ (es ++ hs))
+pub in_a_row : (old first second third last ending counts : List ℕ) (es hs : List (List ℕ))
+    → first ≡ old ++ (ending ++ 10 ∷ []) → second ≡ first ++ (counts ++ 10 ∷ [])
+    → third ≡ second ++ ended es → last ≡ third ++ ended hs
+    → last ≡ old ++ ended (ending ∷ counts ∷ (es ++ hs))
 in_a_row old first second third last ending counts es hs one two three four =
-    four ∙ (ap (λ (l : List ℕ). l ++ ended hs) (three ∙ ap (λ (l : List ℕ). l ++ ended es) (two ∙ ap (λ (l : List ℕ). l ++ (counts ++ 10 ∷ [])) one)) ∙ simp (flat_map-append, append_assoc))
+    four ∙ (ap (λ (l : List ℕ). l ++ ended hs)
+          (three ∙ ap (λ (l : List ℕ). l ++ ended es)
+            (two ∙ ap (λ (l : List ℕ). l ++ (counts ++ 10 ∷ [])) one))
+          ∙ simp (flat_map-append, append_assoc))
 
 -- a heading and a text as one line
-pub line_of : (old first second new heading text : List ℕ) → first ≡ old ++ heading → second ≡ first ++ text → new ≡ second ++ 10 ∷ [] → new ≡ old ++ ended ((heading ++ text) ∷ [])
+pub line_of : (old first second new heading text : List ℕ) → first ≡ old ++ heading
+    → second ≡ first ++ text → new ≡ second ++ 10 ∷ [] → new ≡ old ++ ended ((heading ++ text) ∷ [])
 line_of old first second new heading text one two three =
-    three ∙ (ap (λ (l : List ℕ). l ++ 10 ∷ []) (two ∙ ap (λ (l : List ℕ). l ++ text) one) ∙ simp (append_assoc, append-nil))
+    three ∙ (ap (λ (l : List ℕ). l ++ 10 ∷ []) (two ∙ ap (λ (l : List ℕ). l ++ text) one)
+          ∙ simp (append_assoc, append-nil))
 
 -- what holds where a last piece was written
-pub written_ok : {T E P : Type 0} (r : Result T E) (new old piece : List ℕ) → new ≡ (if is_ok r then old ++ piece else old) → (new ≡ old ++ piece → P) → OnOk r P
+pub written_ok : {T E P : Type 0} (r : Result T E) (new old piece : List ℕ)
+    → new ≡ (if is_ok r then old ++ piece else old) → (new ≡ old ++ piece → P) → OnOk r P
 written_ok (Ok x) new old piece is f = f is
 written_ok (Err e) new old piece is f = tt
 
 -- the line of a trace
-pub trace_line : (run : State) (listed : Listed) (t t' : Trace) → IsTraceIn run listed t → IsTraceIn run listed t' → (old first second new : List ℕ) (names names' : List (List ℕ)) (label : Element) → names ≡ names'
-    → first ≡ old ++ codes "trace " → second ≡ first ++ trace_text names t → new ≡ second ++ 10 ∷ [] → new ≡ old ++ ended (cofactor_lines TraceOf names' t' label)
+pub trace_line : (run : State) (listed : Listed) (t t' : Trace) → IsTraceIn run listed t
+    → IsTraceIn run listed t' → (old first second new : List ℕ) (names names' : List (List ℕ))
+    (label : Element) → names ≡ names'
+    → first ≡ old ++ codes "trace " → second ≡ first ++ trace_text names t → new ≡ second ++ 10 ∷ []
+        → new ≡ old ++ ended (cofactor_lines TraceOf names' t' label)
 trace_line run listed t t' a b old first second new names names' label same one two three =
-    line_of old first second new (codes "trace ") (trace_text names t) one two three ∙ (λ j. old ++ ended ((codes "trace " ++ trace_text (same j) (trace_once run listed t t' a b j)) ∷ []))
+    line_of old first second new (codes "trace ") (trace_text names t) one two three
+        ∙ (λ j. old ++ ended ((codes "trace " ++ trace_text (same j)
+              (trace_once run listed t t' a b j)) ∷ []))

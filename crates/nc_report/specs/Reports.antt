@@ -37,7 +37,9 @@ counts_line handled state =
 
 -- an entry with its number: its signature and its polynomial
 abbrev pub entry_line : List (List ℕ) → ℕ → Entry → List ℕ
-entry_line names k e = codes "entry " ++ (decimal k ++ (codes ": " ++ (sig_text names e.signature ++ (codes " : " ++ poly_text names e.polynomial))))
+entry_line names k e =
+    codes "entry " ++ (decimal k ++ (codes
+        ": " ++ (sig_text names e.signature ++ (codes " : " ++ poly_text names e.polynomial))))
 
 -- a syzygy with its number: its signature
 abbrev pub syzygy_line : List (List ℕ) → ℕ → Syzygy → List ℕ
@@ -49,15 +51,18 @@ numbered lines k [] = []
 numbered lines k (x ∷ xs) = lines k x ++ numbered lines (k + 1) xs
 
 -- the end, the counts, and the lines of the entries and of the syzygies, each with its number
-abbrev pub run_lines : List (List ℕ) → (ℕ → Entry → List (List ℕ)) → (ℕ → Syzygy → List (List ℕ)) → ℕ → State → End → List (List ℕ)
+abbrev pub run_lines : List (List ℕ) → (ℕ → Entry → List (List ℕ)) → (ℕ → Syzygy → List (List ℕ))
+    → ℕ → State → End → List (List ℕ)
 run_lines names of_entry of_syzygy handled state ending =
     ending_line names ending
     ∷ counts_line handled state
     ∷ (numbered of_entry 1 state.entries ++ numbered of_syzygy 1 state.syzygies)
 
 -- each line is ended by a line feed
-abbrev pub run_report : List (List ℕ) → (ℕ → Entry → List (List ℕ)) → (ℕ → Syzygy → List (List ℕ)) → ℕ → State → End → List ℕ
-run_report names of_entry of_syzygy handled state ending = ended (run_lines names of_entry of_syzygy handled state ending)
+abbrev pub run_report : List (List ℕ) → (ℕ → Entry → List (List ℕ)) → (ℕ → Syzygy → List (List ℕ))
+    → ℕ → State → End → List ℕ
+run_report names of_entry of_syzygy handled state ending =
+    ended (run_lines names of_entry of_syzygy handled state ending)
 
 -- ---- with cofactors
 
@@ -69,12 +74,17 @@ cofactor_lines Full names t label = (codes "label " ++ module_text names label) 
 
 -- an entry, and what is shown behind it
 abbrev pub entry_lines : Cofactors → List (List ℕ) → (Listed → Element) → ℕ → Entry → List (List ℕ)
-entry_lines cofactors names labels k e = entry_line names k e ∷ cofactor_lines cofactors names e.trace (labels (EntryOf k))
+entry_lines cofactors names labels k e =
+    entry_line names k e ∷ cofactor_lines cofactors names e.trace (labels (EntryOf k))
 
 -- a syzygy, and what is shown behind it
-abbrev pub syzygy_lines : Cofactors → List (List ℕ) → (Listed → Element) → ℕ → Syzygy → List (List ℕ)
-syzygy_lines cofactors names labels k h = syzygy_line names k h ∷ cofactor_lines cofactors names h.trace (labels (SyzygyOf k))
+abbrev pub syzygy_lines : Cofactors → List (List ℕ) → (Listed → Element) → ℕ → Syzygy
+    → List (List ℕ)
+syzygy_lines cofactors names labels k h =
+    syzygy_line names k h ∷ cofactor_lines cofactors names h.trace (labels (SyzygyOf k))
 
 -- the end line, the counts line, and the lines of each entry and of each syzygy
 abbrev pub basis_report : Cofactors → List (List ℕ) → (Listed → Element) → ℕ → State → End → List ℕ
-basis_report cofactors names labels handled run ending = run_report names (entry_lines cofactors names labels) (syzygy_lines cofactors names labels) handled run ending
+basis_report cofactors names labels handled run ending =
+    run_report names (entry_lines cofactors names labels) (syzygy_lines cofactors names labels)
+    handled run ending

@@ -66,4 +66,5 @@ pub record IsTraceNamed (n : ℕ) (t : Trace) : Type 0 where
 -- why nothing is shown: the label of this item has too many terms
 abbrev pub FailsToShow : Snapshot → ℕ → CofactorFault → Type 0
 FailsToShow s limit OutOfMemory = Unit {0}
-FailsToShow s limit (TooMany named terms) = (run : State) → IsRunAt s run → IsFirstOf s.problem.problem.setting.prime run limit named terms
+FailsToShow s limit (TooMany named terms) =
+    (run : State) → IsRunAt s run → IsFirstOf s.problem.problem.setting.prime run limit named terms

@@ -11,7 +11,8 @@ use Rattle.std.specs.Prelude.{All, List, codes, decimal, flat_map, ℕ, ◌++◌
 
 -- the words around an entry, whose number stands in braces
 abbrev pub multiple_text : List (List ℕ) → Word → ℕ → Word → List ℕ
-multiple_text names u j v = word_text names u ++ (codes " {" ++ (decimal j ++ (codes "} " ++ word_text names v)))
+multiple_text names u j v =
+    word_text names u ++ (codes " {" ++ (decimal j ++ (codes "} " ++ word_text names v)))
 
 -- a generator, whose number stands in brackets, or a multiple of an entry
 abbrev pub start_text : List (List ℕ) → Start → List ℕ
@@ -20,7 +21,9 @@ start_text names (Start.a_multiple u j v) = multiple_text names u j v
 
 -- the coefficient as it is, and the multiple
 abbrev pub step_text : List (List ℕ) → Step → List ℕ
-step_text names t = codes " - " ++ (decimal t.coefficient ++ (codes "*" ++ multiple_text names t.left t.number t.right))
+step_text names t =
+    codes " - " ++ (decimal t.coefficient
+      ++ (codes "*" ++ multiple_text names t.left t.number t.right))
 
 -- the start, and the steps in their order
 abbrev pub trace_text : List (List ℕ) → Trace → List ℕ

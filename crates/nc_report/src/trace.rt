@@ -20,7 +20,8 @@ fn write_multiple(
 ) -> Result<(), AllocError>
     requires left { All (λ x. x.index < length names.now) left.now }
     requires right { All (λ x. x.index < length names.now) right.now }
-    ensures { OnOk result (out.new.items ≡ out.old.items ++ multiple_text names.now left.now number right.now) }
+    ensures { OnOk result (out.new.items ≡ out.old.items ++ multiple_text names.now left.now number
+            right.now) }
 {
     write_word(out, names, left.letters())?;
     out.extend_from_slice(b" {")?;
@@ -32,7 +33,8 @@ fn write_multiple(
 /// Appends what was reduced.
 fn write_start(out: &mut Vec<u8>, names: &[Name], start: &Start) -> Result<(), AllocError>
     requires named { StartIsNamed (length names.now) (start_of start.now) }
-    ensures { OnOk result (out.new.items ≡ out.old.items ++ start_text names.now (start_of start.now)) }
+    ensures { OnOk result (out.new.items ≡ out.old.items ++ start_text names.now
+            (start_of start.now)) }
 {
     match start {
         Start::Generator(i) => {
@@ -64,7 +66,8 @@ fn write_step(out: &mut Vec<u8>, names: &[Name], step: &Step) -> Result<(), Allo
 fn write_steps(out: &mut Vec<u8>, names: &[Name], steps: &[Step]) -> Result<(), AllocError>
     requires left { All (λ t. All (λ x. x.index < length names.now) t.left) steps.now }
     requires right { All (λ t. All (λ x. x.index < length names.now) t.right) steps.now }
-    ensures { OnOk result (out.new.items ≡ out.old.items ++ flat_map (step_text names.now) steps.now) }
+    ensures { OnOk result (out.new.items ≡ out.old.items ++ flat_map (step_text names.now)
+            steps.now) }
 {
     for step in steps {
         write_step(out, names, step)?;

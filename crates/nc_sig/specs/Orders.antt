@@ -8,4 +8,7 @@ use Rattle.std.specs.Cmp.{IsTotalOrder, nat_cmp_total, on_total, then_total}
 
 -- it is total, in the form that maps ask for
 pub sigs_order : IsTotalOrder compare_sigs
-sigs_order = then_total (on_total (λ s. s.degree) nat_cmp_total) (then_total (on_total (λ s. s.generator) nat_cmp_total) (then_total (on_total (λ s. s.left) words_order) (on_total (λ s. s.right) words_order)))
+sigs_order =
+    then_total (on_total (λ s. s.degree) nat_cmp_total)
+    (then_total (on_total (λ s. s.generator) nat_cmp_total)
+      (then_total (on_total (λ s. s.left) words_order) (on_total (λ s. s.right) words_order)))

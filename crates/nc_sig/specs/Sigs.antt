@@ -11,10 +11,12 @@ use Rattle.std.specs.Borrow.{Bor}
 use Rattle.std.specs.Prelude.{List, None, Option, Some, ℕ, ◌≡◌, ◌≤◌, ◌↔◌}
 
 -- what stands before and behind σ in τ, and None exactly where σ does not divide τ
-abbrev pub IsQuotient : Monomial → Monomial → Option (Bor (List Letter) × Bor (List Letter)) → Type 0
+abbrev pub IsQuotient : Monomial → Monomial → Option (Bor (List Letter) × Bor (List Letter))
+    → Type 0
 IsQuotient σ τ None = ¬ Divides σ τ
 IsQuotient σ τ (Some (u, v)) = times u.now σ v.now ≡ τ
 
 -- below it are exactly the monomials of degree at most d
 pub record IsBoundBy (bound : Sig) (d : ℕ) : Type 0 where
-  pub below : (s : Setting) (σ : Monomial) → (compare_sigs (sig_of (generator_weight s) σ) bound ≡ Less) ↔ (degree s σ ≤ d)
+  pub below : (s : Setting) (σ : Monomial)
+      → (compare_sigs (sig_of (generator_weight s) σ) bound ≡ Less) ↔ (degree s σ ≤ d)

@@ -32,14 +32,20 @@ module _ (s : Snapshot) (h : IsSnapshot s) where
   pub snapshot_usable : All (IsUsable s.problem.problem.setting) s.state.entries
   snapshot_usable = (facts s.problem h.problem snapshot_prime s.handled s.state h.run).usable
 
-  pub entry_usable : (i : ℕ) (e : Entry) → slice_get s.state.entries i ≡ Some e → IsUsable s.problem.problem.setting e
+  pub entry_usable : (i : ℕ) (e : Entry) → slice_get s.state.entries i ≡ Some e
+      → IsUsable s.problem.problem.setting e
   entry_usable = usable_at s.problem.problem.setting s.state.entries snapshot_usable
 
   pub snapshot_canonical : AreCanonical s.problem.problem.setting s.state
   snapshot_canonical = canonical s.problem.problem snapshot_prime s.handled s.state h.run
 
   -- what the outcome of the next signature brings is greater
-  pub snapshot_ascends : (τ : Monomial) (o : Outcome) → IsNextOfRun s.problem.problem s.handled s.state τ → Handles s.problem.problem.setting s.state τ o → (ρ : Monomial) → BringsAmbiguity s.problem.problem.setting s.state τ o ρ → IsLess s.problem.problem.setting τ ρ
+  pub snapshot_ascends : (τ : Monomial) (o : Outcome) → IsNextOfRun s.problem.problem s.handled
+      s.state τ → Handles s.problem.problem.setting s.state τ o → (ρ : Monomial)
+      → BringsAmbiguity s.problem.problem.setting s.state τ o ρ
+      → IsLess s.problem.problem.setting τ ρ
   snapshot_ascends τ o next handles =
-      (goes_on s.problem.problem snapshot_prime s.handled s.state next.last (record { run = next.run; runs = next.runs; stands = next.stands })).ascends τ o
-      (moved_next s.problem.problem next.run s.state (sym (same_run s.state next.run next.stands)) next.last τ next.next) handles
+      (goes_on s.problem.problem snapshot_prime s.handled s.state next.last
+            (record { run = next.run; runs = next.runs; stands = next.stands })).ascends τ o
+      (moved_next s.problem.problem next.run s.state (sym (same_run s.state next.run next.stands))
+            next.last τ next.next) handles

@@ -20,21 +20,30 @@ Read = Result (List (List ℕ)) Kind
 pub record IsOnTheWay (names : List (List ℕ)) (ts : List Token) (whole : Read) : Type 0 where
   pub same : letters_at names ts ≡ whole
 
-pub goes_on : (names : List (List ℕ)) (ts rest : List Token) (bytes name : List ℕ) (whole : Read) → ts ≡ Name bytes ∷ rest → further_name names bytes ≡ Ok name
+pub goes_on : (names : List (List ℕ)) (ts rest : List Token) (bytes name : List ℕ) (whole : Read)
+    → ts ≡ Name bytes ∷ rest → further_name names bytes ≡ Ok name
     → IsOnTheWay names ts whole → IsOnTheWay (names ++ name ∷ []) rest whole
 unfolding letters_at
-goes_on names ts rest bytes name whole is further h = record { same = sym (ap (λ (r : Result (List ℕ) Kind). r >>= λ further. letters_at (names ++ further ∷ []) rest) further) ∙ sym (ap (letters_at names) is) ∙ h.same }
+goes_on names ts rest bytes name whole is further h =
+    record { same = sym (ap (λ (r : Result (List ℕ) Kind). r >>= λ further. letters_at
+          (names ++ further ∷ []) rest) further) ∙ sym (ap (letters_at names) is) ∙ h.same }
 
-pub name_fails : (f : LineError) (names : List (List ℕ)) (ts rest : List Token) (bytes : List ℕ) (whole : Read) → ts ≡ Name bytes ∷ rest → Fails f (further_name names bytes)
+pub name_fails : (f : LineError) (names : List (List ℕ)) (ts rest : List Token) (bytes : List ℕ)
+    (whole : Read) → ts ≡ Name bytes ∷ rest → Fails f (further_name names bytes)
     → IsOnTheWay names ts whole → Fails f whole
 unfolding letters_at
-name_fails f names ts rest bytes whole is fails h = subst (λ (r : Read). Fails f r) (sym (ap (letters_at names) is) ∙ h.same) (bind_fails f (further_name names bytes) _ fails)
+name_fails f names ts rest bytes whole is fails h =
+    subst (λ (r : Read). Fails f r) (sym (ap (letters_at names) is) ∙ h.same)
+    (bind_fails f (further_name names bytes) _ fails)
 
-pub ends : (names : List (List ℕ)) (ts : List Token) (whole : Read) → ts ≡ [] → IsOnTheWay names ts whole → whole ≡ cond (nat_eq (length names) 0) (Err Syntax) (Ok names)
+pub ends : (names : List (List ℕ)) (ts : List Token) (whole : Read) → ts ≡ []
+    → IsOnTheWay names ts whole → whole ≡ cond (nat_eq (length names) 0) (Err Syntax) (Ok names)
 unfolding letters_at
 ends names ts whole is h = sym h.same ∙ ap (letters_at names) is
 
-wrong : (names : List (List ℕ)) (token : shown.Token) (rest : List Token) → (token ≡ code.End → ⊥) → ((bytes : Bor (List ℕ)) → token ≡ code.Name bytes → ⊥) → letters_at names (before token rest) ≡ Err BadName
+wrong : (names : List (List ℕ)) (token : shown.Token) (rest : List Token) → (token ≡ code.End → ⊥)
+    → ((bytes : Bor (List ℕ)) → token ≡ code.Name bytes → ⊥)
+    → letters_at names (before token rest) ≡ Err BadName
 unfolding letters_at
 wrong names (code.Literal n) rest a b = refl
 wrong names code.Long rest a b = refl
@@ -50,6 +59,9 @@ wrong names code.CloseBrace rest a b = refl
 wrong names code.Bad rest a b = refl
 wrong names code.End rest a b = absurd (a refl)
 
-pub is_wrong : (names : List (List ℕ)) (ts rest : List Token) (token : shown.Token) (whole : Read) → ts ≡ before token rest → (token ≡ code.End → ⊥) → ((bytes : Bor (List ℕ)) → token ≡ code.Name bytes → ⊥)
+pub is_wrong : (names : List (List ℕ)) (ts rest : List Token) (token : shown.Token) (whole : Read)
+    → ts ≡ before token rest → (token ≡ code.End → ⊥)
+    → ((bytes : Bor (List ℕ)) → token ≡ code.Name bytes → ⊥)
     → IsOnTheWay names ts whole → whole ≡ Err BadName
-is_wrong names ts rest token whole is not_end not_name h = sym h.same ∙ ap (letters_at names) is ∙ wrong names token rest not_end not_name
+is_wrong names ts rest token whole is not_end not_name h =
+    sym h.same ∙ ap (letters_at names) is ∙ wrong names token rest not_end not_name

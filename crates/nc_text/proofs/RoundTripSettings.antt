@@ -25,7 +25,8 @@ use Rattle.std.proofs.lemmas.List.Elements.{recursion_from_All}
 use Rattle.std.specs.List.{AllByRecursion, list_all}
 
 -- weights that are all 1
-ones : (weights : List ℕ) → list_all (λ m. eqb m 1) weights ≡ true → replicate (length weights) 1 ≡ weights
+ones : (weights : List ℕ) → list_all (λ m. eqb m 1) weights ≡ true
+    → replicate (length weights) 1 ≡ weights
 ones [] h = refl
 ones (m ∷ weights) h =
     let k = and_parts (eqb m 1) (list_all (λ m. eqb m 1) weights) h in
@@ -70,102 +71,179 @@ module _ (s : NamedSetting) (is : IsSetting s) where
   claim_text f = codes "claim " ++ poly_text names f
 
   field_is : IsLineOf (codes "field") (tokens (decimal p)) (codes "field " ++ decimal p)
-  field_is = spaced_line (codes "field") (decimal p) (record { name = refl; begun = λ rest. refl }) (decimal_plain p (omega (arith, small)))
+  field_is =
+      spaced_line (codes "field") (decimal p) (record { name = refl; begun = λ rest. refl })
+      (decimal_plain p (omega (arith, small)))
 
   letters_is : IsLineOf (codes "letters") (tokens (names_text names)) (names_line names)
-  letters_is = keyword_line (codes "letters") (names_text names) (record { name = refl; begun = λ rest. refl }) (names_break names) (names_plain names each_name)
+  letters_is =
+      keyword_line (codes "letters") (names_text names)
+      (record { name = refl; begun = λ rest. refl }) (names_break names)
+      (names_plain names each_name)
 
-  weights_is : IsLineOf (codes "weights") (tokens (weights_text a.weights)) (printing.weights_line a.weights)
-  weights_is = keyword_line (codes "weights") (weights_text a.weights) (record { name = refl; begun = λ rest. refl }) (weights_break a.weights) (weights_plain a.weights each_weight)
+  weights_is : IsLineOf (codes "weights") (tokens (weights_text a.weights))
+      (printing.weights_line a.weights)
+  weights_is =
+      keyword_line (codes "weights") (weights_text a.weights)
+      (record { name = refl; begun = λ rest. refl }) (weights_break a.weights)
+      (weights_plain a.weights each_weight)
 
-  generator_is : (f : Polynomial) → IsText f → IsLineOf (codes "generator") (tokens (poly_text names f)) (generator_line names f)
-  generator_is f text = spaced_line (codes "generator") (poly_text names f) (record { name = refl; begun = λ rest. refl }) (poly_plain p a f small names_are (text_is_printed p a f text))
+  generator_is : (f : Polynomial) → IsText f
+      → IsLineOf (codes "generator") (tokens (poly_text names f)) (generator_line names f)
+  generator_is f text =
+      spaced_line (codes "generator") (poly_text names f)
+      (record { name = refl; begun = λ rest. refl })
+      (poly_plain p a f small names_are (text_is_printed p a f text))
 
-  pub claim_is : (f : Polynomial) → IsText f → IsLineOf (codes "claim") (tokens (poly_text names f)) (claim_text f)
-  claim_is f text = spaced_line (codes "claim") (poly_text names f) (record { name = refl; begun = λ rest. refl }) (poly_plain p a f small names_are (text_is_printed p a f text))
+  pub claim_is : (f : Polynomial) → IsText f → IsLineOf (codes "claim") (tokens (poly_text names f))
+      (claim_text f)
+  claim_is f text =
+      spaced_line (codes "claim") (poly_text names f) (record { name = refl; begun = λ rest. refl })
+      (poly_plain p a f small names_are (text_is_printed p a f text))
 
   -- ---- reading them
 
-  field_again_line : (n : ℕ) (ls : List (List ℕ)) → field_line (written n ((codes "field " ++ decimal p) ∷ ls)) ≡ Ok (p, written (n + 1) ls)
+  field_again_line : (n : ℕ) (ls : List (List ℕ))
+      → field_line (written n ((codes "field " ++ decimal p) ∷ ls)) ≡ Ok (p, written (n + 1) ls)
   unfolding field_line
-  field_again_line n ls = rw (taken (codes "field") (codes "field " ++ decimal p) (tokens (decimal p)) n ls field_is, field_again p small is.prime) refl
+  field_again_line n ls =
+      rw (taken (codes "field") (codes "field " ++ decimal p) (tokens (decimal p)) n ls field_is,
+        field_again p small is.prime) refl
 
-  letters_again_line : (n : ℕ) (ls : List (List ℕ)) → letters_line (written n (names_line names ∷ ls)) ≡ Ok (names, written (n + 1) ls)
+  letters_again_line : (n : ℕ) (ls : List (List ℕ))
+      → letters_line (written n (names_line names ∷ ls)) ≡ Ok (names, written (n + 1) ls)
   unfolding letters_line
-  letters_again_line n ls = rw (taken (codes "letters") (names_line names) (tokens (names_text names)) n ls letters_is, letters_again names each_name is.alphabet.apart is.alphabet.some is.alphabet.few) refl
+  letters_again_line n ls =
+      rw (taken (codes "letters") (names_line names) (tokens (names_text names)) n ls letters_is,
+        letters_again names each_name is.alphabet.apart is.alphabet.some is.alphabet.few) refl
 
-  weights_again_line : (n : ℕ) (ls : List (List ℕ)) → weights_line (length names) (written n (printing.weights_line a.weights ∷ ls)) ≡ Ok (a.weights, written (n + 1) ls)
+  weights_again_line : (n : ℕ) (ls : List (List ℕ))
+      → weights_line (length names) (written n (printing.weights_line a.weights ∷ ls)) ≡ Ok
+      (a.weights, written (n + 1) ls)
   unfolding weights_line
   weights_again_line n ls =
-      ap (weights_in (length names) (written n (printing.weights_line a.weights ∷ ls))) (found (codes "weights") (printing.weights_line a.weights) (tokens (weights_text a.weights)) n ls weights_is)
+      ap (weights_in (length names) (written n (printing.weights_line a.weights ∷ ls)))
+          (found (codes "weights") (printing.weights_line a.weights)
+            (tokens (weights_text a.weights)) n ls weights_is)
       ∙ rw (← is.alphabet.each, weights_again a.weights each_weight) refl
 
-  ones_again : (n : ℕ) (ls : List (List ℕ)) → a_line (codes "weights") (written n ls) ≡ None → list_all (λ m. eqb m 1) a.weights ≡ true → weights_line (length names) (written n ls) ≡ Ok (a.weights, written n ls)
+  ones_again : (n : ℕ) (ls : List (List ℕ)) → a_line (codes "weights") (written n ls) ≡ None
+      → list_all (λ m. eqb m 1) a.weights ≡ true → weights_line (length names) (written n ls) ≡ Ok
+      (a.weights, written n ls)
   unfolding weights_line
   ones_again n ls none all =
       ap (weights_in (length names) (written n ls)) none
-      ∙ ap (λ (ms : List ℕ). Ok (ms, written n ls)) (ap (λ (k : ℕ). replicate k 1) (sym is.alphabet.each) ∙ ones a.weights all)
+      ∙ ap (λ (ms : List ℕ). Ok (ms, written n ls))
+          (ap (λ (k : ℕ). replicate k 1) (sym is.alphabet.each) ∙ ones a.weights all)
 
   -- the lines `letters` and `weights`, which no line `weights` follows
-  alphabet_again : (n : ℕ) (ls : List (List ℕ)) → a_line (codes "weights") (written (n + 1) ls) ≡ None → alphabet_lines (written n (printing.alphabet_lines a ++ ls)) ≡ Ok (a, written (n + length (printing.alphabet_lines a)) ls)
+  alphabet_again : (n : ℕ) (ls : List (List ℕ))
+      → a_line (codes "weights") (written (n + 1) ls) ≡ None
+      → alphabet_lines (written n (printing.alphabet_lines a ++ ls)) ≡ Ok
+      (a, written (n + length (printing.alphabet_lines a)) ls)
   alphabet_again n ls none = by_test (list_all (λ m. eqb m 1) a.weights) refl
     where
       by_test : (b : Bool) → list_all (λ m. eqb m 1) a.weights ≡ b
-          → alphabet_lines (written n ((names_line names ∷ cond b [] (printing.weights_line a.weights ∷ [])) ++ ls)) ≡ Ok (a, written (n + length (names_line names ∷ cond b [] (printing.weights_line a.weights ∷ []))) ls)
-      by_test true e = alphabet_is names a.weights (written n (names_line names ∷ ls)) (written (n + 1) ls) (written (n + 1) ls) (letters_again_line n ls) (ones_again (n + 1) ls none e)
+          → alphabet_lines (written n ((names_line names ∷ cond b []
+                    (printing.weights_line a.weights ∷ [])) ++ ls)) ≡ Ok
+              (a, written (n + length (names_line names ∷ cond b []
+                    (printing.weights_line a.weights ∷ []))) ls)
+      by_test true e =
+          alphabet_is names a.weights (written n (names_line names ∷ ls)) (written (n + 1) ls)
+          (written (n + 1) ls) (letters_again_line n ls) (ones_again (n + 1) ls none e)
       by_test false e =
           let k : n + 1 + 1 ≡ n + 2 = omega arith in
-          alphabet_is names a.weights (written n (names_line names ∷ printing.weights_line a.weights ∷ ls)) (written (n + 1) (printing.weights_line a.weights ∷ ls)) (written (n + 1 + 1) ls)
-          (letters_again_line n (printing.weights_line a.weights ∷ ls)) (weights_again_line (n + 1) ls)
+          alphabet_is names a.weights (written n
+                (names_line names ∷ printing.weights_line a.weights ∷ ls))
+              (written (n + 1) (printing.weights_line a.weights ∷ ls)) (written (n + 1 + 1) ls)
+          (letters_again_line n (printing.weights_line a.weights ∷ ls))
+              (weights_again_line (n + 1) ls)
           ∙ ap (λ (m : ℕ). Ok (a, written m ls)) k
 
-  generators_again : (room n : ℕ) (fs : List Polynomial) (ls : List (List ℕ)) → AreGenerators fs → length fs ≤ room → ((m : ℕ) → a_line (codes "generator") (written m ls) ≡ None)
-      → generator_lines p a room (written n (map (generator_line names) fs ++ ls)) ≡ Ok (fs, written (n + length fs) ls)
-  generators_again room n [] ls all few stops = let e : n ≡ n + 0 = omega arith in (are_lines p a).none room (written n ls) (stops n) ∙ ap (λ (m : ℕ). Ok ([], written m ls)) e
+  generators_again : (room n : ℕ) (fs : List Polynomial) (ls : List (List ℕ)) → AreGenerators fs
+      → length fs ≤ room → ((m : ℕ) → a_line (codes "generator") (written m ls) ≡ None)
+      → generator_lines p a room (written n (map (generator_line names) fs ++ ls)) ≡ Ok
+          (fs, written (n + length fs) ls)
+  generators_again room n [] ls all few stops =
+      let e : n ≡ n + 0 =
+      omega arith in (are_lines p a).none room (written n ls) (stops n)
+      ∙ ap (λ (m : ℕ). Ok ([], written m ls)) e
   generators_again room n (f ∷ fs) ls all few stops =
       let rest = map (generator_line names) fs ++ ls in
-      let next = found (codes "generator") (generator_line names f) (tokens (poly_text names f)) n rest (generator_is f all.0.polynomial) in
-      let first = generator_again p a room (tokens (poly_text names f)) f (omega arith) all.0.nonzero (poly_again p a f (prime_positive s is) small names_are all.0.polynomial) in
+      let next =
+          found (codes "generator") (generator_line names f) (tokens (poly_text names f)) n rest
+          (generator_is f all.0.polynomial) in
+      let first =
+          generator_again p a room (tokens (poly_text names f)) f (omega arith) all.0.nonzero
+          (poly_again p a f (prime_positive s is) small names_are all.0.polynomial) in
       let others = generators_again (room - 1) (n + 1) fs ls all.1 (omega arith) stops in
       let e : n + 1 + length fs ≡ n + length (f ∷ fs) = omega arith in
-      (are_lines p a).more room (written n (generator_line names f ∷ rest)) (row n (tokens (poly_text names f)) (written (n + 1) rest)) next
+      (are_lines p a).more room (written n (generator_line names f ∷ rest))
+          (row n (tokens (poly_text names f)) (written (n + 1) rest)) next
       ∙ rw (first, others) (ap (λ (m : ℕ). Ok (f ∷ fs, written m ls)) e)
 
-  pub claim_again : (n : ℕ) (f : Polynomial) (ls : List (List ℕ)) → IsText f → claim_line p a (written n (claim_text f ∷ ls)) ≡ Ok (f, written (n + 1) ls)
+  pub claim_again : (n : ℕ) (f : Polynomial) (ls : List (List ℕ)) → IsText f
+      → claim_line p a (written n (claim_text f ∷ ls)) ≡ Ok (f, written (n + 1) ls)
   unfolding claim_line
-  claim_again n f ls text = rw (taken (codes "claim") (claim_text f) (tokens (poly_text names f)) n ls (claim_is f text), poly_again p a f (prime_positive s is) small names_are text) refl
+  claim_again n f ls text =
+      rw (taken (codes "claim") (claim_text f) (tokens (poly_text names f)) n ls (claim_is f text),
+        poly_again p a f (prime_positive s is) small names_are text) refl
 
-  no_weights : (n : ℕ) (fs : List Polynomial) (claim : Polynomial) (ls : List (List ℕ)) → AreGenerators fs → IsText claim → a_line (codes "weights") (written n (map (generator_line names) fs ++ claim_text claim ∷ ls)) ≡ None
-  no_weights n [] claim ls all text = not_found (codes "claim") (claim_text claim) (tokens (poly_text names claim)) n ls (codes "weights") (claim_is claim text) refl
-  no_weights n (f ∷ fs) claim ls all text = not_found (codes "generator") (generator_line names f) (tokens (poly_text names f)) n (map (generator_line names) fs ++ claim_text claim ∷ ls) (codes "weights") (generator_is f all.0.polynomial) refl
+  no_weights : (n : ℕ) (fs : List Polynomial) (claim : Polynomial) (ls : List (List ℕ))
+      → AreGenerators fs → IsText claim
+      → a_line (codes "weights") (written n
+        (map (generator_line names) fs ++ claim_text claim ∷ ls)) ≡ None
+  no_weights n [] claim ls all text =
+      not_found (codes "claim") (claim_text claim) (tokens (poly_text names claim)) n ls
+      (codes "weights") (claim_is claim text) refl
+  no_weights n (f ∷ fs) claim ls all text =
+      not_found (codes "generator") (generator_line names f) (tokens (poly_text names f)) n
+      (map (generator_line names) fs ++ claim_text claim ∷ ls) (codes "weights")
+      (generator_is f all.0.polynomial) refl
 
   -- the lines of the setting, before a line `claim`
   pub setting_again : (n : ℕ) (claim : Polynomial) (ls : List (List ℕ)) → IsText claim
-      → setting_lines (written n (printing.setting_lines s ++ claim_text claim ∷ ls)) ≡ Ok (s, written (n + 1 + length (printing.alphabet_lines a) + length s.setting.generators) (claim_text claim ∷ ls))
+      → setting_lines (written n (printing.setting_lines s ++ claim_text claim ∷ ls)) ≡ Ok
+          (s, written (n + 1 + length (printing.alphabet_lines a) + length s.setting.generators)
+            (claim_text claim ∷ ls))
   setting_again n claim ls text =
       let behind = claim_text claim ∷ ls in
       let generators = map (generator_line names) s.setting.generators in
       let letters = printing.alphabet_lines a in
-      let stops = (λ (m : ℕ). not_found (codes "claim") (claim_text claim) (tokens (poly_text names claim)) m ls (codes "generator") (claim_is claim text) refl) in
-      ap (λ (l : List (List ℕ)). setting_lines (written n ((codes "field " ++ decimal p) ∷ l))) (append_assoc letters generators behind)
-      ∙ setting_is p a s.setting.generators (written n ((codes "field " ++ decimal p) ∷ (letters ++ (generators ++ behind)))) (written (n + 1) (letters ++ (generators ++ behind))) (written (n + 1 + length letters) (generators ++ behind))
+      let stops =
+          (λ (m : ℕ). not_found (codes "claim") (claim_text claim) (tokens (poly_text names claim))
+            m ls (codes "generator") (claim_is claim text) refl) in
+      ap (λ (l : List (List ℕ)). setting_lines (written n ((codes "field " ++ decimal p) ∷ l)))
+          (append_assoc letters generators behind)
+      ∙ setting_is p a s.setting.generators
+          (written n ((codes "field " ++ decimal p) ∷ (letters ++ (generators ++ behind))))
+          (written (n + 1) (letters ++ (generators ++ behind)))
+          (written (n + 1 + length letters) (generators ++ behind))
       (written (n + 1 + length letters + length s.setting.generators) behind)
       (field_again_line n (letters ++ (generators ++ behind)))
-      (alphabet_again (n + 1) (generators ++ behind) (no_weights (n + 1 + 1) s.setting.generators claim ls generators_are text))
-      (generators_again 1000 (n + 1 + length letters) s.setting.generators behind generators_are is.few stops)
+      (alphabet_again (n + 1) (generators ++ behind)
+            (no_weights (n + 1 + 1) s.setting.generators claim ls generators_are text))
+      (generators_again 1000 (n + 1 + length letters) s.setting.generators behind generators_are
+            is.few stops)
 
   -- ---- they are printed lines
 
-  generators_printed : (fs : List Polynomial) → AreGenerators fs → AllByRecursion IsPrintedLine (map (generator_line names) fs)
+  generators_printed : (fs : List Polynomial) → AreGenerators fs
+      → AllByRecursion IsPrintedLine (map (generator_line names) fs)
   generators_printed [] h = tt
-  generators_printed (f ∷ fs) h = ((generator_is f h.0.polynomial).printed, generators_printed fs h.1)
+  generators_printed (f ∷ fs) h =
+      ((generator_is f h.0.polynomial).printed, generators_printed fs h.1)
 
   alphabet_printed : AllByRecursion IsPrintedLine (printing.alphabet_lines a)
   alphabet_printed = (letters_is.printed, by_test (list_all (λ m. eqb m 1) a.weights))
     where
-      by_test : (b : Bool) → AllByRecursion IsPrintedLine (cond b [] (printing.weights_line a.weights ∷ []))
+      by_test : (b : Bool) → AllByRecursion IsPrintedLine
+          (cond b [] (printing.weights_line a.weights ∷ []))
       by_test true = tt
       by_test false = (weights_is.printed, tt)
 
   pub setting_printed : AllByRecursion IsPrintedLine (printing.setting_lines s)
-  setting_printed = (field_is.printed, all_printed (printing.alphabet_lines a) (map (generator_line names) s.setting.generators) alphabet_printed (generators_printed s.setting.generators generators_are))
+  setting_printed =
+      (field_is.printed, all_printed (printing.alphabet_lines a)
+        (map (generator_line names) s.setting.generators) alphabet_printed
+        (generators_printed s.setting.generators generators_are))

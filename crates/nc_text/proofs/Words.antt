@@ -24,7 +24,8 @@ pub record IsOnTheWay (a : Alphabet) (w : Word) (ts : List Token) (whole : Read)
   pub enough : length ts ≤ budget
   pub same : after_factor (factors_at budget a) w ts ≡ whole
 
-pub first_factor : (a : Alphabet) (ts : List Token) (x : Word × List Token) → factor_at a [] ts ≡ Ok x → IsOnTheWay a x.0 x.1 (word_at a ts)
+pub first_factor : (a : Alphabet) (ts : List Token) (x : Word × List Token)
+    → factor_at a [] ts ≡ Ok x → IsOnTheWay a x.0 x.1 (word_at a ts)
 unfolding factors_at
 first_factor a [] x e = absurd (omega (arith, factor_shorter a [] [] x e))
 first_factor a (t ∷ ts) x e = record {
@@ -33,36 +34,48 @@ first_factor a (t ∷ ts) x e = record {
   same = sym (ap (λ (r : Read). r >>= λ y. after_factor (factors_at (length ts) a) y.0 y.1) e);
 }
 
-pub first_fails : (f : LineError) (a : Alphabet) (ts : List Token) → Fails f (factor_at a [] ts) → Fails f (word_at a ts)
+pub first_fails : (f : LineError) (a : Alphabet) (ts : List Token) → Fails f (factor_at a [] ts)
+    → Fails f (word_at a ts)
 unfolding factors_at factor_at name_at
 first_fails f a [] h = h
 first_fails f a (t ∷ ts) h = bind_fails f (factor_at a [] (t ∷ ts)) _ h
 
-pub next_factor : (a : Alphabet) (w : Word) (ts rest : List Token) (whole : Read) (x : Word × List Token) → IsTakenToken Times ts rest true → factor_at a w rest ≡ Ok x
+pub next_factor : (a : Alphabet) (w : Word) (ts rest : List Token) (whole : Read)
+    (x : Word × List Token) → IsTakenToken Times ts rest true → factor_at a w rest ≡ Ok x
     → IsOnTheWay a w ts whole → IsOnTheWay a x.0 x.1 whole
 unfolding factors_at
 next_factor a w ts rest whole x taken e h = by_budget h.budget h.enough h.same
   where
-    by_budget : (n : ℕ) → length ts ≤ n → after_factor (factors_at n a) w ts ≡ whole → IsOnTheWay a x.0 x.1 whole
+    by_budget : (n : ℕ) → length ts ≤ n → after_factor (factors_at n a) w ts ≡ whole
+        → IsOnTheWay a x.0 x.1 whole
     by_budget zero enough same = absurd (omega (arith, ap length taken))
     by_budget (suc n) enough same = record {
       budget = n;
       enough = omega (arith, ap length taken, factor_shorter a w rest x e);
-      same = sym (ap (λ (r : Read). r >>= λ y. after_factor (factors_at n a) y.0 y.1) e) ∙ ap (λ (l : List Token). after_factor (factors_at (suc n) a) w l) (sym taken) ∙ same;
+      same = sym (ap (λ (r : Read). r >>= λ y. after_factor (factors_at n a) y.0 y.1) e)
+          ∙ ap (λ (l : List Token). after_factor (factors_at (suc n) a) w l) (sym taken) ∙ same;
     }
 
-pub next_fails : (f : LineError) (a : Alphabet) (w : Word) (ts rest : List Token) (whole : Read) → IsTakenToken Times ts rest true → Fails f (factor_at a w rest)
+pub next_fails : (f : LineError) (a : Alphabet) (w : Word) (ts rest : List Token) (whole : Read)
+    → IsTakenToken Times ts rest true → Fails f (factor_at a w rest)
     → IsOnTheWay a w ts whole → Fails f whole
 unfolding factors_at
 next_fails f a w ts rest whole taken fails h = by_budget h.budget h.enough h.same
   where
     by_budget : (n : ℕ) → length ts ≤ n → after_factor (factors_at n a) w ts ≡ whole → Fails f whole
     by_budget zero enough same = absurd (omega (arith, ap length taken))
-    by_budget (suc n) enough same = subst (λ (r : Read). Fails f r) (ap (λ (l : List Token). after_factor (factors_at (suc n) a) w l) (sym taken) ∙ same) (bind_fails f (factor_at a w rest) _ fails)
+    by_budget (suc n) enough same =
+        subst (λ (r : Read). Fails f r)
+        (ap (λ (l : List Token). after_factor (factors_at (suc n) a) w l) (sym taken) ∙ same)
+        (bind_fails f (factor_at a w rest) _ fails)
 
-not_times : (further : Word → List Token → Read) (w : Word) (ts : List Token) → ((rest : List Token) → ts ≡ Times ∷ rest → ⊥) → after_factor further w ts ≡ Ok (w, ts)
+not_times : (further : Word → List Token → Read) (w : Word) (ts : List Token)
+    → ((rest : List Token) → ts ≡ Times ∷ rest → ⊥) → after_factor further w ts ≡ Ok (w, ts)
 not_times further w (Times ∷ rest) h = absurd (h rest refl)
 not_times further w ts h = refl
 
-pub last_factor : (a : Alphabet) (w : Word) (ts rest : List Token) (whole : Read) → IsTakenToken Times ts rest false → IsOnTheWay a w ts whole → whole ≡ Ok (w, rest)
-last_factor a w ts rest whole taken h = sym h.same ∙ not_times (factors_at h.budget a) w ts taken.1 ∙ ap (λ (l : List Token). Ok (w, l)) (sym taken.0)
+pub last_factor : (a : Alphabet) (w : Word) (ts rest : List Token) (whole : Read)
+    → IsTakenToken Times ts rest false → IsOnTheWay a w ts whole → whole ≡ Ok (w, rest)
+last_factor a w ts rest whole taken h =
+    sym h.same ∙ not_times (factors_at h.budget a) w ts taken.1 ∙ ap (λ (l : List Token). Ok (w, l))
+    (sym taken.0)

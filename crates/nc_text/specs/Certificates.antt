@@ -43,7 +43,8 @@ claim_line p a w = do
 unfoldable pub term_lines : ℕ → Alphabet → ℕ → Written → Result (List Part × Written) TextFault
 term_lines p a generators (End n) = Ok ([], End n)
 term_lines p a generators (Line n clean ts after) = if clean && begins (codes "term") ts
-    then (at_line n (term_row_at p a generators (behind ts)) >>= λ first. term_lines p a generators after >>= λ others. Ok (first ∷ others.0, others.1))
+    then (at_line n (term_row_at p a generators (behind ts)) >>= λ first. term_lines p a generators
+          after >>= λ others. Ok (first ∷ others.0, others.1))
     else Ok ([], Line n clean ts after)
 
 -- parts as one line, and no line where there is no part
@@ -52,35 +53,45 @@ one_line [] = []
 one_line (part ∷ parts) = (part ∷ parts) ∷ []
 
 -- the terms of form 1 as one line
-unfoldable pub terms_line : NamedSetting → Written → Result (List certificates.Line × Written) TextFault
+unfoldable pub terms_line : NamedSetting → Written → Result (List certificates.Line × Written)
+    TextFault
 terms_line s w = do
   parts ← term_lines s.setting.prime s.alphabet (length s.setting.generators) w
   Ok (one_line parts.0, parts.1)
 
 -- ---- form 2
 
--- the lines `part` and `line`, behind the lines with these reaches and the parts of the line that was begun
-unfoldable pub part_lines : NamedSetting → List ℕ → List Part → Written → Result (List certificates.Line × Written) TextFault
+-- the lines `part` and `line`, behind the lines with these reaches and the parts of the line that
+-- was begun
+unfoldable pub part_lines : NamedSetting → List ℕ → List Part → Written
+    → Result (List certificates.Line × Written) TextFault
 part_lines s reaches parts (End n) = Ok (parts ∷ [], End n)
 part_lines s reaches parts (Line n clean ts after) = if clean && begins (codes "part") ts
-    then (at_line n (part_at s reaches (behind ts)) >>= λ part. part_lines s reaches (parts ++ part ∷ []) after)
+    then (at_line n (part_at s reaches (behind ts)) >>= λ part. part_lines s reaches
+          (parts ++ part ∷ []) after)
     else (if clean && begins (codes "line") ts
-    then (at_line n (end_at (behind ts)) >>= λ _. part_lines s (reaches ++ line_reach s.setting reaches parts ∷ []) [] after >>= λ others. Ok (parts ∷ others.0, others.1))
+    then (at_line n (end_at (behind ts)) >>= λ _. part_lines s
+          (reaches ++ line_reach s.setting reaches parts ∷ []) [] after >>= λ others. Ok
+          (parts ∷ others.0, others.1))
     else Ok (parts ∷ [], Line n clean ts after))
 
 -- the first line `line`, if it comes next, and all of its kind
-abbrev pub line_lines_in : NamedSetting → Written → Option Row → Result (List certificates.Line × Written) TextFault
+abbrev pub line_lines_in : NamedSetting → Written → Option Row
+    → Result (List certificates.Line × Written) TextFault
 line_lines_in s w None = Ok ([], w)
-line_lines_in s w (Some line) = at_line line.number (end_at line.tokens) >>= λ _. part_lines s [] [] line.after
+line_lines_in s w (Some line) =
+    at_line line.number (end_at line.tokens) >>= λ _. part_lines s [] [] line.after
 
 -- the lines `line` with the lines `part` behind each
-unfoldable pub line_lines : NamedSetting → Written → Result (List certificates.Line × Written) TextFault
+unfoldable pub line_lines : NamedSetting → Written → Result (List certificates.Line × Written)
+    TextFault
 line_lines s w = line_lines_in s w (a_line (codes "line") w)
 
 -- ---- the whole
 
 -- the lines of a certificate in its form
-abbrev pub body_lines : ℕ → NamedSetting → Written → Result (List certificates.Line × Written) TextFault
+abbrev pub body_lines : ℕ → NamedSetting → Written → Result (List certificates.Line × Written)
+    TextFault
 body_lines form s w = if form == 1 then terms_line s w else line_lines s w
 
 -- the line `end`, with nothing behind its keyword, and no line after it

@@ -17,7 +17,8 @@ powered a word name n = letter_of a.names name >>= λ letter. lengthened word (l
 
 -- WORD, behind the word so far
 unfoldable pub word_by_patterns : Alphabet → Word → List Token → Result (Word × List Token) Kind
-word_by_patterns a w (Name x ∷ Power ∷ Literal n ∷ Times ∷ ts) = powered a w x n >>= λ v. word_by_patterns a v ts
+word_by_patterns a w (Name x ∷ Power ∷ Literal n ∷ Times ∷ ts) =
+    powered a w x n >>= λ v. word_by_patterns a v ts
 word_by_patterns a w (Name x ∷ Power ∷ Literal n ∷ ts) = powered a w x n >>= λ v. Ok (v, ts)
 word_by_patterns a w (Name x ∷ Power ∷ ts) = letter_of a.names x >>= λ _. Err (misplaced ts)
 word_by_patterns a w (Name x ∷ Times ∷ ts) = powered a w x 1 >>= λ v. word_by_patterns a v ts

@@ -31,23 +31,28 @@ bound_line a generators w = do
 -- the line `steps`, if it comes next; else 1,000,000 signatures may be handled
 abbrev pub steps_in : Written → Option Row → Result (ℕ × Written) TextFault
 steps_in w None = Ok (1000000, w)
-steps_in w (Some line) = at_line line.number (steps_at line.tokens) >>= λ steps. Ok (steps, line.after)
+steps_in w (Some line) =
+    at_line line.number (steps_at line.tokens) >>= λ steps. Ok (steps, line.after)
 
 -- the line `steps`, where it may come next
 unfoldable pub steps_line : Written → Result (ℕ × Written) TextFault
 steps_line w = steps_in w (a_line (codes "steps") w)
 
 -- the line `claim`, if it comes next
-abbrev pub claim_in : ℕ → Alphabet → Written → Option Row → Result (Option Polynomial × Written) TextFault
+abbrev pub claim_in : ℕ → Alphabet → Written → Option Row
+    → Result (Option Polynomial × Written) TextFault
 claim_in p a w None = Ok (None, w)
-claim_in p a w (Some line) = at_line line.number (poly_at p a line.tokens) >>= λ f. Ok (Some f, line.after)
+claim_in p a w (Some line) =
+    at_line line.number (poly_at p a line.tokens) >>= λ f. Ok (Some f, line.after)
 
 -- the line `claim`, where it may come next
-unfoldable pub optional_claim : ℕ → Alphabet → Written → Result (Option Polynomial × Written) TextFault
+unfoldable pub optional_claim : ℕ → Alphabet → Written
+    → Result (Option Polynomial × Written) TextFault
 optional_claim p a w = claim_in p a w (a_line (codes "claim") w)
 
 -- the line `claim`, which must come next
-unfoldable pub wanted_claim : ℕ → Alphabet → Written → Result (Option Polynomial × Written) TextFault
+unfoldable pub wanted_claim : ℕ → Alphabet → Written
+    → Result (Option Polynomial × Written) TextFault
 wanted_claim p a w = do
   claim ← claim_line p a w
   Ok (Some claim.0, claim.1)
@@ -64,7 +69,9 @@ problem_at wants_claim w = do
   steps ← steps_line bound.1
   claim ← claim_at wants_claim setting.0.setting.prime setting.0.alphabet steps.1
   _ ← the_end claim.1
-  Ok (record { problem = record { problem = record { setting = setting.0.setting; bound = bound.0; steps = steps.0 }; alphabet = setting.0.alphabet }; claim = claim.0 })
+  Ok (record { problem = record { problem = record { setting = setting.0.setting;
+              bound = bound.0; steps = steps.0 }; alphabet = setting.0.alphabet };
+          claim = claim.0 })
 
 -- the problem that a text is, with a claim where one is wanted, or the text's first fault
 abbrev pub reads_problem : Bool → List ℕ → Result ProblemText TextFault

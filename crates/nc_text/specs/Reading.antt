@@ -28,7 +28,8 @@ letter_of names name = ok_or (position (λ n. bytes_eq n name) names) UnknownNam
 
 -- a word with a letter n times behind it
 abbrev pub lengthened : Word → Letter → ℕ → Result Word Kind
-lengthened word letter n = if nat_lt 255 (length word + n) then Err LongWord else Ok (word ++ replicate n letter)
+lengthened word letter n =
+    if nat_lt 255 (length word + n) then Err LongWord else Ok (word ++ replicate n letter)
 
 -- FACTOR, behind the word so far: a name, or a name with an exponent
 unfoldable pub factor_at : Alphabet → Word → List Token → Result (Word × List Token) Kind
@@ -40,7 +41,8 @@ factor_at a word ts = do
   Ok (longer, exponent.1)
 
 -- what follows a factor: with `*` a further factor, else nothing of the word
-abbrev pub after_factor : (Word → List Token → Result (Word × List Token) Kind) → Word → List Token → Result (Word × List Token) Kind
+abbrev pub after_factor : (Word → List Token → Result (Word × List Token) Kind) → Word → List Token
+    → Result (Word × List Token) Kind
 after_factor further word (Times ∷ rest) = further word rest
 after_factor further word ts = Ok (word, ts)
 
@@ -76,7 +78,8 @@ term_at p a negative ts = do
   Ok (record { coefficient = residue_of p negative 1; key = word.0 }, word.1)
 
 -- what follows a term: the end of the line, or a sign and further terms
-abbrev pub after_term : (Bool → List Token → Result Polynomial Kind) → List Token → Result Polynomial Kind
+abbrev pub after_term : (Bool → List Token → Result Polynomial Kind) → List Token
+    → Result Polynomial Kind
 after_term further [] = Ok []
 after_term further (Plus ∷ rest) = further false rest
 after_term further (Minus ∷ rest) = further true rest

@@ -52,13 +52,16 @@ field_at ts = do
 -- a further name beside the names so far
 abbrev pub further_name : List (List ℕ) → List ℕ → Result (List ℕ) Kind
 further_name names name = if is_name name
-    then (if nat_lt (length names) 64 then (if list_any (λ n. bytes_eq n name) names then Err DoubleName else Ok name) else Err TooManyNames)
+    then (if nat_lt (length names) 64 then
+          (if list_any (λ n. bytes_eq n name) names then Err DoubleName else Ok name) else Err
+          TooManyNames)
     else Err BadName
 
 -- letters: one or more names, behind those so far
 unfoldable pub letters_at : List (List ℕ) → List Token → Result (List (List ℕ)) Kind
 letters_at names [] = if length names == 0 then Err Syntax else Ok names
-letters_at names (Name name ∷ rest) = further_name names name >>= λ further. letters_at (names ++ further ∷ []) rest
+letters_at names (Name name ∷ rest) =
+    further_name names name >>= λ further. letters_at (names ++ further ∷ []) rest
 letters_at names ts = Err BadName
 
 -- a weight: a literal from 1 to 100
@@ -83,7 +86,8 @@ abbrev pub nonzero : Polynomial → Result Polynomial Kind
 nonzero [] = Err ZeroGenerator
 nonzero (t ∷ f) = Ok (t ∷ f)
 
--- generator, of which so many may still come: too many is told before the polynomial, and zero after it
+-- generator, of which so many may still come: too many is told before the polynomial, and zero
+-- after it
 unfoldable pub generator_at : ℕ → Alphabet → ℕ → List Token → Result Polynomial Kind
 generator_at p a room ts = if room == 0 then Err TooManyGenerators else (poly_at p a ts >>= nonzero)
 
@@ -123,7 +127,8 @@ unfoldable pub term_row_at : ℕ → Alphabet → ℕ → List Token → Result 
 term_row_at p a generators ts = do
   c ← literal_at ts
   σ ← mono_at a generators c.1
-  Ok (record { coefficient = c.0 % p; left = σ.left; of = Factor.a_generator σ.generator; right = σ.right })
+  Ok (record { coefficient = c.0 % p;
+          left = σ.left; of = Factor.a_generator σ.generator; right = σ.right })
 
 -- what a part multiplies: a generator's number in brackets, or a line's in braces
 unfoldable pub multiplied_at : ℕ → ℕ → List Token → Result (Factor × List Token) Kind
@@ -136,7 +141,8 @@ multiplied_at generators lines ts = do
 
 -- a part whose reach is not too great
 abbrev pub within_reach : Setting → List ℕ → Part → Result Part Kind
-within_reach s reaches part = if nat_lt 100000 (part_reach s reaches part) then Err LongLine else Ok part
+within_reach s reaches part =
+    if nat_lt 100000 (part_reach s reaches part) then Err LongLine else Ok part
 
 -- part, behind the lines with these reaches: a literal, SIDE, what is multiplied, SIDE
 unfoldable pub part_at : NamedSetting → List ℕ → List Token → Result Part Kind
@@ -146,7 +152,8 @@ part_at s reaches ts = do
   of ← multiplied_at (length s.setting.generators) (length reaches) left.1
   right ← side_at s.alphabet of.1
   _ ← end_at right.1
-  within_reach s.setting reaches (record { coefficient = c.0 % s.setting.prime; left = left.0; of = of.0; right = right.0 })
+  within_reach s.setting reaches
+      (record { coefficient = c.0 % s.setting.prime; left = left.0; of = of.0; right = right.0 })
 
 -- behind `degree`: a literal of at most 1,000
 unfoldable pub degree_at : List Token → Result Bound Kind

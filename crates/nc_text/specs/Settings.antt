@@ -29,7 +29,8 @@ letters_line w = do
 -- the line `weights` of so many letters, if it comes next; else each letter weighs 1
 abbrev pub weights_in : ℕ → Written → Option Row → Result (List ℕ × Written) TextFault
 weights_in letters w None = Ok (replicate letters 1, w)
-weights_in letters w (Some line) = at_line line.number (weights_at letters line.tokens) >>= λ weights. Ok (weights, line.after)
+weights_in letters w (Some line) =
+    at_line line.number (weights_at letters line.tokens) >>= λ weights. Ok (weights, line.after)
 
 -- the line `weights` of so many letters, where it may come next
 unfoldable pub weights_line : ℕ → Written → Result (List ℕ × Written) TextFault
@@ -43,10 +44,12 @@ alphabet_lines w = do
   Ok (record { names = names.0; weights = weights.0 }, weights.1)
 
 -- the lines `generator`, of which so many may still come
-unfoldable pub generator_lines : ℕ → Alphabet → ℕ → Written → Result (List Polynomial × Written) TextFault
+unfoldable pub generator_lines : ℕ → Alphabet → ℕ → Written
+    → Result (List Polynomial × Written) TextFault
 generator_lines p a room (End n) = Ok ([], End n)
 generator_lines p a room (Line n clean ts after) = if clean && begins (codes "generator") ts
-    then (at_line n (generator_at p a room (behind ts)) >>= λ first. generator_lines p a (room - 1) after >>= λ others. Ok (first ∷ others.0, others.1))
+    then (at_line n (generator_at p a room (behind ts)) >>= λ first. generator_lines p a (room - 1)
+          after >>= λ others. Ok (first ∷ others.0, others.1))
     else Ok ([], Line n clean ts after)
 
 -- the lines `field`, `letters`, `weights` and `generator`
@@ -55,4 +58,5 @@ setting_lines w = do
   field ← field_line w
   alphabet ← alphabet_lines field.1
   generators ← generator_lines field.0 alphabet.0 1000 alphabet.1
-  Ok (record { alphabet = alphabet.0; setting = record { prime = field.0; generators = generators.0 } }, generators.1)
+  Ok (record { alphabet = alphabet.0;
+          setting = record { prime = field.0; generators = generators.0 } }, generators.1)

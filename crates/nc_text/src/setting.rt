@@ -28,7 +28,8 @@ fn field_line(text: &mut Text<'_>) -> Result<Prime, ReadFault>
 /// Reads the line `letters`.
 #[tactic(auto, using(nc_tokens::proofs::Told::at_gives), unfolding(crate::specs::Settings::letters_line))]
 fn letters_line(alloc: Global, text: &mut Text<'_>) -> Result<Vec<Name>, ReadFault>
-    ensures reads { GivesText (λ ns. (ns.items, left text.new)) result (letters_line (left text.old)) }
+    ensures reads { GivesText (λ ns. (ns.items, left text.new)) result
+          (letters_line (left text.old)) }
     ensures few { IfOk result (λ ns. length ns.items ≤ 64) }
 {
     let mut row = text.wants(b"letters")?;
@@ -39,7 +40,8 @@ fn letters_line(alloc: Global, text: &mut Text<'_>) -> Result<Vec<Name>, ReadFau
 /// Reads the line `weights`, if it comes next; else each letter weighs 1.
 #[tactic(auto, using(nc_tokens::proofs::Told::at_gives), unfolding(crate::specs::Settings::weights_line))]
 fn weights_line(alloc: Global, letters: usize, text: &mut Text<'_>) -> Result<Vec<u8>, ReadFault>
-    ensures { GivesText (λ ms. (ms.items, left text.new)) result (weights_line letters (left text.old)) }
+    ensures { GivesText (λ ms. (ms.items, left text.new)) result
+          (weights_line letters (left text.old)) }
 {
     match text.takes(b"weights") {
         None => Ok(vec![in alloc; 1; letters]?),
@@ -68,7 +70,8 @@ fn generators_of(
     alphabet: &Alphabet,
     text: &mut Text<'_>,
 ) -> Result<Vec<Poly>, ReadFault>
-    ensures { GivesText (λ fs. (fs.items, left text.new)) result (generator_lines prime alphabet.now 1000 (left text.old)) }
+    ensures { GivesText (λ fs. (fs.items, left text.new)) result
+          (generator_lines prime alphabet.now 1000 (left text.old)) }
 {
     let mut generators = Vec::new(alloc);
     let mut room = MAX_GENERATORS;

@@ -95,7 +95,8 @@ fn generators_of(setting: &Setting) -> u32
 /// Reads a monomial over a setting, to the end of the line.
 #[tactic(auto, unfolding(crate::specs::Rows::mono_at))]
 pub fn mono_of(alloc: Global, setting: &Setting, line: &mut Tokens<'_>) -> Result<Mono, LineError>
-    ensures reads { Gives (λ m. m) result (mono_at setting.now.alphabet (length setting.now.setting.generators) line.old) }
+    ensures reads { Gives (λ m. m) result
+          (mono_at setting.now.alphabet (length setting.now.setting.generators) line.old) }
     ensures generator { IfOk result (λ m. IsGenerator setting.now.setting m.generator) }
     ensures left { IfOk result (λ m. IsTextWord setting.now.alphabet m.left) }
     ensures right { IfOk result (λ m. IsTextWord setting.now.alphabet m.right) }
@@ -121,7 +122,9 @@ pub fn residue_of(setting: &Setting, number: u64) -> Residue
 /// Reads what stands behind `term`: a literal and a monomial, as a part.
 #[tactic(auto, unfolding(crate::specs::Rows::term_row_at))]
 pub fn term_of(alloc: Global, setting: &Setting, line: &mut Tokens<'_>) -> Result<Part, LineError>
-    ensures { Gives (λ p. p) result (term_row_at setting.now.setting.prime setting.now.alphabet (length setting.now.setting.generators) line.old) }
+    ensures { Gives (λ p. p) result
+          (term_row_at setting.now.setting.prime setting.now.alphabet
+            (length setting.now.setting.generators) line.old) }
 {
     let number = line.literal()?;
     let Mono {
@@ -140,7 +143,8 @@ pub fn term_of(alloc: Global, setting: &Setting, line: &mut Tokens<'_>) -> Resul
 /// Reads what a part multiplies: a generator, or one of so many lines.
 #[tactic(auto, unfolding(crate::specs::Rows::multiplied_at))]
 pub fn multiplied(setting: &Setting, lines: u32, line: &mut Tokens<'_>) -> Result<Of, LineError>
-    ensures reads { Gives (λ f. (factor_of f, line.new)) result (multiplied_at (length setting.now.setting.generators) lines line.old) }
+    ensures reads { Gives (λ f. (factor_of f, line.new)) result
+          (multiplied_at (length setting.now.setting.generators) lines line.old) }
     ensures factor { IfOk result (λ f. IsFactor setting.now.setting lines (factor_of f)) }
 {
     if line.takes_brace() {

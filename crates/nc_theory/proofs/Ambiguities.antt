@@ -15,16 +15,24 @@ use Rattle.std.proofs.Common.{Contains, List, [], ap, arith, inl, inr, length, r
 
 module _ (s : Setting) (entries : List Entry) (σ : Monomial) where
   -- where two entries meet, they have an ambiguity
-  pub from_meeting : (e f : Entry) → Contains entries e → Contains entries f → MeetSomewhere s e f σ → (w : Word) × (a : Ambiguity s entries σ w) × (((a.high.entry ≡ e) × (a.low.entry ≡ f)) ⊎ ((a.high.entry ≡ f) × (a.low.entry ≡ e)))
-  from_meeting e f c d (k, m) = let r = go m.greater in (leading s.prime e.polynomial ++ m.behind_first, r.0, r.1)
+  pub from_meeting : (e f : Entry) → Contains entries e → Contains entries f → MeetSomewhere s e f σ
+      → (w : Word) × (a : Ambiguity s entries σ w)
+      × (((a.high.entry ≡ e) × (a.low.entry ≡ f)) ⊎ ((a.high.entry ≡ f) × (a.low.entry ≡ e)))
+  from_meeting e f c d (k, m) =
+      let r = go m.greater in (leading s.prime e.polynomial ++ m.behind_first, r.0, r.1)
     where
       first : Divisor s entries (leading s.prime e.polynomial ++ m.behind_first)
       first = record { entry = e; listed = c; left = []; right = m.behind_first; spells = refl }
 
       second : Divisor s entries (leading s.prime e.polynomial ++ m.behind_first)
-      second = record { entry = f; listed = d; left = m.before; right = m.behind_second; spells = sym m.around.0 }
+      second =
+          record { entry = f; listed = d;
+            left = m.before; right = m.behind_second; spells = sym m.around.0 }
 
-      go : IsGreaterOf s (times [] e.signature m.behind_first) (times m.before f.signature m.behind_second) σ → (a : Ambiguity s entries σ (leading s.prime e.polynomial ++ m.behind_first)) × (((a.high.entry ≡ e) × (a.low.entry ≡ f)) ⊎ ((a.high.entry ≡ f) × (a.low.entry ≡ e)))
+      go : IsGreaterOf s (times [] e.signature m.behind_first)
+          (times m.before f.signature m.behind_second) σ
+          → (a : Ambiguity s entries σ (leading s.prime e.polynomial ++ m.behind_first))
+          × (((a.high.entry ≡ e) × (a.low.entry ≡ f)) ⊎ ((a.high.entry ≡ f) × (a.low.entry ≡ e)))
       go (inl g) = (
         record {
           high = second;
@@ -53,20 +61,27 @@ module _ (s : Setting) (entries : List Entry) (σ : Monomial) where
       )
 
   -- where they have an ambiguity, they meet
-  pub to_meeting : (w : Word) (a : Ambiguity s entries σ w) → MeetSomewhere s a.high.entry a.low.entry σ ⊎ MeetSomewhere s a.low.entry a.high.entry σ
+  pub to_meeting : (w : Word) (a : Ambiguity s entries σ w)
+      → MeetSomewhere s a.high.entry a.low.entry σ ⊎ MeetSomewhere s a.low.entry a.high.entry σ
   to_meeting w a = go a.spans_front
     where
-      go : (a.high.left ≡ []) ⊎ (a.low.left ≡ []) → MeetSomewhere s a.high.entry a.low.entry σ ⊎ MeetSomewhere s a.low.entry a.high.entry σ
+      go : (a.high.left ≡ []) ⊎ (a.low.left ≡ []) → MeetSomewhere s a.high.entry a.low.entry σ
+          ⊎ MeetSomewhere s a.low.entry a.high.entry σ
       go (inl i) = inl (
         length a.low.left,
         record {
           before = a.low.left;
           behind_first = a.high.right;
           behind_second = a.low.right;
-          around = (ap (λ x. x ++ (leading s.prime a.high.entry.polynomial ++ a.high.right)) (sym i) ∙ (a.high.spells ∙ sym a.low.spells), a.spans_back, refl);
+          around =
+              (ap (λ x. x ++ (leading s.prime a.high.entry.polynomial ++ a.high.right)) (sym i)
+                ∙ (a.high.spells ∙ sym a.low.spells), a.spans_back, refl);
           within = omega (arith, a.low_begins, ap length i);
           some = omega (arith, a.high_begins);
-          greater = inr (subst (λ x. IsLess s (times a.low.left a.low.entry.signature a.low.right) (times x a.high.entry.signature a.high.right)) i a.below, sym a.signed ∙ ap (λ x. times x a.high.entry.signature a.high.right) i);
+          greater =
+              inr (subst (λ x. IsLess s (times a.low.left a.low.entry.signature a.low.right)
+                  (times x a.high.entry.signature a.high.right)) i a.below,
+                sym a.signed ∙ ap (λ x. times x a.high.entry.signature a.high.right) i);
         },
       )
       go (inr i) = inr (
@@ -75,9 +90,13 @@ module _ (s : Setting) (entries : List Entry) (σ : Monomial) where
           before = a.high.left;
           behind_first = a.low.right;
           behind_second = a.high.right;
-          around = (ap (λ x. x ++ (leading s.prime a.low.entry.polynomial ++ a.low.right)) (sym i) ∙ (a.low.spells ∙ sym a.high.spells), swap a.spans_back, refl);
+          around =
+              (ap (λ x. x ++ (leading s.prime a.low.entry.polynomial ++ a.low.right)) (sym i)
+                ∙ (a.low.spells ∙ sym a.high.spells), swap a.spans_back, refl);
           within = omega (arith, a.high_begins, ap length i);
           some = omega (arith, a.low_begins);
-          greater = inl (subst (λ x. IsLess s (times x a.low.entry.signature a.low.right) (times a.high.left a.high.entry.signature a.high.right)) i a.below, sym a.signed);
+          greater =
+              inl (subst (λ x. IsLess s (times x a.low.entry.signature a.low.right)
+                  (times a.high.left a.high.entry.signature a.high.right)) i a.below, sym a.signed);
         },
       )

@@ -1,4 +1,5 @@
--- New ambiguities have greater signatures than the one that was handled, and which signatures wait after a step.
+-- New ambiguities have greater signatures than the one that was handled, and which signatures wait
+-- after a step.
 use Rattle.nc_algebra.proofs.Monomials.{monomial_laws}
 use Rattle.nc_algebra.specs.Elements.{IsLess, generator_weight}
 use Rattle.nc_algebra.specs.Monomials.{Monomial}
@@ -15,36 +16,67 @@ use Rattle.nc_theory.specs.States.{Start, State, Step}
 use Rattle.std.proofs.Common.{Contains, List, None, Option, Some, inl, inr, subst, sym, ℕ, ◌↔◌, ◌∷◌, ◌≡◌, ◌≢◌, ◌⊎◌}
 use Rattle.std.proofs.lemmas.List.Elements.{Contains-push_cases}
 
-module _ (P : Problem) (field : IsField P.setting.prime) {n : ℕ} {state : State} {last : Option Monomial} (run : SequentialRun P n state last) (τ : Monomial) (next : IsNext P state last τ) where
+module _ (P : Problem) (field : IsField P.setting.prime) {n : ℕ} {state : State}
+    {last : Option Monomial} (run : SequentialRun P n state last) (τ : Monomial)
+    (next : IsNext P state last τ) where
   inv : Invariant P state last
   inv = invariant P field run
 
   from_reached : (ρ : Monomial) → ¬ IsReached P.setting (Some τ) ρ → IsLess P.setting τ ρ
   from_reached ρ n = elim (reached_or_left P (Some τ) ρ) [ inl r ↦ absurd (n r) | inr l ↦ l ]
 
-  ascends : {f kept : Polynomial} {t : Term Word} {start : Start} {steps : List Step} → Starts P.setting state.entries τ f start → ReductionAt P.setting state.entries τ f (t ∷ kept) steps → (ρ : Monomial) → NewAmbiguity P.setting state.entries (record { signature = τ; polynomial = t ∷ kept; trace = record { start = start; steps = steps } }) ρ → IsLess P.setting τ ρ
-  ascends {kept = kept} {t = t} {start = start} {steps = steps} starts reduction ρ a = from_reached ρ (λ r. go r (Contains-push_cases state.entries (record { signature = τ; polynomial = t ∷ kept; trace = record { start = start; steps = steps } }) a.ambiguity.low.entry a.ambiguity.low.listed) a.newest)
+  ascends : {f kept : Polynomial} {t : Term Word} {start : Start} {steps : List Step}
+      → Starts P.setting state.entries τ f start → ReductionAt P.setting state.entries τ f
+      (t ∷ kept) steps → (ρ : Monomial)
+      → NewAmbiguity P.setting state.entries
+      (record { signature = τ; polynomial = t ∷ kept;
+          trace = record { start = start; steps = steps } }) ρ → IsLess P.setting τ ρ
+  ascends {kept = kept} {t = t} {start = start} {steps = steps} starts reduction ρ a =
+      from_reached ρ (λ r. go r (Contains-push_cases state.entries
+          (record { signature = τ; polynomial = t ∷ kept;
+              trace = record { start = start; steps = steps } }) a.ambiguity.low.entry
+          a.ambiguity.low.listed) a.newest)
     where
-      go : IsReached P.setting (Some τ) ρ → Contains state.entries a.ambiguity.low.entry ⊎ (record { signature = τ; polynomial = t ∷ kept; trace = record { start = start; steps = steps } } ≡ a.ambiguity.low.entry) → (a.ambiguity.high.entry ≡ record { signature = τ; polynomial = t ∷ kept; trace = record { start = start; steps = steps } }) ⊎ (a.ambiguity.low.entry ≡ record { signature = τ; polynomial = t ∷ kept; trace = record { start = start; steps = steps } }) → ⊥
-      go r (inr e) o = low_old P field state last inv τ next starts reduction ρ a.word a.ambiguity r e
-      go r (inl k) (inr e) = low_old P field state last inv τ next starts reduction ρ a.word a.ambiguity r (sym e)
-      go r (inl k) (inl e) = high_old P field state last inv τ next starts reduction ρ a.word a.ambiguity r k (sym e)
+      go : IsReached P.setting (Some τ) ρ → Contains state.entries a.ambiguity.low.entry
+          ⊎ (record { signature = τ; polynomial = t ∷ kept;
+              trace = record { start = start; steps = steps } } ≡ a.ambiguity.low.entry)
+          → (a.ambiguity.high.entry ≡ record { signature = τ;
+              polynomial = t ∷ kept; trace = record { start = start; steps = steps } })
+          ⊎ (a.ambiguity.low.entry ≡ record { signature = τ;
+              polynomial = t ∷ kept; trace = record { start = start; steps = steps } }) → ⊥
+      go r (inr e) o =
+          low_old P field state last inv τ next starts reduction ρ a.word a.ambiguity r e
+      go r (inl k) (inr e) =
+          low_old P field state last inv τ next starts reduction ρ a.word a.ambiguity r (sym e)
+      go r (inl k) (inl e) =
+          high_old P field state last inv τ next starts reduction ρ a.word a.ambiguity r k (sym e)
 
-  pub ascent : {o : Outcome} → Handles P.setting state τ o → (ρ : Monomial) → BringsAmbiguity P.setting state τ o ρ → IsLess P.setting τ ρ
+  pub ascent : {o : Outcome} → Handles P.setting state τ o → (ρ : Monomial)
+      → BringsAmbiguity P.setting state τ o ρ → IsLess P.setting τ ρ
   ascent (Handles.is_covered k) ρ a = absurd a
   ascent (Handles.is_settled n u w d b m) ρ a = absurd a
   ascent (Handles.is_syzygy n starts reduction) ρ a = absurd a
   ascent (Handles.is_entry n starts reduction) ρ a = ascends starts reduction ρ a
 
   -- a candidate after the step is one before it, or new
-  candidate_back : (o : Outcome) (ρ : Monomial) → IsCandidate P (state_after state τ o) ρ → IsCandidate P state ρ ⊎ (IsWithin P ρ × BringsAmbiguity P.setting state τ o ρ)
+  candidate_back : (o : Outcome) (ρ : Monomial) → IsCandidate P (state_after state τ o) ρ
+      → IsCandidate P state ρ ⊎ (IsWithin P ρ × BringsAmbiguity P.setting state τ o ρ)
   candidate_back Outcome.covered ρ c = inl c
   candidate_back (Outcome.settled j) ρ c = inl c
   candidate_back (Outcome.a_syzygy trace) ρ c = inl c
   candidate_back (Outcome.an_entry f trace) ρ (within, inl u) = inl (within, inl u)
-  candidate_back (Outcome.an_entry f trace) ρ (within, inr (w, amb)) = go (Contains-push_cases state.entries (record { signature = τ; polynomial = f; trace = trace }) amb.low.entry amb.low.listed) (Contains-push_cases state.entries (record { signature = τ; polynomial = f; trace = trace }) amb.high.entry amb.high.listed)
+  candidate_back (Outcome.an_entry f trace) ρ (within, inr (w, amb)) =
+      go (Contains-push_cases state.entries
+        (record { signature = τ; polynomial = f; trace = trace }) amb.low.entry amb.low.listed)
+      (Contains-push_cases state.entries (record { signature = τ; polynomial = f; trace = trace })
+        amb.high.entry amb.high.listed)
     where
-      go : Contains state.entries amb.low.entry ⊎ (record { signature = τ; polynomial = f; trace = trace } ≡ amb.low.entry) → Contains state.entries amb.high.entry ⊎ (record { signature = τ; polynomial = f; trace = trace } ≡ amb.high.entry) → IsCandidate P state ρ ⊎ (IsWithin P ρ × BringsAmbiguity P.setting state τ (Outcome.an_entry f trace) ρ)
+      go : Contains state.entries amb.low.entry
+          ⊎ (record { signature = τ; polynomial = f; trace = trace } ≡ amb.low.entry)
+          → Contains state.entries amb.high.entry
+          ⊎ (record { signature = τ; polynomial = f; trace = trace } ≡ amb.high.entry)
+          → IsCandidate P state ρ ⊎ (IsWithin P ρ
+            × BringsAmbiguity P.setting state τ (Outcome.an_entry f trace) ρ)
       go (inr e) o = inr (within, record { word = w; ambiguity = amb; newest = inr (sym e) })
       go (inl k) (inr e) = inr (within, record { word = w; ambiguity = amb; newest = inl (sym e) })
       go (inl k) (inl h) = inl (
@@ -52,8 +84,11 @@ module _ (P : Problem) (field : IsField P.setting.prime) {n : ℕ} {state : Stat
         inr (
           w,
           record {
-            high = record { entry = amb.high.entry; listed = h; left = amb.high.left; right = amb.high.right; spells = amb.high.spells };
-            low = record { entry = amb.low.entry; listed = k; left = amb.low.left; right = amb.low.right; spells = amb.low.spells };
+            high = record { entry = amb.high.entry;
+                  listed = h; left = amb.high.left;
+                  right = amb.high.right; spells = amb.high.spells };
+            low = record { entry = amb.low.entry;
+                  listed = k; left = amb.low.left; right = amb.low.right; spells = amb.low.spells };
             spans_front = amb.spans_front;
             spans_back = amb.spans_back;
             high_begins = amb.high_begins;
@@ -65,15 +100,20 @@ module _ (P : Problem) (field : IsField P.setting.prime) {n : ℕ} {state : Stat
       )
 
   -- and a candidate stays one
-  candidate_on : (o : Outcome) (ρ : Monomial) → IsCandidate P state ρ → IsCandidate P (state_after state τ o) ρ
+  candidate_on : (o : Outcome) (ρ : Monomial) → IsCandidate P state ρ
+      → IsCandidate P (state_after state τ o) ρ
   candidate_on o ρ (within, inl u) = (within, inl u)
   candidate_on o ρ (within, inr (w, amb)) = (
     within,
     inr (
       w,
       record {
-        high = record { entry = amb.high.entry; listed = entries_after P.setting state τ o amb.high.entry amb.high.listed; left = amb.high.left; right = amb.high.right; spells = amb.high.spells };
-        low = record { entry = amb.low.entry; listed = entries_after P.setting state τ o amb.low.entry amb.low.listed; left = amb.low.left; right = amb.low.right; spells = amb.low.spells };
+        high = record { entry = amb.high.entry;
+              listed = entries_after P.setting state τ o amb.high.entry amb.high.listed;
+              left = amb.high.left; right = amb.high.right; spells = amb.high.spells };
+        low = record { entry = amb.low.entry;
+              listed = entries_after P.setting state τ o amb.low.entry amb.low.listed;
+              left = amb.low.left; right = amb.low.right; spells = amb.low.spells };
         spans_front = amb.spans_front;
         spans_back = amb.spans_back;
         high_begins = amb.high_begins;
@@ -84,27 +124,40 @@ module _ (P : Problem) (field : IsField P.setting.prime) {n : ℕ} {state : Stat
     ),
   )
 
-  candidate_new : (o : Outcome) (ρ : Monomial) → IsWithin P ρ → BringsAmbiguity P.setting state τ o ρ → IsCandidate P (state_after state τ o) ρ
+  candidate_new : (o : Outcome) (ρ : Monomial) → IsWithin P ρ
+      → BringsAmbiguity P.setting state τ o ρ → IsCandidate P (state_after state τ o) ρ
   candidate_new Outcome.covered ρ within a = absurd a
   candidate_new (Outcome.settled j) ρ within a = absurd a
   candidate_new (Outcome.a_syzygy trace) ρ within a = absurd a
   candidate_new (Outcome.an_entry f trace) ρ within a = (within, inr (a.word, a.ambiguity))
 
-  after_last : (last' : Option Monomial) (ρ : Monomial) → IsAfter P last' τ → IsLess P.setting τ ρ → IsAfter P last' ρ
+  after_last : (last' : Option Monomial) (ρ : Monomial) → IsAfter P last' τ → IsLess P.setting τ ρ
+      → IsAfter P last' ρ
   after_last None ρ a l = tt
   after_last (Some κ) ρ a l = (monomial_laws (generator_weight P.setting)).trans κ τ ρ a l
 
-  pub waiting : {o : Outcome} → Handles P.setting state τ o → (ρ : Monomial) → IsWaiting P (state_after state τ o) (Some τ) ρ ↔ ((IsWaiting P state last ρ × (ρ ≢ τ)) ⊎ (IsWithin P ρ × BringsAmbiguity P.setting state τ o ρ))
+  pub waiting : {o : Outcome} → Handles P.setting state τ o → (ρ : Monomial)
+      → IsWaiting P (state_after state τ o) (Some τ) ρ
+      ↔ ((IsWaiting P state last ρ × (ρ ≢ τ))
+        ⊎ (IsWithin P ρ × BringsAmbiguity P.setting state τ o ρ))
   waiting {o} h ρ = (λ c. forth c.1 (candidate_back o ρ c.0), back)
     where
-      forth : IsLess P.setting τ ρ → IsCandidate P state ρ ⊎ (IsWithin P ρ × BringsAmbiguity P.setting state τ o ρ) → (IsWaiting P state last ρ × (ρ ≢ τ)) ⊎ (IsWithin P ρ × BringsAmbiguity P.setting state τ o ρ)
-      forth l (inl c) = inl ((c, after_last last ρ next.left l), λ e. (monomial_laws (generator_weight P.setting)).irrefl τ (subst (IsLess P.setting τ) e l))
+      forth : IsLess P.setting τ ρ → IsCandidate P state ρ
+          ⊎ (IsWithin P ρ × BringsAmbiguity P.setting state τ o ρ)
+          → (IsWaiting P state last ρ × (ρ ≢ τ))
+          ⊎ (IsWithin P ρ × BringsAmbiguity P.setting state τ o ρ)
+      forth l (inl c) =
+          inl ((c, after_last last ρ next.left l),
+            λ e. (monomial_laws (generator_weight P.setting)).irrefl τ
+            (subst (IsLess P.setting τ) e l))
       forth l (inr a) = inr a
 
       other : ρ ≢ τ → (ρ ≡ τ) ⊎ IsLess P.setting τ ρ → IsLess P.setting τ ρ
       other n (inl e) = absurd (n e)
       other n (inr l) = l
 
-      back : (IsWaiting P state last ρ × (ρ ≢ τ)) ⊎ (IsWithin P ρ × BringsAmbiguity P.setting state τ o ρ) → IsWaiting P (state_after state τ o) (Some τ) ρ
+      back : (IsWaiting P state last ρ × (ρ ≢ τ))
+          ⊎ (IsWithin P ρ × BringsAmbiguity P.setting state τ o ρ)
+          → IsWaiting P (state_after state τ o) (Some τ) ρ
       back (inl (w, n)) = (candidate_on o ρ w.0, other n (next.least ρ w.0 w.1))
       back (inr (within, a)) = (candidate_new o ρ within a, ascent h ρ a)

@@ -15,34 +15,87 @@ use Rattle.nc_theory.specs.States.{Entry, State}
 use Rattle.std.proofs.Common.{Contains, None, Option, Some, [], ◌+◌, ap, append-nil, append_assoc, arith, inl, inr, subst, suc, sym, zero, ℕ, ◌++◌, ◌∙◌, ◌≡◌, ◌≤◌, ◌<◌, ◌∷◌, ◌⊎◌, ◌↔◌}
 
 extension_refl : (state : State) → Extension state state
-extension_refl state = let e : state.entries ≡ state.entries ++ [] = sym (append-nil state.entries) in let h : state.syzygies ≡ state.syzygies ++ [] = sym (append-nil state.syzygies) in record { es = []; hs = []; is = λ i. record { entries = e i; syzygies = h i; covered = state.covered; settled = state.settled } }
+extension_refl state =
+    let e : state.entries ≡ state.entries ++ [] =
+    sym (append-nil state.entries) in let h : state.syzygies ≡ state.syzygies ++ [] =
+    sym (append-nil state.syzygies) in record { es = [];
+      hs = []; is = λ i. record { entries = e i;
+        syzygies = h i; covered = state.covered; settled = state.settled } }
 
-extension_after : (state later : State) (τ : Monomial) (o : Outcome) → Extension state later → Extension state (state_after later τ o)
-extension_after state later τ Outcome.covered x = record { es = x.es; hs = x.hs; is = λ i. record { entries = (x.is i).entries; syzygies = (x.is i).syzygies; covered = later.covered + 1; settled = later.settled } }
-extension_after state later τ (Outcome.settled j) x = record { es = x.es; hs = x.hs; is = λ i. record { entries = (x.is i).entries; syzygies = (x.is i).syzygies; covered = later.covered; settled = later.settled + 1 } }
-extension_after state later τ (Outcome.an_entry f trace) x = let e : later.entries ++ (record { signature = τ; polynomial = f; trace = trace } ∷ []) ≡ state.entries ++ (x.es ++ (record { signature = τ; polynomial = f; trace = trace } ∷ [])) = ap (λ l. l.entries ++ (record { signature = τ; polynomial = f; trace = trace } ∷ [])) x.is ∙ append_assoc state.entries x.es (record { signature = τ; polynomial = f; trace = trace } ∷ []) in record { es = x.es ++ (record { signature = τ; polynomial = f; trace = trace } ∷ []); hs = x.hs; is = λ i. record { entries = e i; syzygies = (x.is i).syzygies; covered = later.covered; settled = later.settled } }
-extension_after state later τ (Outcome.a_syzygy trace) x = let h : later.syzygies ++ (record { signature = τ; trace = trace } ∷ []) ≡ state.syzygies ++ (x.hs ++ (record { signature = τ; trace = trace } ∷ [])) = ap (λ l. l.syzygies ++ (record { signature = τ; trace = trace } ∷ [])) x.is ∙ append_assoc state.syzygies x.hs (record { signature = τ; trace = trace } ∷ []) in record { es = x.es; hs = x.hs ++ (record { signature = τ; trace = trace } ∷ []); is = λ i. record { entries = (x.is i).entries; syzygies = h i; covered = later.covered; settled = later.settled } }
+extension_after : (state later : State) (τ : Monomial) (o : Outcome) → Extension state later
+    → Extension state (state_after later τ o)
+extension_after state later τ Outcome.covered x =
+    record { es = x.es; hs = x.hs;
+      is = λ i. record { entries = (x.is i).entries;
+        syzygies = (x.is i).syzygies; covered = later.covered + 1; settled = later.settled } }
+extension_after state later τ (Outcome.settled j) x =
+    record { es = x.es; hs = x.hs;
+      is = λ i. record { entries = (x.is i).entries;
+        syzygies = (x.is i).syzygies; covered = later.covered; settled = later.settled + 1 } }
+extension_after state later τ (Outcome.an_entry f trace) x =
+    let e : later.entries ++ (record { signature = τ; polynomial = f; trace = trace } ∷ [])
+    ≡ state.entries ++ (x.es ++ (record { signature = τ; polynomial = f; trace = trace } ∷ [])) =
+    ap (λ l. l.entries ++ (record { signature = τ; polynomial = f; trace = trace } ∷ [])) x.is
+    ∙ append_assoc state.entries x.es
+    (record { signature = τ; polynomial = f; trace = trace } ∷ []) in
+    record { es = x.es ++ (record { signature = τ; polynomial = f; trace = trace } ∷ []);
+      hs = x.hs; is = λ i. record { entries = e i;
+        syzygies = (x.is i).syzygies; covered = later.covered; settled = later.settled } }
+extension_after state later τ (Outcome.a_syzygy trace) x =
+    let h : later.syzygies ++ (record { signature = τ; trace = trace } ∷ []) ≡ state.syzygies
+    ++ (x.hs ++ (record { signature = τ; trace = trace } ∷ [])) =
+    ap (λ l. l.syzygies ++ (record { signature = τ; trace = trace } ∷ [])) x.is
+    ∙ append_assoc state.syzygies x.hs (record { signature = τ; trace = trace } ∷ []) in
+    record { es = x.es; hs = x.hs ++ (record { signature = τ; trace = trace } ∷ []);
+      is = λ i. record { entries = (x.is i).entries;
+        syzygies = h i; covered = later.covered; settled = later.settled } }
 
 -- each earlier number has a state, of which the later one is an extension
-earlier : (P : Problem) → {n : ℕ} {later : State} {last : Option Monomial} → SequentialRun P n later last → (k : ℕ) → k ≤ n → (state : State) × (before : Option Monomial) × SequentialRun P k state before × Extension state later
-earlier P SequentialRun.opened zero l = (opening, None, SequentialRun.opened, extension_refl (opening))
+earlier : (P : Problem) → {n : ℕ} {later : State} {last : Option Monomial}
+    → SequentialRun P n later last → (k : ℕ) → k ≤ n → (state : State) × (before : Option Monomial)
+    × SequentialRun P k state before × Extension state later
+earlier P SequentialRun.opened zero l =
+    (opening, None, SequentialRun.opened, extension_refl (opening))
 earlier P SequentialRun.opened (suc k) l = absurd (omega arith)
-earlier P (SequentialRun.handled {n = n} {state = state} {last = last} run τ next o h) k l = go (nat_order k (suc n)) (earlier P run k)
+earlier P (SequentialRun.handled {n = n} {state = state} {last = last} run τ next o h) k l =
+    go (nat_order k (suc n)) (earlier P run k)
   where
-    go : (k < suc n) ⊎ ((k ≡ suc n) ⊎ (suc n < k)) → (k ≤ n → (state' : State) × (before : Option Monomial) × SequentialRun P k state' before × Extension state' state) → (state' : State) × (before : Option Monomial) × SequentialRun P k state' before × Extension state' (state_after state τ o)
-    go (inl m) f = let t : (state' : State) × (before : Option Monomial) × SequentialRun P k state' before × Extension state' state = f (omega arith) in (t.0, t.1, t.2, extension_after t.0 state τ o t.3)
-    go (inr (inl e)) f = (state_after state τ o, Some τ, subst (λ m. SequentialRun P m (state_after state τ o) (Some τ)) (sym e) (SequentialRun.handled run τ next o h), extension_refl (state_after state τ o))
+    go : (k < suc n) ⊎ ((k ≡ suc n) ⊎ (suc n < k))
+        → (k ≤ n → (state' : State) × (before : Option Monomial) × SequentialRun P k state' before
+          × Extension state' state) → (state' : State) × (before : Option Monomial)
+        × SequentialRun P k state' before × Extension state' (state_after state τ o)
+    go (inl m) f =
+        let t : (state' : State) × (before : Option Monomial) × SequentialRun P k state' before
+        × Extension state' state =
+        f (omega arith) in (t.0, t.1, t.2, extension_after t.0 state τ o t.3)
+    go (inr (inl e)) f =
+        (state_after state τ o, Some τ,
+          subst (λ m. SequentialRun P m (state_after state τ o) (Some τ)) (sym e)
+          (SequentialRun.handled run τ next o h), extension_refl (state_after state τ o))
     go (inr (inr m)) f = absurd (omega arith)
 
-pub extends : (P : Problem) → IsField P.setting.prime → {k n : ℕ} {state later : State} {before last : Option Monomial} → SequentialRun P k state before → SequentialRun P n later last → k ≤ n → Extension state later
+pub extends : (P : Problem) → IsField P.setting.prime
+    → {k n : ℕ} {state later : State} {before last : Option Monomial}
+    → SequentialRun P k state before → SequentialRun P n later last → k ≤ n → Extension state later
 extends P field {k} {state = state} {later = later} run run' l = go (earlier P run' k l)
   where
-    go : (state' : State) × (before' : Option Monomial) × SequentialRun P k state' before' × Extension state' later → Extension state later
+    go : (state' : State) × (before' : Option Monomial) × SequentialRun P k state' before'
+        × Extension state' later → Extension state later
     go (a, b, r, x) = subst (λ y. Extension y later) (run_unique P field r run).0 x
 
--- an outcome found over an earlier state is that over a later one exactly where it is covered or nothing newer bears on it
-pub stale : (P : Problem) → IsField P.setting.prime → {k n : ℕ} {state later : State} {before last : Option Monomial} → SequentialRun P k state before → SequentialRun P n later last → k ≤ n → (x : Extension state later) × ((τ : Monomial) (o : Outcome) → Handles P.setting state τ o → Handles P.setting later τ o ↔ ((o ≡ Outcome.covered) ⊎ Unaffected P.setting state x.es x.hs τ o))
-stale P field {state = state} {later = later} run run' l = (x, λ τ o h. (λ g. stood P.setting field state alive x.es x.hs later.covered later.settled τ nonzero (subst (λ y. Handles P.setting y τ o) x.is g), λ u. subst (λ y. Handles P.setting y τ o) (sym x.is) (stands P.setting field state alive x.es x.hs later.covered later.settled τ h u)))
+-- an outcome found over an earlier state is that over a later one exactly where it is covered or
+-- nothing newer bears on it
+pub stale : (P : Problem) → IsField P.setting.prime
+    → {k n : ℕ} {state later : State} {before last : Option Monomial}
+    → SequentialRun P k state before → SequentialRun P n later last → k ≤ n
+    → (x : Extension state later) × ((τ : Monomial) (o : Outcome) → Handles P.setting state τ o
+      → Handles P.setting later τ o ↔ ((o ≡ Outcome.covered)
+        ⊎ Unaffected P.setting state x.es x.hs τ o))
+stale P field {state = state} {later = later} run run' l =
+    (x, λ τ o h. (λ g. stood P.setting field state alive x.es x.hs later.covered later.settled τ
+        nonzero (subst (λ y. Handles P.setting y τ o) x.is g),
+        λ u. subst (λ y. Handles P.setting y τ o) (sym x.is)
+        (stands P.setting field state alive x.es x.hs later.covered later.settled τ h u)))
   where
     x : Extension state later
     x = extends P field run run' l
@@ -50,5 +103,8 @@ stale P field {state = state} {later = later} run run' l = (x, λ τ o h. (λ g.
     alive : (e : Entry) → Contains state.entries e → ¬ IsZeroPolynomial P.setting e.polynomial
     alive = (invariant P field run).sound.nonzero
 
-    nonzero : (e : Entry) → Contains (state.entries ++ (extends P field run run' l).es) e → ¬ IsZeroPolynomial P.setting e.polynomial
-    nonzero e c = (invariant P field run').sound.nonzero e (subst (λ y. Contains y.entries e) (sym (extends P field run run' l).is) c)
+    nonzero : (e : Entry) → Contains (state.entries ++ (extends P field run run' l).es) e
+        → ¬ IsZeroPolynomial P.setting e.polynomial
+    nonzero e c =
+        (invariant P field run').sound.nonzero e
+        (subst (λ y. Contains y.entries e) (sym (extends P field run run' l).is) c)

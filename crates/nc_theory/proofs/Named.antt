@@ -32,7 +32,8 @@ module _ (P : NamedProblem) (is : IsProblem P) (prime : IsPrime P.problem.settin
   inputs : (i : ℕ) → WordsAre P.problem.setting (IsOver letters) (generator P.problem.setting i)
   inputs = generator_over (setting_of P) is.setting
 
-  monomial_in : (σ : Monomial) → IsOver letters σ.left × IsOver letters σ.right → IsMonomialIn P.alphabet σ
+  monomial_in : (σ : Monomial) → IsOver letters σ.left × IsOver letters σ.right
+      → IsMonomialIn P.alphabet σ
   monomial_in σ o = (word_in P.alphabet σ.left o.0, word_in P.alphabet σ.right o.1)
 
   module _ (n : ℕ) (state : State) (r : IsRunOf P.problem n state) where
@@ -42,8 +43,11 @@ module _ (P : NamedProblem) (is : IsProblem P) (prime : IsPrime P.problem.settin
     over : AreOver P.problem.setting letters r.run.entries
     over = run_over P.problem field letters inputs r.runs
 
-    entry_in : (e : Entry) → Contains state.entries e → IsMonomialIn P.alphabet e.signature × AreWordsIn P.alphabet e.polynomial
-    entry_in e k = (monomial_in e.signature ends, polynomial_in P.alphabet P.problem.setting e.polynomial usable.normal words)
+    entry_in : (e : Entry) → Contains state.entries e → IsMonomialIn P.alphabet e.signature
+        × AreWordsIn P.alphabet e.polynomial
+    entry_in e k =
+        (monomial_in e.signature ends, polynomial_in P.alphabet P.problem.setting e.polynomial
+          usable.normal words)
       where
         es : SameEntries state.entries r.run.entries
         es = same_entries state r.run same
@@ -58,16 +62,21 @@ module _ (P : NamedProblem) (is : IsProblem P) (prime : IsPrime P.problem.settin
         alike = sym (in_place_alike untraced_entry state.entries r.run.entries es e k)
 
         ends : IsOver letters e.signature.left × IsOver letters e.signature.right
-        ends = subst (λ (x : Entry). IsOver letters x.signature.left × IsOver letters x.signature.right) alike (over.left d listed, over.right d listed)
+        ends = subst (λ (x : Entry). IsOver letters x.signature.left
+              × IsOver letters x.signature.right) alike (over.left d listed, over.right d listed)
 
         words : WordsAre P.problem.setting (IsOver letters) e.polynomial
-        words = subst (λ (x : Entry). WordsAre P.problem.setting (IsOver letters) x.polynomial) alike (over.words d listed)
+        words = subst (λ (x : Entry). WordsAre P.problem.setting (IsOver letters) x.polynomial)
+            alike (over.words d listed)
 
         usable : IsUsable P.problem.setting e
-        usable = subst (IsUsable P.problem.setting) k.2 ((facts P is prime n state r).usable k.0 e k.1)
+        usable =
+            subst (IsUsable P.problem.setting) k.2 ((facts P is prime n state r).usable k.0 e k.1)
 
     syzygy_in : (h : Syzygy) → Contains state.syzygies h → IsMonomialIn P.alphabet h.signature
-    syzygy_in h k = monomial_in h.signature (subst (λ (x : Syzygy). IsOver letters x.signature.left × IsOver letters x.signature.right) alike (all d listed))
+    syzygy_in h k =
+        monomial_in h.signature (subst (λ (x : Syzygy). IsOver letters x.signature.left
+            × IsOver letters x.signature.right) alike (all d listed))
       where
         hs : SameSyzygies state.syzygies r.run.syzygies
         hs = same_syzygies state r.run same
@@ -81,15 +90,24 @@ module _ (P : NamedProblem) (is : IsProblem P) (prime : IsPrime P.problem.settin
         alike : untraced_syzygy d ≡ untraced_syzygy h
         alike = sym (in_place_alike untraced_syzygy state.syzygies r.run.syzygies hs h k)
 
-        all : (g : Syzygy) → Contains r.run.syzygies g → IsOver letters g.signature.left × IsOver letters g.signature.right
-        all = syzygies_are P.problem (λ σ. IsOver letters σ.left × IsOver letters σ.right) (λ k before since q. candidate_over P.problem field letters inputs before (invariant P.problem field q).sound.nonzero (run_over P.problem field letters inputs q)) r.runs
+        all : (g : Syzygy) → Contains r.run.syzygies g → IsOver letters g.signature.left
+            × IsOver letters g.signature.right
+        all = syzygies_are P.problem (λ σ. IsOver letters σ.left × IsOver letters σ.right)
+            (λ k before since q. candidate_over P.problem field letters inputs before
+              (invariant P.problem field q).sound.nonzero
+              (run_over P.problem field letters inputs q)) r.runs
 
     pub over_alphabet : IsOverAlphabet P state
     over_alphabet = record {
       entries = entry_in;
       syzygies = syzygy_in;
-      candidates = λ τ c. monomial_in τ (candidate_over P.problem field letters inputs r.run (invariant P.problem field r.runs).sound.nonzero over τ (moved_candidate P.problem state r.run same τ c));
+      candidates =
+          λ τ c. monomial_in τ (candidate_over P.problem field letters inputs r.run
+            (invariant P.problem field r.runs).sound.nonzero over τ
+            (moved_candidate P.problem state r.run same τ c));
     }
 
-  pub complete : length (monomials_within P.problem.setting P.problem.bound letters) ≤ P.problem.steps → (n : ℕ) (state : State) (ending : End) → IsEndOf P.problem n state ending → ending ≡ End.complete
+  pub complete : length (monomials_within P.problem.setting P.problem.bound
+        letters) ≤ P.problem.steps → (n : ℕ) (state : State) (ending : End)
+      → IsEndOf P.problem n state ending → ending ≡ End.complete
   complete h n state ending e = enough_steps P.problem field letters inputs h e.ends

@@ -20,7 +20,10 @@ quotient_is p a b i q small inverse e =
     ∙ (ap (λ n. n % p) (omega arith) ∙ mod-eq_of_lt small))))
 
 -- the coefficient beside the leading word
-pub lead_coefficient : (p : ℕ) (f : Polynomial) (t : Term Word) (g : Polynomial) → f ≡ t ∷ g → IsNormal p f → coefficient f (leading p f) ≡ t.coefficient
+pub lead_coefficient : (p : ℕ) (f : Polynomial) (t : Term Word) (g : Polynomial) → f ≡ t ∷ g
+    → IsNormal p f → coefficient f (leading p f) ≡ t.coefficient
 lead_coefficient p f t g e n =
     let normal : IsNormal p (t ∷ g) = subst (IsNormal p) e n in
-    ap (λ h. coefficient h (leading p h)) e ∙ (ap (coefficient (t ∷ g)) (leading-normal p t g normal) ∙ first_coefficient t g normal.0.1)
+    ap (λ h. coefficient h (leading p h)) e
+        ∙ (ap (coefficient (t ∷ g)) (leading-normal p t g normal) ∙ first_coefficient t g
+          normal.0.1)

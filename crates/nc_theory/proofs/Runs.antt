@@ -17,12 +17,20 @@ use Rattle.nc_theory.specs.States.{Entry, Step}
 use Rattle.std.proofs.Common.{List, [], arith, subst, sym, ◌∙◌, ◌≡◌}
 use Rattle.std.specs.List.{All}
 
-module _ (s : Setting) (field : IsField s.prime) (entries : List Entry) (usable : All (IsUsable s) entries) (set : Monomial → Type 0) (f kept : Polynomial) (steps : List Step) (h : Polynomial) (reached : ReducedTo s entries set f kept steps h) (nothing : h ≡ []) where
+module _ (s : Setting) (field : IsField s.prime) (entries : List Entry)
+    (usable : All (IsUsable s) entries) (set : Monomial → Type 0) (f kept : Polynomial)
+    (steps : List Step) (h : Polynomial) (reached : ReducedTo s entries set f kept steps h)
+    (nothing : h ≡ []) where
   ended : Reduction s entries set f kept steps
-  ended = reduced_end s entries set f kept steps h reached (subst (λ g. (w : Word) → IsZero s.prime (coefficient g w)) (sym nothing) (λ w. zero_number s.prime))
+  ended = reduced_end s entries set f kept steps h reached
+      (subst (λ g. (w : Word) → IsZero s.prime (coefficient g w)) (sym nothing)
+        (λ w. zero_number s.prime))
 
   pub whole_normal : IsNormal s.prime kept
   whole_normal = kept_normal s field entries (usable_nonzero s entries usable) set ended
 
   pub whole : (g : Polynomial) → g ≡ normal_form s.prime kept → Reduction s entries set f g steps
-  whole g e = subst (λ k. Reduction s entries set f k steps) (sym (e ∙ normal_form-normal s.prime kept (omega (arith, field.above_one)) whole_normal)) ended
+  whole g e =
+      subst (λ k. Reduction s entries set f k steps)
+      (sym (e ∙ normal_form-normal s.prime kept (omega (arith, field.above_one)) whole_normal))
+      ended

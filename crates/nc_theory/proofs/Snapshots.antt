@@ -20,7 +20,8 @@ use Rattle.std.proofs.Common.{Contains, [], ap, arith, get_or, length, refl, sub
 use Rattle.std.proofs.lemmas.List.{get_or_default}
 use Rattle.std.specs.List.{All}
 
-usable_like : (s : Setting) (e e' : Entry) → untraced_entry e ≡ untraced_entry e' → IsUsable s e → IsUsable s e'
+usable_like : (s : Setting) (e e' : Entry) → untraced_entry e ≡ untraced_entry e' → IsUsable s e
+    → IsUsable s e'
 usable_like s e e' alike u = record {
   normal = subst (λ (x : Entry). IsNormal s.prime x.polynomial) alike u.normal;
   some = subst (λ (x : Entry). x.polynomial ≢ []) alike u.some;
@@ -28,7 +29,8 @@ usable_like s e e' alike u = record {
   light = subst (λ (x : Entry). WeighsAtMost s (degree s x.signature) x.polynomial) alike u.light;
 }
 
-module _ (P : NamedProblem) (is : IsProblem P) (prime : IsPrime P.problem.setting.prime) (n : ℕ) (state : State) (r : IsRunOf P.problem n state) where
+module _ (P : NamedProblem) (is : IsProblem P) (prime : IsPrime P.problem.setting.prime) (n : ℕ)
+    (state : State) (r : IsRunOf P.problem n state) where
   field : IsField P.problem.setting.prime
   field = field_from_prime P.problem.setting.prime prime
 
@@ -44,23 +46,31 @@ module _ (P : NamedProblem) (is : IsProblem P) (prime : IsPrime P.problem.settin
   abbrev entry : (e : Entry) → Contains state.entries e → Entry
   entry e k = in_place untraced_entry state.entries r.run.entries es e k
 
-  abbrev entry_listed : (e : Entry) (k : Contains state.entries e) → Contains r.run.entries (entry e k)
+  abbrev entry_listed : (e : Entry) (k : Contains state.entries e)
+      → Contains r.run.entries (entry e k)
   entry_listed e k = in_place_listed untraced_entry state.entries r.run.entries es e k
 
-  entry_alike : (e : Entry) (k : Contains state.entries e) → untraced_entry (entry e k) ≡ untraced_entry e
+  entry_alike : (e : Entry) (k : Contains state.entries e)
+      → untraced_entry (entry e k) ≡ untraced_entry e
   entry_alike e k = sym (in_place_alike untraced_entry state.entries r.run.entries es e k)
 
   abbrev syzygy : (h : Syzygy) → Contains state.syzygies h → Syzygy
   syzygy h k = in_place untraced_syzygy state.syzygies r.run.syzygies hs h k
 
-  abbrev syzygy_listed : (h : Syzygy) (k : Contains state.syzygies h) → Contains r.run.syzygies (syzygy h k)
+  abbrev syzygy_listed : (h : Syzygy) (k : Contains state.syzygies h)
+      → Contains r.run.syzygies (syzygy h k)
   syzygy_listed h k = in_place_listed untraced_syzygy state.syzygies r.run.syzygies hs h k
 
-  syzygy_alike : (h : Syzygy) (k : Contains state.syzygies h) → untraced_syzygy (syzygy h k) ≡ untraced_syzygy h
+  syzygy_alike : (h : Syzygy) (k : Contains state.syzygies h)
+      → untraced_syzygy (syzygy h k) ≡ untraced_syzygy h
   syzygy_alike h k = sym (in_place_alike untraced_syzygy state.syzygies r.run.syzygies hs h k)
 
   all_usable : All (IsUsable P.problem.setting) state.entries
-  all_usable k e l = usable_like P.problem.setting (entry x listed) x (entry_alike x listed) (subst (IsUsable P.problem.setting) (entry_listed x listed).2 (run_usable (setting_of P) is.setting field P.problem refl limit r.runs k (entry x listed) (entry_listed x listed).1))
+  all_usable k e l =
+      usable_like P.problem.setting (entry x listed) x (entry_alike x listed)
+      (subst (IsUsable P.problem.setting) (entry_listed x listed).2
+        (run_usable (setting_of P) is.setting field P.problem refl limit r.runs k (entry x listed)
+          (entry_listed x listed).1))
     where
       x : Entry
       x = get_or state.entries k e
@@ -68,22 +78,50 @@ module _ (P : NamedProblem) (is : IsProblem P) (prime : IsPrime P.problem.settin
       listed : Contains state.entries (get_or state.entries k e)
       listed = (k, l, get_or_default state.entries k (get_or state.entries k e) e l)
 
-  entry_within : (e : Entry) → Contains state.entries e → IsWithin P.problem e.signature × IsUsableSignature P.problem.setting e.signature
-  entry_within e k = subst (λ (x : Entry). IsWithin P.problem x.signature × IsUsableSignature P.problem.setting x.signature) (entry_alike e k) ((invariant P.problem field r.runs).within (entry e k) (entry_listed e k), entry_signed (setting_of P) is.setting field P.problem refl limit r.runs (entry e k) (entry_listed e k))
+  entry_within : (e : Entry) → Contains state.entries e → IsWithin P.problem e.signature
+      × IsUsableSignature P.problem.setting e.signature
+  entry_within e k =
+      subst (λ (x : Entry). IsWithin P.problem x.signature
+        × IsUsableSignature P.problem.setting x.signature) (entry_alike e k)
+      ((invariant P.problem field r.runs).within (entry e k) (entry_listed e k),
+        entry_signed (setting_of P) is.setting field P.problem refl limit r.runs (entry e k)
+        (entry_listed e k))
 
-  syzygy_within : (h : Syzygy) → Contains state.syzygies h → IsWithin P.problem h.signature × IsUsableSignature P.problem.setting h.signature
-  syzygy_within h k = subst (λ (x : Syzygy). IsWithin P.problem x.signature × IsUsableSignature P.problem.setting x.signature) (syzygy_alike h k) (syzygy_signed (setting_of P) is.setting field P.problem refl limit r.runs (syzygy h k) (syzygy_listed h k))
+  syzygy_within : (h : Syzygy) → Contains state.syzygies h → IsWithin P.problem h.signature
+      × IsUsableSignature P.problem.setting h.signature
+  syzygy_within h k =
+      subst (λ (x : Syzygy). IsWithin P.problem x.signature
+        × IsUsableSignature P.problem.setting x.signature) (syzygy_alike h k)
+      (syzygy_signed (setting_of P) is.setting field P.problem refl limit r.runs (syzygy h k)
+        (syzygy_listed h k))
 
-  entries_ascend : (e e' : Entry) (k : Contains state.entries e) (k' : Contains state.entries e') → k.0 < k'.0 → IsLess P.problem.setting e.signature e'.signature
-  entries_ascend e e' k k' l = subst (λ (x : Entry). IsLess P.problem.setting e.signature x.signature) (entry_alike e' k') (subst (λ (x : Entry). IsLess P.problem.setting x.signature (entry e' k').signature) (entry_alike e k)
-      ((rebuilt P.problem field r.runs).entries_ascend (entry e k) (entry e' k') (entry_listed e k) (entry_listed e' k') l))
+  entries_ascend : (e e' : Entry) (k : Contains state.entries e) (k' : Contains state.entries e')
+      → k.0 < k'.0 → IsLess P.problem.setting e.signature e'.signature
+  entries_ascend e e' k k' l =
+      subst (λ (x : Entry). IsLess P.problem.setting e.signature x.signature) (entry_alike e' k')
+      (subst (λ (x : Entry). IsLess P.problem.setting x.signature (entry e' k').signature)
+        (entry_alike e k)
+      ((rebuilt P.problem field r.runs).entries_ascend (entry e k) (entry e' k') (entry_listed e k)
+            (entry_listed e' k') l))
 
-  syzygies_ascend : (h h' : Syzygy) (k : Contains state.syzygies h) (k' : Contains state.syzygies h') → k.0 < k'.0 → IsLess P.problem.setting h.signature h'.signature
-  syzygies_ascend h h' k k' l = subst (λ (x : Syzygy). IsLess P.problem.setting h.signature x.signature) (syzygy_alike h' k') (subst (λ (x : Syzygy). IsLess P.problem.setting x.signature (syzygy h' k').signature) (syzygy_alike h k)
-      ((rebuilt P.problem field r.runs).syzygies_ascend (syzygy h k) (syzygy h' k') (syzygy_listed h k) (syzygy_listed h' k') l))
+  syzygies_ascend : (h h' : Syzygy) (k : Contains state.syzygies h)
+      (k' : Contains state.syzygies h') → k.0 < k'.0
+      → IsLess P.problem.setting h.signature h'.signature
+  syzygies_ascend h h' k k' l =
+      subst (λ (x : Syzygy). IsLess P.problem.setting h.signature x.signature) (syzygy_alike h' k')
+      (subst (λ (x : Syzygy). IsLess P.problem.setting x.signature (syzygy h' k').signature)
+        (syzygy_alike h k)
+      ((rebuilt P.problem field r.runs).syzygies_ascend (syzygy h k) (syzygy h' k')
+            (syzygy_listed h k) (syzygy_listed h' k') l))
 
   counted : n ≡ state.covered + state.settled + length state.entries + length state.syzygies
-  counted = omega (arith, counts P.problem r.runs, ap (λ (t : State). t.covered) r.stands, ap (λ (t : State). t.settled) r.stands, same_length untraced_entry state.entries r.run.entries es, same_length untraced_syzygy state.syzygies r.run.syzygies hs)
+  counted =
+      omega (arith, counts P.problem r.runs, ap (λ (t : State). t.covered) r.stands,
+        ap (λ (t : State). t.settled) r.stands, same_length untraced_entry state.entries
+        r.run.entries es, same_length untraced_syzygy state.syzygies r.run.syzygies hs)
 
   pub facts : SnapshotFacts P.problem n state
-  facts = record { usable = all_usable; entries_within = entry_within; syzygies_within = syzygy_within; entries_ascend = entries_ascend; syzygies_ascend = syzygies_ascend; counted = counted }
+  facts = record { usable = all_usable;
+        entries_within = entry_within;
+        syzygies_within = syzygy_within;
+        entries_ascend = entries_ascend; syzygies_ascend = syzygies_ascend; counted = counted }

@@ -35,10 +35,13 @@ module _ {X Y : Type 0} (f : X → Y) (xs xs' : List X) (same : map f xs ≡ map
   in_bounds x c = omega (arith, c.1, same_length)
 
   abbrev pub in_place_listed : (x : X) (c : Contains xs x) → Contains xs' (in_place x c)
-  in_place_listed x c = (c.0, in_bounds x c, get_or_default xs' c.0 (in_place x c) x (in_bounds x c))
+  in_place_listed x c =
+      (c.0, in_bounds x c, get_or_default xs' c.0 (in_place x c) x (in_bounds x c))
 
   pub in_place_alike : (x : X) (c : Contains xs x) → f x ≡ f (in_place x c)
-  in_place_alike x c = sym (ap f c.2) ∙ (sym (get_or-map f xs c.0 x (f x) c.1) ∙ (ap (λ ys. get_or ys c.0 (f x)) same ∙ get_or-map f xs' c.0 x (f x) (in_bounds x c)))
+  in_place_alike x c =
+      sym (ap f c.2) ∙ (sym (get_or-map f xs c.0 x (f x) c.1)
+        ∙ (ap (λ ys. get_or ys c.0 (f x)) same ∙ get_or-map f xs' c.0 x (f x) (in_bounds x c)))
 
 -- ---- divisors
 
@@ -46,16 +49,25 @@ module _ (s : Setting) (es es' : List Entry) (same : SameEntries es es') where
   abbrev pub other : (w : Word) → Divisor s es w → Entry
   other w d = in_place untraced_entry es es' same d.entry d.listed
 
-  pub other_alike : (w : Word) (d : Divisor s es w) → untraced_entry d.entry ≡ untraced_entry (other w d)
+  pub other_alike : (w : Word) (d : Divisor s es w) → untraced_entry d.entry ≡ untraced_entry
+      (other w d)
   other_alike w d = in_place_alike untraced_entry es es' same d.entry d.listed
 
   abbrev pub moved : (w : Word) → Divisor s es w → Divisor s es' w
-  moved w d = record { entry = other w d; listed = in_place_listed untraced_entry es es' same d.entry d.listed; left = d.left; right = d.right; spells = subst (λ (e : Entry). d.left ++ (leading s.prime e.polynomial ++ d.right) ≡ w) (other_alike w d) d.spells }
+  moved w d =
+      record { entry = other w d; listed = in_place_listed untraced_entry es es' same d.entry
+        d.listed; left = d.left; right = d.right;
+        spells = subst (λ (e : Entry). d.left ++ (leading s.prime e.polynomial ++ d.right) ≡ w)
+        (other_alike w d) d.spells }
 
   pub moved_same : (w : Word) (d : Divisor s es w) → IsSameDivisor s es es' w d (moved w d)
-  moved_same w d = record { number = refl; left = refl; right = refl; signature = ap (λ (e : Entry). e.signature) (other_alike w d); polynomial = ap (λ (e : Entry). e.polynomial) (other_alike w d) }
+  moved_same w d =
+      record { number = refl; left = refl;
+        right = refl; signature = ap (λ (e : Entry). e.signature) (other_alike w d);
+        polynomial = ap (λ (e : Entry). e.polynomial) (other_alike w d) }
 
-module _ (s : Setting) (es es' : List Entry) (w : Word) (d : Divisor s es w) (d' : Divisor s es' w) (same : IsSameDivisor s es es' w d d') where
+module _ (s : Setting) (es es' : List Entry) (w : Word) (d : Divisor s es w) (d' : Divisor s es' w)
+    (same : IsSameDivisor s es es' w d d') where
   pub same_signature : signature_at s es w d ≡ signature_at s es' w d'
   same_signature = λ i. times (same.left i) (same.signature i) (same.right i)
 
@@ -63,64 +75,100 @@ module _ (s : Setting) (es es' : List Entry) (w : Word) (d : Divisor s es w) (d'
   same_multiple = λ i. polynomial_times (same.left i) (same.polynomial i) (same.right i)
 
   pub other_side : IsSameDivisor s es' es w d' d
-  other_side = record { number = sym same.number; left = sym same.left; right = sym same.right; signature = sym same.signature; polynomial = sym same.polynomial }
+  other_side =
+      record { number = sym same.number;
+        left = sym same.left; right = sym same.right;
+        signature = sym same.signature; polynomial = sym same.polynomial }
 
 module _ (s : Setting) (es es' : List Entry) (same : SameEntries es es') where
   abbrev pub back : (w : Word) → Divisor s es' w → Divisor s es w
   back = moved s es' es (sym same)
 
-  back_signature : (w : Word) (d : Divisor s es' w) → signature_at s es' w d ≡ signature_at s es w (back w d)
+  back_signature : (w : Word) (d : Divisor s es' w) → signature_at s es' w d ≡ signature_at s es w
+      (back w d)
   back_signature w d = same_signature s es' es w d (back w d) (moved_same s es' es (sym same) w d)
 
-  pub moved_signature : (w : Word) (d : Divisor s es w) → signature_at s es w d ≡ signature_at s es' w (moved s es es' same w d)
-  moved_signature w d = same_signature s es es' w d (moved s es es' same w d) (moved_same s es es' same w d)
+  pub moved_signature : (w : Word) (d : Divisor s es w) → signature_at s es w d ≡ signature_at s es'
+      w (moved s es es' same w d)
+  moved_signature w d =
+      same_signature s es es' w d (moved s es es' same w d) (moved_same s es es' same w d)
 
-  pub moved_chosen : (set : Monomial → Type 0) (w : Word) (d : Divisor s es w) → IsChosenDivisor s es set w d → (d' : Divisor s es' w) → IsSameDivisor s es es' w d d' → IsChosenDivisor s es' set w d'
+  pub moved_chosen : (set : Monomial → Type 0) (w : Word) (d : Divisor s es w)
+      → IsChosenDivisor s es set w d → (d' : Divisor s es' w) → IsSameDivisor s es es' w d d'
+      → IsChosenDivisor s es' set w d'
   moved_chosen set w d c d' k = record {
     allowed = subst set (same_signature s es es' w d d' k) c.allowed;
     least = λ e m. least e (c.least (back w e) (subst set (back_signature w e) m));
   }
     where
-      least : (e : Divisor s es' w) → (number_of s es w d < number_of s es w (back w e)) ⊎ ((number_of s es w d ≡ number_of s es w (back w e)) × (length d.left ≤ length (back w e).left)) → (number_of s es' w d' < number_of s es' w e) ⊎ ((number_of s es' w d' ≡ number_of s es' w e) × (length d'.left ≤ length e.left))
+      least : (e : Divisor s es' w) → (number_of s es w d < number_of s es w (back w e))
+          ⊎ ((number_of s es w d ≡ number_of s es w (back w e))
+            × (length d.left ≤ length (back w e).left))
+          → (number_of s es' w d' < number_of s es' w e)
+          ⊎ ((number_of s es' w d' ≡ number_of s es' w e) × (length d'.left ≤ length e.left))
       least e (inl l) = inl (omega (arith, l, k.number))
       least e (inr (i, l)) = inr (sym k.number ∙ i, omega (arith, l, ap length k.left))
 
-  pub moved_best : (τ : Monomial) (w : Word) (d : Divisor s es w) → IsBestMultiple s es τ w d → (d' : Divisor s es' w) → IsSameDivisor s es es' w d d' → IsBestMultiple s es' τ w d'
+  pub moved_best : (τ : Monomial) (w : Word) (d : Divisor s es w) → IsBestMultiple s es τ w d
+      → (d' : Divisor s es' w) → IsSameDivisor s es es' w d d' → IsBestMultiple s es' τ w d'
   moved_best τ w d b d' k = record {
     signed = sym (same_signature s es es' w d d' k) ∙ b.signed;
     least = λ v e m. least v e (b.least v (back v e) (sym (back_signature v e) ∙ m));
   }
     where
-      least : (v : Word) (e : Divisor s es' v) → IsWordLess w v ⊎ ((w ≡ v) × (number_of s es w d ≤ number_of s es v (back v e))) → IsWordLess w v ⊎ ((w ≡ v) × (number_of s es' w d' ≤ number_of s es' v e))
+      least : (v : Word) (e : Divisor s es' v) → IsWordLess w v
+          ⊎ ((w ≡ v) × (number_of s es w d ≤ number_of s es v (back v e))) → IsWordLess w v
+          ⊎ ((w ≡ v) × (number_of s es' w d' ≤ number_of s es' v e))
       least v e (inl l) = inl l
       least v e (inr (i, l)) = inr (i, omega (arith, l, k.number))
 
-  abbrev pub moved_regular : (τ : Monomial) (w : Word) → RegularDivisor s es τ w → RegularDivisor s es' τ w
-  moved_regular τ w r = record { divisor = moved s es es' same w r.divisor; below = subst (λ σ. IsLess s σ τ) (moved_signature w r.divisor) r.below }
+  abbrev pub moved_regular : (τ : Monomial) (w : Word) → RegularDivisor s es τ w
+      → RegularDivisor s es' τ w
+  moved_regular τ w r =
+      record { divisor = moved s es es' same w r.divisor;
+        below = subst (λ σ. IsLess s σ τ) (moved_signature w r.divisor) r.below }
 
   abbrev pub moved_multiple : (τ : Monomial) (w : Word) → Multiple s es τ w → Multiple s es' τ w
-  moved_multiple τ w m = record { divisor = moved s es es' same w m.divisor; signed = sym (moved_signature w m.divisor) ∙ m.signed }
+  moved_multiple τ w m =
+      record { divisor = moved s es es' same w m.divisor;
+        signed = sym (moved_signature w m.divisor) ∙ m.signed }
 
   -- ---- reductions
 
-  pub moved_reduction : (set : Monomial → Type 0) → {f kept : Polynomial} {steps : List Step} → Reduction s es set f kept steps → Reduction s es' set f kept steps
+  pub moved_reduction : (set : Monomial → Type 0) → {f kept : Polynomial} {steps : List Step}
+      → Reduction s es set f kept steps → Reduction s es' set f kept steps
   moved_reduction set (Reduction.finished z) = Reduction.finished z
-  moved_reduction set (Reduction.subtract {f = f} {kept = kept} {steps = steps} w l d chosen c small q rest) =
-      Reduction.subtract w l (moved s es es' same w d) (moved_chosen set w d chosen (moved s es es' same w d) (moved_same s es es' same w d)) c small
-      (subst (λ (e : Entry). c * coefficient e.polynomial (leading s.prime e.polynomial) % s.prime ≡ coefficient f w % s.prime) (other_alike s es es' same w d) q)
-      (subst (λ g. Reduction s es' set (minus s.prime f c g) kept steps) (same_multiple s es es' w d (moved s es es' same w d) (moved_same s es es' same w d)) (moved_reduction set rest))
-  moved_reduction set (Reduction.keep w l none c q rest) = Reduction.keep w l (λ d m. none (back w d) (subst set (back_signature w d) m)) c q (moved_reduction set rest)
+  moved_reduction set (Reduction.subtract {f = f} {kept = kept} {steps = steps} w l d chosen c small
+        q rest) =
+      Reduction.subtract w l (moved s es es' same w d)
+          (moved_chosen set w d chosen (moved s es es' same w d) (moved_same s es es' same w d)) c
+          small
+      (subst (λ (e : Entry). c * coefficient e.polynomial (leading s.prime e.polynomial) % s.prime
+              ≡ coefficient f w % s.prime) (other_alike s es es' same w d) q)
+      (subst (λ g. Reduction s es' set (minus s.prime f c g) kept steps)
+            (same_multiple s es es' w d (moved s es es' same w d) (moved_same s es es' same w d))
+            (moved_reduction set rest))
+  moved_reduction set (Reduction.keep w l none c q rest) =
+      Reduction.keep w l (λ d m. none (back w d) (subst set (back_signature w d) m)) c q
+      (moved_reduction set rest)
 
-  pub moved_start : (τ : Monomial) → {f : Polynomial} {a : Start} → Starts s es τ f a → Starts s es' τ f a
+  pub moved_start : (τ : Monomial) → {f : Polynomial} {a : Start} → Starts s es τ f a
+      → Starts s es' τ f a
   moved_start τ (Starts.at_generator i e) = Starts.at_generator i e
   moved_start τ (Starts.at_multiple n w d best r) =
-      subst (λ g. Starts s es' τ g (Start.a_multiple d.left (number_of s es w d) d.right)) (sym (same_multiple s es es' w d (moved s es es' same w d) (moved_same s es es' same w d)))
-      (Starts.at_multiple n w (moved s es es' same w d) (moved_best τ w d best (moved s es es' same w d) (moved_same s es es' same w d)) (moved_regular τ w r))
+      subst (λ g. Starts s es' τ g (Start.a_multiple d.left (number_of s es w d) d.right))
+          (sym (same_multiple s es es' w d (moved s es es' same w d)
+              (moved_same s es es' same w d)))
+      (Starts.at_multiple n w (moved s es es' same w d)
+            (moved_best τ w d best (moved s es es' same w d) (moved_same s es es' same w d))
+            (moved_regular τ w r))
 
   -- ---- what covers
 
   abbrev Greater : Monomial → Word → Entry → Entry → Type 0
-  Greater ρ m i j = (IsLess s (second_side s i m j) (first_side s i m j) × (ρ ≡ first_side s i m j)) ⊎ (IsLess s (first_side s i m j) (second_side s i m j) × (ρ ≡ second_side s i m j))
+  Greater ρ m i j =
+      (IsLess s (second_side s i m j) (first_side s i m j) × (ρ ≡ first_side s i m j))
+      ⊎ (IsLess s (first_side s i m j) (second_side s i m j) × (ρ ≡ second_side s i m j))
 
   pub moved_trivial : (ρ : Monomial) → TrivialSyzygy s es ρ → TrivialSyzygy s es' ρ
   moved_trivial ρ t = record {
@@ -129,19 +177,26 @@ module _ (s : Setting) (es es' : List Entry) (same : SameEntries es es') where
     second = in_place untraced_entry es es' same t.second t.second_listed;
     second_listed = in_place_listed untraced_entry es es' same t.second t.second_listed;
     m = t.m;
-    greater = subst (λ (j : Entry). Greater ρ t.m (in_place untraced_entry es es' same t.first t.first_listed) j) (in_place_alike untraced_entry es es' same t.second t.second_listed)
-        (subst (λ (i : Entry). Greater ρ t.m i t.second) (in_place_alike untraced_entry es es' same t.first t.first_listed) t.greater);
+    greater =
+        subst (λ (j : Entry). Greater ρ t.m
+          (in_place untraced_entry es es' same t.first t.first_listed) j)
+        (in_place_alike untraced_entry es es' same t.second t.second_listed)
+        (subst (λ (i : Entry). Greater ρ t.m i t.second)
+              (in_place_alike untraced_entry es es' same t.first t.first_listed) t.greater);
   }
 
 -- ---- ambiguities
 
 -- the same place and the same multiple
-record IsAlike (s : Setting) (es es' : List Entry) (w : Word) (d : Divisor s es w) (d' : Divisor s es' w) : Type 0 where
+record IsAlike (s : Setting) (es es' : List Entry) (w : Word) (d : Divisor s es w)
+    (d' : Divisor s es' w) : Type 0 where
   left : d.left ≡ d'.left
   right : d.right ≡ d'.right
   entry : untraced_entry d.entry ≡ untraced_entry d'.entry
 
-module _ (s : Setting) (es es' : List Entry) (ρ : Monomial) (w : Word) (a : Ambiguity s es ρ w) (high low : Divisor s es' w) (h : IsAlike s es es' w a.high high) (l : IsAlike s es es' w a.low low) where
+module _ (s : Setting) (es es' : List Entry) (ρ : Monomial) (w : Word) (a : Ambiguity s es ρ w)
+    (high low : Divisor s es' w) (h : IsAlike s es es' w a.high high)
+    (l : IsAlike s es es' w a.low low) where
   high_signature : signature_at s es w a.high ≡ signature_at s es' w high
   high_signature = λ i. times (h.left i) (h.entry i).signature (h.right i)
 
@@ -158,27 +213,43 @@ module _ (s : Setting) (es es' : List Entry) (ρ : Monomial) (w : Word) (a : Amb
   like_ambiguity = record {
     high = high;
     low = low;
-    spans_front = subst (λ u. (u ≡ []) ⊎ (low.left ≡ [])) h.left (subst (λ u. (a.high.left ≡ []) ⊎ (u ≡ [])) l.left a.spans_front);
-    spans_back = subst (λ u. (u ≡ []) ⊎ (low.right ≡ [])) h.right (subst (λ u. (a.high.right ≡ []) ⊎ (u ≡ [])) l.right a.spans_back);
-    high_begins = omega (arith, a.high_begins, ap length h.left, ap length l.left, ap length low_leading);
-    low_begins = omega (arith, a.low_begins, ap length h.left, ap length l.left, ap length high_leading);
-    below = subst (λ σ. IsLess s (signature_at s es' w low) σ) high_signature (subst (λ σ. IsLess s σ (signature_at s es w a.high)) low_signature a.below);
+    spans_front =
+        subst (λ u. (u ≡ []) ⊎ (low.left ≡ [])) h.left
+        (subst (λ u. (a.high.left ≡ []) ⊎ (u ≡ [])) l.left a.spans_front);
+    spans_back =
+        subst (λ u. (u ≡ []) ⊎ (low.right ≡ [])) h.right
+        (subst (λ u. (a.high.right ≡ []) ⊎ (u ≡ [])) l.right a.spans_back);
+    high_begins =
+        omega (arith, a.high_begins, ap length h.left, ap length l.left, ap length low_leading);
+    low_begins =
+        omega (arith, a.low_begins, ap length h.left, ap length l.left, ap length high_leading);
+    below = subst (λ σ. IsLess s (signature_at s es' w low) σ) high_signature
+        (subst (λ σ. IsLess s σ (signature_at s es w a.high)) low_signature a.below);
     signed = sym high_signature ∙ a.signed;
   }
 
-pub moved_ambiguity : (s : Setting) (es es' : List Entry) → SameEntries es es' → (ρ : Monomial) (w : Word) → Ambiguity s es ρ w → Ambiguity s es' ρ w
+pub moved_ambiguity : (s : Setting) (es es' : List Entry) → SameEntries es es'
+    → (ρ : Monomial) (w : Word) → Ambiguity s es ρ w → Ambiguity s es' ρ w
 moved_ambiguity s es es' same ρ w a =
     like_ambiguity s es es' ρ w a (moved s es es' same w a.high) (moved s es es' same w a.low)
     (record { left = refl; right = refl; entry = other_alike s es es' same w a.high })
     (record { left = refl; right = refl; entry = other_alike s es es' same w a.low })
 
-pub more_same : (es es' : List Entry) (e e' : Entry) → SameEntries es es' → untraced_entry e ≡ untraced_entry e' → SameEntries (es ++ (e ∷ [])) (es' ++ (e' ∷ []))
+pub more_same : (es es' : List Entry) (e e' : Entry) → SameEntries es es'
+    → untraced_entry e ≡ untraced_entry e' → SameEntries (es ++ (e ∷ [])) (es' ++ (e' ∷ []))
 more_same es es' e e' same alike =
-    map-append untraced_entry es (e ∷ []) ∙ (ap₂ (λ xs x. xs ++ (x ∷ [])) same alike ∙ sym (map-append untraced_entry es' (e' ∷ [])))
+    map-append untraced_entry es (e ∷ [])
+        ∙ (ap₂ (λ xs x. xs ++ (x ∷ [])) same alike ∙ sym (map-append untraced_entry es' (e' ∷ [])))
 
-module _ (s : Setting) (es es' : List Entry) (e e' : Entry) (same : SameEntries es es') (alike : untraced_entry e ≡ untraced_entry e') where
-  abbrev placed : (w : Word) (d : Divisor s (es ++ (e ∷ [])) w) → d.entry ≡ e → Divisor s (es' ++ (e' ∷ [])) w
-  placed w d i = record { entry = e'; listed = Contains-push es' e'; left = d.left; right = d.right; spells = subst (λ (x : Entry). d.left ++ (leading s.prime x.polynomial ++ d.right) ≡ w) (ap untraced_entry i ∙ alike) d.spells }
+module _ (s : Setting) (es es' : List Entry) (e e' : Entry) (same : SameEntries es es')
+    (alike : untraced_entry e ≡ untraced_entry e') where
+  abbrev placed : (w : Word) (d : Divisor s (es ++ (e ∷ [])) w) → d.entry ≡ e
+      → Divisor s (es' ++ (e' ∷ [])) w
+  placed w d i =
+      record { entry = e'; listed = Contains-push es' e';
+        left = d.left; right = d.right;
+        spells = subst (λ (x : Entry). d.left ++ (leading s.prime x.polynomial ++ d.right) ≡ w)
+        (ap untraced_entry i ∙ alike) d.spells }
 
   pub moved_new : (ρ : Monomial) → NewAmbiguity s es e ρ → NewAmbiguity s es' e' ρ
   moved_new ρ n = go n.newest
@@ -189,13 +260,25 @@ module _ (s : Setting) (es es' : List Entry) (e e' : Entry) (same : SameEntries 
       go : (n.ambiguity.high.entry ≡ e) ⊎ (n.ambiguity.low.entry ≡ e) → NewAmbiguity s es' e' ρ
       go (inl i) = record {
         word = n.word;
-        ambiguity = like_ambiguity s (es ++ (e ∷ [])) (es' ++ (e' ∷ [])) ρ n.word n.ambiguity (placed n.word n.ambiguity.high i) (moved s (es ++ (e ∷ [])) (es' ++ (e' ∷ [])) more n.word n.ambiguity.low)
-            (record { left = refl; right = refl; entry = ap untraced_entry i ∙ alike }) (record { left = refl; right = refl; entry = other_alike s (es ++ (e ∷ [])) (es' ++ (e' ∷ [])) more n.word n.ambiguity.low });
+        ambiguity =
+            like_ambiguity s (es ++ (e ∷ [])) (es' ++ (e' ∷ [])) ρ n.word n.ambiguity
+            (placed n.word n.ambiguity.high i)
+            (moved s (es ++ (e ∷ [])) (es' ++ (e' ∷ [])) more n.word n.ambiguity.low)
+            (record { left = refl; right = refl; entry = ap untraced_entry i ∙ alike })
+                (record { left = refl; right = refl;
+                    entry = other_alike s (es ++ (e ∷ [])) (es' ++ (e' ∷ [])) more n.word
+                    n.ambiguity.low });
         newest = inl refl;
       }
       go (inr i) = record {
         word = n.word;
-        ambiguity = like_ambiguity s (es ++ (e ∷ [])) (es' ++ (e' ∷ [])) ρ n.word n.ambiguity (moved s (es ++ (e ∷ [])) (es' ++ (e' ∷ [])) more n.word n.ambiguity.high) (placed n.word n.ambiguity.low i)
-            (record { left = refl; right = refl; entry = other_alike s (es ++ (e ∷ [])) (es' ++ (e' ∷ [])) more n.word n.ambiguity.high }) (record { left = refl; right = refl; entry = ap untraced_entry i ∙ alike });
+        ambiguity =
+            like_ambiguity s (es ++ (e ∷ [])) (es' ++ (e' ∷ [])) ρ n.word n.ambiguity
+            (moved s (es ++ (e ∷ [])) (es' ++ (e' ∷ [])) more n.word n.ambiguity.high)
+            (placed n.word n.ambiguity.low i)
+            (record { left = refl; right = refl;
+                    entry = other_alike s (es ++ (e ∷ [])) (es' ++ (e' ∷ [])) more n.word
+                    n.ambiguity.high }) (record { left = refl;
+                    right = refl; entry = ap untraced_entry i ∙ alike });
         newest = inr refl;
       }

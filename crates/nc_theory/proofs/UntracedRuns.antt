@@ -21,19 +21,29 @@ module _ (P : Problem) where
   opens : IsRunOf P 0 opening
   opens = record { run = opening; last = None; runs = SequentialRun.opened; stands = refl }
 
-  pub steps : (n : ℕ) (state : State) (τ : Monomial) (o : Outcome) → IsNextOfRun P n state τ → Handles P.setting state τ o → IsRunOf P (n + 1) (untraced (state_after state τ o))
+  pub steps : (n : ℕ) (state : State) (τ : Monomial) (o : Outcome) → IsNextOfRun P n state τ
+      → Handles P.setting state τ o → IsRunOf P (n + 1) (untraced (state_after state τ o))
   steps n state τ o r h = record {
     run = state_after r.run τ o;
     last = Some τ;
-    runs = subst (λ m. SequentialRun P m (state_after r.run τ o) (Some τ)) (sym (add-one n)) (SequentialRun.handled r.runs τ r.next o (moved_handles P.setting state r.run (same_run state r.run r.stands) τ o h));
+    runs = subst (λ m. SequentialRun P m (state_after r.run τ o) (Some τ)) (sym (add-one n))
+        (SequentialRun.handled r.runs τ r.next o
+          (moved_handles P.setting state r.run (same_run state r.run r.stands) τ o h));
     stands = same_after state r.run (same_run state r.run r.stands) τ o;
   }
 
-  one : IsPrime P.setting.prime → (n : ℕ) (state state' : State) → IsRunOf P n state → IsRunOf P n state' → state ≡ state'
-  one prime n state state' a b = a.stands ∙ (ap untraced (run_unique P (field_from_prime P.setting.prime prime) a.runs b.runs).0 ∙ sym b.stands)
+  one : IsPrime P.setting.prime → (n : ℕ) (state state' : State) → IsRunOf P n state
+      → IsRunOf P n state' → state ≡ state'
+  one prime n state state' a b =
+      a.stands ∙ (ap untraced (run_unique P (field_from_prime P.setting.prime prime) a.runs
+          b.runs).0 ∙ sym b.stands)
 
-  one_next : IsPrime P.setting.prime → (n : ℕ) (state state' : State) (τ τ' : Monomial) → IsNextOfRun P n state τ → IsNextOfRun P n state' τ' → τ ≡ τ'
-  one_next prime n state state' τ τ' a b = next_unique P b.run b.last τ τ' (subst (λ l. IsNext P b.run l τ) same.1 (subst (λ r. IsNext P r a.last τ) same.0 a.next)) b.next
+  one_next : IsPrime P.setting.prime → (n : ℕ) (state state' : State) (τ τ' : Monomial)
+      → IsNextOfRun P n state τ → IsNextOfRun P n state' τ' → τ ≡ τ'
+  one_next prime n state state' τ τ' a b =
+      next_unique P b.run b.last τ τ'
+      (subst (λ l. IsNext P b.run l τ) same.1 (subst (λ r. IsNext P r a.last τ) same.0 a.next))
+      b.next
     where
       same : (a.run ≡ b.run) × (a.last ≡ b.last)
       same = run_unique P (field_from_prime P.setting.prime prime) a.runs b.runs

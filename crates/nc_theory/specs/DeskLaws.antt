@@ -15,48 +15,80 @@ use Rattle.nc_theory.specs.States.{State}
 use Rattle.nc_theory.specs.Windows.{WindowLaw}
 use Rattle.std.specs.Prelude.{List, Option, ℕ, ◌↔◌, ◌≡◌, ◌≤◌, ◌⊎◌}
 
--- what was found over an earlier state stands over a later one exactly where it is covered or nothing newer bears on it
+-- what was found over an earlier state stands over a later one exactly where it is covered or
+-- nothing newer bears on it
 abbrev pub StaleLaw : Type 0
-StaleLaw = (P : Problem) → IsPrime P.setting.prime → (k n : ℕ) (state later : State) (before last : Option Monomial) → SequentialRun P k state before → SequentialRun P n later last → k ≤ n →
-    (x : Extension state later) × ((τ : Monomial) (o : Outcome) → Handles P.setting state τ o → Handles P.setting later τ o ↔ ((o ≡ Outcome.covered) ⊎ Unaffected P.setting state x.es x.hs τ o))
+StaleLaw =
+    (P : Problem) → IsPrime P.setting.prime
+    → (k n : ℕ) (state later : State) (before last : Option Monomial)
+    → SequentialRun P k state before → SequentialRun P n later last → k ≤ n →
+    (x : Extension state later) × ((τ : Monomial) (o : Outcome) → Handles P.setting state τ o
+          → Handles P.setting later τ o ↔ ((o ≡ Outcome.covered)
+            ⊎ Unaffected P.setting state x.es x.hs τ o))
 
--- a play leads from a desk at a state of the run, within the steps, to one that is so too; an open desk is one
+-- a play leads from a desk at a state of the run, within the steps, to one that is so too; an open
+-- desk is one
 abbrev pub SnapshotLaw : Type 0
 SnapshotLaw = (P : NamedProblem) →
-    ((events : List Event) (d d' : Desk) → Plays P events d d' → (SequentialRun P.problem d.handled d.state d.last → SequentialRun P.problem d'.handled d'.state d'.last) × (d.handled ≤ P.problem.steps → d'.handled ≤ P.problem.steps))
-    × ((capacity : ℕ) (events : List Event) (d : Desk) → Plays P events (open_desk capacity) d → SequentialRun P.problem d.handled d.state d.last × (d.handled ≤ P.problem.steps))
+    ((events : List Event) (d d' : Desk) → Plays P events d d'
+          → (SequentialRun P.problem d.handled d.state d.last
+            → SequentialRun P.problem d'.handled d'.state d'.last)
+          × (d.handled ≤ P.problem.steps → d'.handled ≤ P.problem.steps))
+    × ((capacity : ℕ) (events : List Event) (d : Desk) → Plays P events (open_desk capacity) d
+          → SequentialRun P.problem d.handled d.state d.last × (d.handled ≤ P.problem.steps))
 
 -- a desk within the steps is finished exactly where its state is an end of the run
 abbrev pub FinishedLaw : Type 0
-FinishedLaw = (P : Problem) → IsPrime P.setting.prime → (d : Desk) → SequentialRun P d.handled d.state d.last → d.handled ≤ P.steps → IsFinished P d ↔ ((end : End) × IsEnd P d.handled d.state end)
+FinishedLaw =
+    (P : Problem) → IsPrime P.setting.prime → (d : Desk) → SequentialRun P d.handled d.state d.last
+    → d.handled ≤ P.steps → IsFinished P d ↔ ((end : End) × IsEnd P d.handled d.state end)
 
 -- each list of events has a play
 abbrev pub PlaysExist : Type 0
-PlaysExist = (P : NamedProblem) → IsPrime P.problem.setting.prime → (capacity : ℕ) (events : List Event) → (d : Desk) × Plays P events (open_desk capacity) d
+PlaysExist =
+    (P : NamedProblem) → IsPrime P.problem.setting.prime → (capacity : ℕ) (events : List Event)
+    → (d : Desk) × Plays P events (open_desk capacity) d
 
 -- a list of events leaves one desk
 abbrev pub PlaysAreDetermined : Type 0
-PlaysAreDetermined = (P : NamedProblem) (events : List Event) (d a b : Desk) → Plays P events d a → Plays P events d b → a ≡ b
+PlaysAreDetermined =
+    (P : NamedProblem) (events : List Event) (d a b : Desk) → Plays P events d a
+    → Plays P events d b → a ≡ b
 
--- a claim, a work that comes in and a ticket that is given back have one answer each, and leave one desk
+-- a claim, a work that comes in and a ticket that is given back have one answer each, and leave one
+-- desk
 abbrev pub AnswersAreDetermined : Type 0
 AnswersAreDetermined = (P : NamedProblem) (d : Desk) →
-    ((a b : Claimed) (x y : Desk) → Claims P.problem d a x → Claims P.problem d b y → (a ≡ b) × (x ≡ y))
-    × ((t : Ticket) (w : Work) (a b : Submitted) (x y : Desk) → Submits P d t w a x → Submits P d t w b y → (a ≡ b) × (x ≡ y))
-    × ((t : Ticket) (a b : Abandoned) (x y : Desk) → Abandons d t a x → Abandons d t b y → (a ≡ b) × (x ≡ y))
+    ((a b : Claimed) (x y : Desk) → Claims P.problem d a x → Claims P.problem d b y → (a ≡ b)
+          × (x ≡ y))
+    × ((t : Ticket) (w : Work) (a b : Submitted) (x y : Desk) → Submits P d t w a x
+          → Submits P d t w b y → (a ≡ b) × (x ≡ y))
+    × ((t : Ticket) (a b : Abandoned) (x y : Desk) → Abandons d t a x → Abandons d t b y → (a ≡ b)
+          × (x ≡ y))
 
 -- for every list of events the window is as it should be
 abbrev pub WindowsAreKept : Type 0
-WindowsAreKept = (P : NamedProblem) → IsPrime P.problem.setting.prime → (capacity : ℕ) (events : List Event) (d : Desk) → Plays P events (open_desk capacity) d → WindowLaw P capacity d
+WindowsAreKept =
+    (P : NamedProblem) → IsPrime P.problem.setting.prime
+    → (capacity : ℕ) (events : List Event) (d : Desk) → Plays P events (open_desk capacity) d
+    → WindowLaw P capacity d
 
--- a play keeps the counts of a desk right and handles no signature alone; those of an open desk are right
+-- a play keeps the counts of a desk right and handles no signature alone; those of an open desk are
+-- right
 abbrev pub DeskCounts : Type 0
 DeskCounts = (P : NamedProblem) →
-    ((events : List Event) (d d' : Desk) → Plays P events d d' → (IsCounted d → IsCounted d') × (d'.alone ≡ d.alone))
-    × ((capacity : ℕ) (events : List Event) (d : Desk) → Plays P events (open_desk capacity) d → IsCounted d × (d.alone ≡ 0))
+    ((events : List Event) (d d' : Desk) → Plays P events d d' → (IsCounted d → IsCounted d')
+          × (d'.alone ≡ d.alone))
+    × ((capacity : ℕ) (events : List Event) (d : Desk) → Plays P events (open_desk capacity) d
+          → IsCounted d × (d.alone ≡ 0))
 
--- a work over the desk's own state that is ready is what handling gives there: each advance that is not at the end commits it, and none drops it
+-- a work over the desk's own state that is ready is what handling gives there: each advance that is
+-- not at the end commits it, and none drops it
 abbrev pub OwnWorkStands : Type 0
-OwnWorkStands = (P : NamedProblem) → IsPrime P.problem.setting.prime → (capacity : ℕ) (events : List Event) (d : Desk) → Plays P events (open_desk capacity) d → (τ : Monomial) (n : Node) (w : Work) → IsReadyWork P.problem d τ n w → w.number ≡ d.handled →
+OwnWorkStands =
+    (P : NamedProblem) → IsPrime P.problem.setting.prime
+    → (capacity : ℕ) (events : List Event) (d : Desk) → Plays P events (open_desk capacity) d
+    → (τ : Monomial) (n : Node) (w : Work) → IsReadyWork P.problem d τ n w → w.number ≡ d.handled →
     Handles P.problem.setting d.state τ w.outcome
-    × (¬ IsFinished P.problem d → (d' : Desk) → Advances P.problem d d' → Advances P.problem (after_committed d τ n w.outcome) d')
+    × (¬ IsFinished P.problem d → (d' : Desk) → Advances P.problem d d'
+          → Advances P.problem (after_committed d τ n w.outcome) d')

@@ -24,4 +24,7 @@ HasBasesAt P state (End.budget τ) = HasBases P.setting state (IsWithinBelow P �
 
 -- each entry's polynomial is the one canonical polynomial at its signature
 abbrev pub AreCanonical : Setting → State → Type 0
-AreCanonical s state = (e : Entry) → Contains state.entries e → IsCanonical s state.entries e.signature e.polynomial × ((f : Polynomial) → IsCanonical s state.entries e.signature f → SamePolynomial s f e.polynomial)
+AreCanonical s state =
+    (e : Entry) → Contains state.entries e → IsCanonical s state.entries e.signature e.polynomial
+    × ((f : Polynomial) → IsCanonical s state.entries e.signature f
+      → SamePolynomial s f e.polynomial)

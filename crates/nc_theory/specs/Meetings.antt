@@ -30,10 +30,12 @@ pub record MeetAt (s : Setting) (e f : Entry) (k : ℕ) (ρ : Monomial) : Type 0
   pub before : Word
   pub behind_first : Word
   pub behind_second : Word
-  pub around : AreAround (leading s.prime e.polynomial) (leading s.prime f.polynomial) k before behind_first behind_second
+  pub around : AreAround (leading s.prime e.polynomial) (leading s.prime f.polynomial) k before
+      behind_first behind_second
   pub within : k < length (leading s.prime e.polynomial)
   pub some : 0 < k + length (leading s.prime f.polynomial)
-  pub greater : IsGreaterOf s (times [] e.signature behind_first) (times before f.signature behind_second) ρ
+  pub greater : IsGreaterOf s (times [] e.signature behind_first)
+      (times before f.signature behind_second) ρ
 
 -- a signature where the leading word of f begins within that of e
 abbrev pub MeetSomewhere : Setting → Entry → Entry → Monomial → Type 0

@@ -21,6 +21,7 @@ IsMonomialIn a σ = IsWordIn a σ.left × IsWordIn a σ.right
 
 -- all words of the state, and those of its candidates, are over the problem's alphabet
 pub record IsOverAlphabet (P : NamedProblem) (state : State) : Type 0 where
-  pub entries : (e : Entry) → Contains state.entries e → IsMonomialIn P.alphabet e.signature × AreWordsIn P.alphabet e.polynomial
+  pub entries : (e : Entry) → Contains state.entries e → IsMonomialIn P.alphabet e.signature
+      × AreWordsIn P.alphabet e.polynomial
   pub syzygies : (h : Syzygy) → Contains state.syzygies h → IsMonomialIn P.alphabet h.signature
   pub candidates : (τ : Monomial) → IsCandidate P.problem state τ → IsMonomialIn P.alphabet τ

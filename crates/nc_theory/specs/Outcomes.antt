@@ -10,4 +10,5 @@ use Rattle.std.specs.Prelude.{List, [], ◌∷◌}
 -- a new syzygy where nothing was kept, and else a new entry
 abbrev pub outcome_after : Start → Polynomial → List Step → Outcome
 outcome_after start [] steps = Outcome.a_syzygy (record { start = start; steps = steps })
-outcome_after start (t ∷ kept) steps = Outcome.an_entry (t ∷ kept) (record { start = start; steps = steps })
+outcome_after start (t ∷ kept) steps =
+    Outcome.an_entry (t ∷ kept) (record { start = start; steps = steps })

@@ -13,7 +13,9 @@ use Rattle.std.specs.Prelude.{List, None, Option, Some, ◌≡◌}
 -- the chosen divisor among those with a signature in the set, and None exactly where there is none
 abbrev pub IsChoiceOf : Setting → List Entry → (Monomial → Type 0) → Word → Option Chosen → Type 0
 IsChoiceOf s entries set w None = (d : Divisor s entries w) → ¬ set (signature_at s entries w d)
-IsChoiceOf s entries set w (Some c) = (d : Divisor s entries w) × IsChosenDivisor s entries set w d × (d.left ≡ c.left) × (number_of s entries w d ≡ c.number) × (d.right ≡ c.right)
+IsChoiceOf s entries set w (Some c) =
+    (d : Divisor s entries w) × IsChosenDivisor s entries set w d × (d.left ≡ c.left)
+    × (number_of s entries w d ≡ c.number) × (d.right ≡ c.right)
 
 -- the same among those with a signature below τ
 abbrev pub IsChoice : Setting → List Entry → Monomial → Word → Option Chosen → Type 0

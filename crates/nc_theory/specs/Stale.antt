@@ -22,7 +22,9 @@ use Rattle.std.specs.Prelude.{Contains, List, ℕ, ◌++◌, ◌≡◌, ◌⊎�
 
 -- the state with more entries and syzygies, and other counts
 abbrev pub extended : State → List Entry → List Syzygy → ℕ → ℕ → State
-extended state es hs covered settled = record { entries = state.entries ++ es; syzygies = state.syzygies ++ hs; covered = covered; settled = settled }
+extended state es hs covered settled =
+    record { entries = state.entries ++ es;
+      syzygies = state.syzygies ++ hs; covered = covered; settled = settled }
 
 -- the state with what came after it
 pub record Extension (state later : State) : Type 0 where
@@ -39,21 +41,30 @@ module _ (s : Setting) (old : State) (τ : Monomial) where
 
   -- the outcome came from the best multiple, of word w
   pub data CameFrom : Outcome → Word → Type 0 where
-    from_settled : {j : ℕ} (w : Word) (d : Divisor s old.entries w) → IsBestMultiple s old.entries τ w d → j ≡ number_of s old.entries w d → CameFrom (Outcome.settled j) w
-    from_entry : {f : Polynomial} {trace : Trace} {w : Word} → StartedFrom trace.start w → CameFrom (Outcome.an_entry f trace) w
-    from_syzygy : {trace : Trace} {w : Word} → StartedFrom trace.start w → CameFrom (Outcome.a_syzygy trace) w
+    from_settled : {j : ℕ} (w : Word) (d : Divisor s old.entries w)
+        → IsBestMultiple s old.entries τ w d → j ≡ number_of s old.entries w d
+        → CameFrom (Outcome.settled j) w
+    from_entry : {f : Polynomial} {trace : Trace} {w : Word} → StartedFrom trace.start w
+        → CameFrom (Outcome.an_entry f trace) w
+    from_syzygy : {trace : Trace} {w : Word} → StartedFrom trace.start w
+        → CameFrom (Outcome.a_syzygy trace) w
 
   -- a word of the outcome's polynomial, and where it is settled the word of the best multiple
   pub data Keeps : Outcome → Word → Type 0 where
-    keeps_settled : {j : ℕ} (w : Word) (d : Divisor s old.entries w) → IsBestMultiple s old.entries τ w d → j ≡ number_of s old.entries w d → Keeps (Outcome.settled j) w
-    keeps_entry : {f : Polynomial} {trace : Trace} {w : Word} → ¬ IsZero s.prime (coefficient f w) → Keeps (Outcome.an_entry f trace) w
+    keeps_settled : {j : ℕ} (w : Word) (d : Divisor s old.entries w)
+        → IsBestMultiple s old.entries τ w d → j ≡ number_of s old.entries w d
+        → Keeps (Outcome.settled j) w
+    keeps_entry : {f : Polynomial} {trace : Trace} {w : Word} → ¬ IsZero s.prime (coefficient f w)
+        → Keeps (Outcome.an_entry f trace) w
 
 module _ (s : Setting) (old : State) (es : List Entry) (hs : List Syzygy) (τ : Monomial) where
   -- a syzygy signature that needs a newer syzygy or entry divides τ
   pub record NewlyCovered : Type 0 where
     pub by : Monomial
     pub divides : Divides by τ
-    pub newer : ((h : Syzygy) × Contains hs h × (h.signature ≡ by)) ⊎ ((t : TrivialSyzygy s (old.entries ++ es) by) × (Contains es t.first ⊎ Contains es t.second))
+    pub newer : ((h : Syzygy) × Contains hs h × (h.signature ≡ by))
+        ⊎ ((t : TrivialSyzygy s (old.entries ++ es) by)
+          × (Contains es t.first ⊎ Contains es t.second))
 
   -- a newer entry gives a multiple with signature τ and word v
   abbrev pub NewMultiple : Word → Type 0

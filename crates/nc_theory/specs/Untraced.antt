@@ -28,7 +28,10 @@ untraced_syzygy h = record { signature = h.signature; trace = no_trace }
 
 -- the same of all items of a state
 abbrev pub untraced : State → State
-untraced state = record { entries = map untraced_entry state.entries; syzygies = map untraced_syzygy state.syzygies; covered = state.covered; settled = state.settled }
+untraced state =
+    record { entries = map untraced_entry state.entries;
+      syzygies = map untraced_syzygy state.syzygies;
+      covered = state.covered; settled = state.settled }
 
 -- the same signatures and polynomials, in order
 abbrev pub SameEntries : List Entry → List Entry → Type 0
@@ -39,7 +42,8 @@ abbrev pub SameSyzygies : List Syzygy → List Syzygy → Type 0
 SameSyzygies hs hs' = map untraced_syzygy hs ≡ map untraced_syzygy hs'
 
 -- the same place and the same multiple, of the entry with the same number
-pub record IsSameDivisor (s : Setting) (es es' : List Entry) (w : Word) (d : Divisor s es w) (d' : Divisor s es' w) : Type 0 where
+pub record IsSameDivisor (s : Setting) (es es' : List Entry) (w : Word) (d : Divisor s es w)
+    (d' : Divisor s es' w) : Type 0 where
   pub number : number_of s es w d ≡ number_of s es' w d'
   pub left : d.left ≡ d'.left
   pub right : d.right ≡ d'.right

@@ -19,7 +19,8 @@ IsSmall w = (word_weight w ≤ 200000) × AreLetters 64 100 w
 abbrev pub HasSmallWords : Setting → Polynomial → Type 0
 HasSmallWords s = WordsAre s IsSmall
 
--- an entry's polynomial: in normal form, not zero, over such letters, with words that weigh at most its signature's degree
+-- an entry's polynomial: in normal form, not zero, over such letters, with words that weigh at most
+-- its signature's degree
 pub record IsUsable (s : Setting) (e : Entry) : Type 0 where
   pub normal : IsNormal s.prime e.polynomial
   pub some : e.polynomial ≢ []

@@ -39,6 +39,8 @@ pub record WindowLaw (P : NamedProblem) (capacity : ℕ) (d : Desk) : Type 0 whe
   -- the work that a node holds is lawful
   pub lawful : (n : Node) (w : Work) → Contains d.window n → n.work ≡ Some w → IsLawful w
   -- and it is of this problem, over a state that the desk reached, and for the node's signature
-  pub own : (n : Node) (w : Work) → Contains d.window n → n.work ≡ Some w → (w.problem ≡ P) × (w.number ≤ d.handled) × (w.signature ≡ n.signature)
+  pub own : (n : Node) (w : Work) → Contains d.window n → n.work ≡ Some w → (w.problem ≡ P)
+      × (w.number ≤ d.handled) × (w.signature ≡ n.signature)
   -- where no index is free, the next signature is held
-  pub full : 1 ≤ capacity → d.free ≡ [] → (τ : Monomial) → IsNext P.problem d.state d.last τ → IsHeld d τ
+  pub full : 1 ≤ capacity → d.free ≡ [] → (τ : Monomial) → IsNext P.problem d.state d.last τ
+      → IsHeld d τ

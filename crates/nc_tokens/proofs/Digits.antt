@@ -18,13 +18,18 @@ pub record AreDigitsOf (ds : List ℕ) (n : ℕ) : Type 0 where
 
 all_digits : (ds : List ℕ) → all_ascii_digits ds ≡ true → list_all is_ascii_digit ds ≡ true
 all_digits [] h = refl
-all_digits (d ∷ ds) h = let k = and_parts (is_ascii_digit d) (all_ascii_digits ds) h in and_from _ _ k.0 (all_digits ds k.1)
+all_digits (d ∷ ds) h =
+    let k = and_parts (is_ascii_digit d) (all_ascii_digits ds) h in
+    and_from _ _ k.0 (all_digits ds k.1)
 
 pub decimal_is : (n : ℕ) → n ≤ 4000000000 → AreDigitsOf (decimal n) n
 decimal_is n small = record {
   some = decimal_nonempty n (omega arith);
   few = length-decimal-le 18 n (omega arith) (omega arith) (omega arith);
-  digits = all_digits (decimal n) (digits_decimal (numerals_by_value (λ ds. all_ascii_digits ds ≡ true) tells_all_ascii_digits) n (omega arith));
+  digits =
+      all_digits (decimal n) (digits_decimal
+        (numerals_by_value (λ ds. all_ascii_digits ds ≡ true) tells_all_ascii_digits) n
+        (omega arith));
   is = (decimal_is_IsNumeral n (omega arith)).1;
 }
 

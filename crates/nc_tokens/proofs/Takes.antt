@@ -1,4 +1,5 @@
--- How many tokens the steps of reading leave, where they tell no fault; and a fault of a step is the fault of the whole.
+-- How many tokens the steps of reading leave, where they tell no fault; and a fault of a step is
+-- the fault of the whole.
 use Rattle.nc_tokens.specs.Gives.{Fails}
 use Rattle.nc_tokens.specs.Tokens.{Literal, Name, Power, Token}
 use Rattle.nc_tokens.specs.Wanted.{exponent_at, literal_at, name_at, ◌>>=◌}
@@ -8,7 +9,8 @@ use Rattle.nc_tokens.specs.declared.fault.LineError.{LineError}
 use Rattle.std.proofs.Common.{Err, IfOk, List, Ok, Result, [], ap, arith, length, subst, ℕ, ◌<◌, ◌∷◌, ◌≡◌, ◌≤◌}
 
 -- a step that failed
-pub bind_fails : {A B : Type 0} (e : LineError) (r : Result A Kind) (f : A → Result B Kind) → Fails e r → Fails e (r >>= f)
+pub bind_fails : {A B : Type 0} (e : LineError) (r : Result A Kind) (f : A → Result B Kind)
+    → Fails e r → Fails e (r >>= f)
 bind_fails errors.Memory r f h = tt
 bind_fails (errors.Fault k) r f h = ap (λ x. x >>= f) h
 
@@ -23,7 +25,8 @@ abbrev pub behind : {A : Type 0} → A × List Token → ℕ
 behind x = length x.1
 
 -- a step that takes a token of a rest takes no fewer of the whole
-pub takes_of_rest : {A : Type 0} (t : Token) (rest : List Token) (r : Result (A × List Token) Kind) → IfOk r (λ x. behind x < length rest) → IfOk r (λ x. behind x ≤ length (t ∷ rest))
+pub takes_of_rest : {A : Type 0} (t : Token) (rest : List Token) (r : Result (A × List Token) Kind)
+    → IfOk r (λ x. behind x < length rest) → IfOk r (λ x. behind x ≤ length (t ∷ rest))
 takes_of_rest t rest (Ok x) h = omega arith
 takes_of_rest t rest (Err e) h = tt
 
@@ -45,6 +48,7 @@ exponent_takes [] = omega arith
 exponent_takes (Power ∷ rest) = takes_of_rest Power rest (literal_at rest) (literal_takes rest)
 exponent_takes (t ∷ rest) = omega arith
 
-pub below : {A : Type 0} (m n : ℕ) (r : Result (A × List Token) Kind) → m < n → IfOk r (λ x. behind x ≤ m) → IfOk r (λ x. behind x < n)
+pub below : {A : Type 0} (m n : ℕ) (r : Result (A × List Token) Kind) → m < n
+    → IfOk r (λ x. behind x ≤ m) → IfOk r (λ x. behind x < n)
 below m n (Ok x) less h = omega arith
 below m n (Err e) less h = tt

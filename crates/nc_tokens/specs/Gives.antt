@@ -35,4 +35,5 @@ GivesText view (Err e) read = FailsText e read
 abbrev pub IsAt : {A : Type 0} → ℕ → Result A LineError → Result A ReadFault → Type 0
 IsAt n (Ok x) result = result ≡ Ok x
 IsAt n (Err errors.Memory) result = result ≡ Err faults.OutOfMemory
-IsAt n (Err (errors.Fault kind)) result = result ≡ Err (faults.Text (record { line = n; kind = kind }))
+IsAt n (Err (errors.Fault kind)) result =
+    result ≡ Err (faults.Text (record { line = n; kind = kind }))

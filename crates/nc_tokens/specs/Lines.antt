@@ -31,7 +31,8 @@ lines (b ∷ bs) = if b == 10 then [] ∷ lines bs else with_byte b (lines bs)
 
 -- a line without a carriage return that stands last
 abbrev pub without_return : List ℕ → List ℕ
-without_return line = if slice_index line (length line - 1) == 13 then take (length line - 1) line else line
+without_return line =
+    if slice_index line (length line - 1) == 13 then take (length line - 1) line else line
 
 -- what stands before the comment, which a `#` begins
 abbrev pub content : List ℕ → List ℕ
@@ -41,7 +42,8 @@ content line = before_first (λ b. b == 35) (without_return line)
 abbrev pub is_allowed : ℕ → Bool
 is_allowed b = (b == 9) || is_in_range 32 126 b
 
--- The lines that are not blank, each with its number, whether its bytes are allowed, and its tokens;
+-- The lines that are not blank, each with its number, whether its bytes are allowed, and its
+-- tokens;
 -- then the end, with the number of lines plus 1.
 pub data Written : Type 0 where
   End : ℕ → Written
@@ -92,13 +94,15 @@ row n ts after = record { number = n; tokens = ts; after = after }
 -- the next line, if it has the keyword
 unfoldable pub a_line : List ℕ → Written → Option Row
 a_line keyword (End n) = None
-a_line keyword (Line n clean ts after) = if clean && begins keyword ts then Some (row n (behind ts) after) else None
+a_line keyword (Line n clean ts after) =
+    if clean && begins keyword ts then Some (row n (behind ts) after) else None
 
 -- the next line, which must have the keyword
 unfoldable pub the_line : List ℕ → Written → Result Row TextFault
 the_line keyword (End n) = Err (fault_at n Missing)
 the_line keyword (Line n false ts after) = Err (fault_at n BadByte)
-the_line keyword (Line n true ts after) = if begins keyword ts then Ok (row n (behind ts) after) else Err (fault_at n WrongLine)
+the_line keyword (Line n true ts after) =
+    if begins keyword ts then Ok (row n (behind ts) after) else Err (fault_at n WrongLine)
 
 -- no further line may come
 unfoldable pub the_end : Written → Result (Unit {0}) TextFault

@@ -12,4 +12,6 @@ use Rattle.std.specs.Prelude.{length, ℕ, ◌+◌, ◌≡◌, ◌≤◌}
 -- the next line of what is written; its number and the bytes behind it stay within the whole
 abbrev pub IsNextWritten : ℕ → Written → Next → Type 0
 IsNextWritten whole w (code.End n) = w ≡ End n
-IsNextWritten whole w (code.Line n content rest) = (w ≡ Line n (list_all is_allowed content.now) (tokens content.now) (written (n + 1) (lines rest.now))) × (n + 1 + length rest.now ≤ whole)
+IsNextWritten whole w (code.Line n content rest) =
+    (w ≡ Line n (list_all is_allowed content.now) (tokens content.now)
+      (written (n + 1) (lines rest.now))) × (n + 1 + length rest.now ≤ whole)

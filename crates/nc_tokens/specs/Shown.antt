@@ -1,7 +1,8 @@
 -- How the definitions see the tokens of the code.
 --
 -- The definitions have a list of all tokens of a line. Code reads them one by one, and has a token
--- of its own for the end of a line. `IsTakenToken` and `IsTakenLiteral` are on calls that take a token
+-- of its own for the end of a line. `IsTakenToken` and `IsTakenLiteral` are on calls that take a
+-- token
 -- only if it is the wanted one.
 use Rattle.nc_tokens.specs.declared.fault.LineError.{LineError}
 use Rattle.nc_tokens.specs.declared.fault.LineError.TheVariants as errors
@@ -48,4 +49,5 @@ IsTakenToken token old new false = (new ≡ old) × ((rest : List Token) → old
 -- a literal is taken if it comes next
 abbrev pub IsTakenLiteral : List Token → List Token → Option ℕ → Type 0
 IsTakenLiteral old new (Some n) = old ≡ Literal n ∷ new
-IsTakenLiteral old new None = (new ≡ old) × ((n : ℕ) (rest : List Token) → old ≡ Literal n ∷ rest → ⊥)
+IsTakenLiteral old new None =
+    (new ≡ old) × ((n : ℕ) (rest : List Token) → old ≡ Literal n ∷ rest → ⊥)

@@ -28,17 +28,20 @@ pub data Token : Type 0 where
 abbrev pub is_blank : ℕ → Bool
 is_blank b = (b == 32) || (b == 9)
 
--- whether a byte goes on with the piece so far: a digit with digits; a letter, a digit or an underscore with a name
+-- whether a byte goes on with the piece so far: a digit with digits; a letter, a digit or an
+-- underscore with a name
 abbrev pub goes_on : List ℕ → ℕ → Bool
 goes_on [] b = false
-goes_on (first ∷ _) b = if is_ascii_digit first then is_ascii_digit b else (is_ascii_alphabetic first && is_name_byte b)
+goes_on (first ∷ _) b =
+    if is_ascii_digit first then is_ascii_digit b else (is_ascii_alphabetic first && is_name_byte b)
 
 -- a piece that is over, unless it has no bytes
 abbrev pub closed : List ℕ → List (List ℕ)
 closed [] = []
 closed (b ∷ bs) = (b ∷ bs) ∷ []
 
--- the pieces of a line, each as long as it goes on, without the blanks between them; `piece` is the one so far
+-- the pieces of a line, each as long as it goes on, without the blanks between them; `piece` is the
+-- one so far
 unfoldable pub pieces : List ℕ → List ℕ → List (List ℕ)
 pieces piece [] = closed piece
 pieces piece (b ∷ bs) = if goes_on piece b then pieces (piece ++ b ∷ []) bs
@@ -46,8 +49,11 @@ pieces piece (b ∷ bs) = if goes_on piece b then pieces (piece ++ b ∷ []) bs
 
 -- a sign, or a byte that begins no token
 abbrev pub sign_of : ℕ → Token
-sign_of b = if b == 43 then Plus else if b == 45 then Minus else if b == 42 then Times else if b == 94 then Power
-    else if b == 91 then Open else if b == 93 then Close else if b == 123 then OpenBrace else if b == 125 then CloseBrace else Bad
+sign_of b =
+    if b == 43 then Plus else if b == 45 then Minus else if b == 42 then Times else if b == 94 then
+    Power
+    else if b == 91 then Open else if b == 93 then Close else if b == 123 then OpenBrace else if b
+        == 125 then CloseBrace else Bad
 
 -- a literal of at most 18 digits has its value; a longer one is Long
 abbrev pub literal_of : List ℕ → Token
@@ -56,7 +62,9 @@ literal_of digits = if nat_lt 18 (length digits) then Long else Literal (digits_
 -- the token that a piece is
 abbrev pub token_of : List ℕ → Token
 token_of [] = Bad
-token_of (b ∷ bs) = if is_ascii_digit b then literal_of (b ∷ bs) else if is_ascii_alphabetic b then Name (b ∷ bs) else sign_of b
+token_of (b ∷ bs) =
+    if is_ascii_digit b then literal_of (b ∷ bs) else if is_ascii_alphabetic b then Name (b ∷ bs)
+    else sign_of b
 
 -- the tokens of a line
 unfoldable pub tokens : List ℕ → List Token

@@ -76,7 +76,8 @@ impl<'a> Text<'a> {
     /// Takes the next line, if it has the keyword.
     #[tactic(auto, unfolding(crate::specs::Lines::a_line))]
     pub fn takes(&mut self, keyword: &[u8]) -> Option<Row<'a>>
-        ensures { IsTakenRow (a_line keyword.now (left self.old)) (left self.old) (left self.new) result }
+        ensures { IsTakenRow (a_line keyword.now (left self.old)) (left self.old) (left self.new)
+              result }
     {
         match next_line(self.rest, self.number) {
             Next::End(_) => None,
@@ -95,7 +96,8 @@ impl<'a> Text<'a> {
     /// Takes the next line, which must have the keyword.
     #[tactic(auto, unfolding(crate::specs::Lines::the_line))]
     pub fn wants(&mut self, keyword: &[u8]) -> Result<Row<'a>, ReadFault>
-        ensures { GivesText (λ r. seen_row r (left self.new)) result (the_line keyword.now (left self.old)) }
+        ensures { GivesText (λ r. seen_row r (left self.new)) result
+              (the_line keyword.now (left self.old)) }
     {
         match next_line(self.rest, self.number) {
             Next::End(number) => Err(fault_at(number, Kind::Missing)),

@@ -36,15 +36,18 @@ pub record Remainder : Type 0 where
   pub rest : Polynomial
   pub steps : List Step
 
--- the bytes are a text of the problem and the claim, and the claim was reduced within the bound by all entries of the run
+-- the bytes are a text of the problem and the claim, and the claim was reduced within the bound by
+-- all entries of the run
 pub record IsRemainder (bytes : List ℕ) (r : Remainder) : Type 0 where
   pub text : IsClaimText bytes r.problem r.claim
   pub ends : IsEnd r.problem.problem r.handled r.run r.ending
-  pub reduces : Reduction r.problem.problem.setting r.run.entries (IsWithin r.problem.problem) r.claim r.rest r.steps
+  pub reduces : Reduction r.problem.problem.setting r.run.entries (IsWithin r.problem.problem)
+      r.claim r.rest r.steps
 
 -- the problem, the claim and the end
 abbrev pub claim_at_end : Remainder → ClaimAtEnd
-claim_at_end r = record { problem = r.problem; claim = r.claim; handled = r.handled; ending = r.ending }
+claim_at_end r =
+    record { problem = r.problem; claim = r.claim; handled = r.handled; ending = r.ending }
 
 -- the lines prove the claim, with these entries needed in this run
 pub record AreProof (r : Remainder) (needed : List (ℕ × Trace)) (lines : List Line) : Type 0 where
@@ -57,9 +60,11 @@ pub record AreProof (r : Remainder) (needed : List (ℕ × Trace)) (lines : List
 
 -- the element represents the claim, by the labels of this run
 pub record Represents (r : Remainder) (limit : ℕ) (m : List (Term Sig)) : Type 0 where
-  pub is : IsSum r.problem.problem.setting (step_multiples (labels_of r.problem.problem.setting.prime r.run.entries) r.steps) m
+  pub is : IsSum r.problem.problem.setting
+      (step_multiples (labels_of r.problem.problem.setting.prime r.run.entries) r.steps) m
   pub lies : IsIn r.problem.problem.setting (element_of m) (IsWithin r.problem.problem)
-  pub evaluates : SamePolynomial r.problem.problem.setting (evaluation r.problem.problem.setting (element_of m)) r.claim
+  pub evaluates : SamePolynomial r.problem.problem.setting
+      (evaluation r.problem.problem.setting (element_of m)) r.claim
   pub within : AreWithinLimit r.problem.problem.setting.prime r.run r.steps limit
 
 -- ---- from the records
@@ -68,39 +73,63 @@ module _ (bytes : List ℕ) (e : ClaimAtEnd) (is : IsClaimAtEnd bytes e) where
   problem : IsProblem e.problem
   problem = problem_is bytes e.problem e.claim is.text
 
-  the_one : {run : State} {last : Option Monomial} → SequentialRun e.problem.problem e.handled run last → run ≡ is.run
-  the_one runs = (run_unique e.problem.problem (field_of e.problem problem) runs (ended_run e.problem.problem is.ends).1).0
+  the_one : {run : State} {last : Option Monomial} → SequentialRun e.problem.problem e.handled run
+      last → run ≡ is.run
+  the_one runs =
+      (run_unique e.problem.problem (field_of e.problem problem) runs
+        (ended_run e.problem.problem is.ends).1).0
 
   abbrev pub remainder_at : Polynomial → List Step → Remainder
-  remainder_at rest steps = record { problem = e.problem; claim = e.claim; handled = e.handled; run = is.run; ending = e.ending; rest = rest; steps = steps }
+  remainder_at rest steps =
+      record { problem = e.problem; claim = e.claim;
+        handled = e.handled; run = is.run; ending = e.ending; rest = rest; steps = steps }
 
-  pub is_remainder_at : (rest : Polynomial) (steps : List Step) → IsRestOf e.problem.problem e.handled e.claim rest steps → IsRemainder bytes (remainder_at rest steps)
+  pub is_remainder_at : (rest : Polynomial) (steps : List Step)
+      → IsRestOf e.problem.problem e.handled e.claim rest steps
+      → IsRemainder bytes (remainder_at rest steps)
   is_remainder_at rest steps r = record {
     text = is.text;
     ends = is.ends;
-    reduces = subst (λ (run : State). Reduction e.problem.problem.setting run.entries (IsWithin e.problem.problem) e.claim rest steps) (the_one r.runs) r.reduces;
+    reduces =
+        subst (λ (run : State). Reduction e.problem.problem.setting run.entries
+          (IsWithin e.problem.problem) e.claim rest steps) (the_one r.runs) r.reduces;
   }
 
-  pub proof_at_end : (lines : List Line) → IsCertificate (certificate_with e lines) → (p : IsProved e.problem e.handled e.claim lines) → AreProof (remainder_at [] p.steps) p.needed lines
+  pub proof_at_end : (lines : List Line) → IsCertificate (certificate_with e lines)
+      → (p : IsProved e.problem e.handled e.claim lines)
+      → AreProof (remainder_at [] p.steps) p.needed lines
   proof_at_end lines keeps p = record {
-    lists = subst (λ (run : State). ListsNeeded run.entries (numbers_of p.steps) (map (λ x. x.0) p.needed)) (the_one p.traces.runs) p.traces.lists;
-    traces = subst (λ (run : State). All (λ x. IsTraceIn run (EntryOf x.0) x.1) p.needed) (the_one p.traces.runs) p.traces.traces;
+    lists = subst (λ (run : State). ListsNeeded run.entries (numbers_of p.steps)
+          (map (λ x. x.0) p.needed)) (the_one p.traces.runs) p.traces.lists;
+    traces =
+        subst (λ (run : State). All (λ x. IsTraceIn run (EntryOf x.0) x.1) p.needed)
+        (the_one p.traces.runs) p.traces.traces;
     are = p.are;
     keeps = keeps;
     valid = p.valid;
     has = p.has;
   }
 
-  pub terms_at_end : (limit : ℕ) (m : List (Term Sig)) → (r : IsRepresented e.problem.problem e.handled e.claim limit m) → Represents (remainder_at [] r.steps) limit m
+  pub terms_at_end : (limit : ℕ) (m : List (Term Sig))
+      → (r : IsRepresented e.problem.problem e.handled e.claim limit m)
+      → Represents (remainder_at [] r.steps) limit m
   terms_at_end limit m r = record {
-    is = subst (λ (run : State). IsSum e.problem.problem.setting (step_multiples (labels_of e.problem.problem.setting.prime run.entries) r.steps) m) (the_one r.is.runs) r.is.is;
+    is = subst (λ (run : State). IsSum e.problem.problem.setting
+          (step_multiples (labels_of e.problem.problem.setting.prime run.entries) r.steps) m)
+        (the_one r.is.runs) r.is.is;
     lies = r.lies;
     evaluates = r.evaluates;
-    within = subst (λ (run : State). AreWithinLimit e.problem.problem.setting.prime run r.steps limit) (the_one r.is.runs) r.is.within;
+    within =
+        subst (λ (run : State). AreWithinLimit e.problem.problem.setting.prime run r.steps limit)
+        (the_one r.is.runs) r.is.within;
   }
 
-  pub many_at_end : (limit : ℕ) (named : Listed) (terms : ℕ) → (t : IsTooManyOf e.problem.problem e.handled e.claim limit named terms) → IsTooManyFor e.problem.problem.setting.prime is.run t.steps limit named terms
-  many_at_end limit named terms t = subst (λ (run : State). IsTooManyFor e.problem.problem.setting.prime run t.steps limit named terms) (the_one t.many.runs) t.many.many
+  pub many_at_end : (limit : ℕ) (named : Listed) (terms : ℕ)
+      → (t : IsTooManyOf e.problem.problem e.handled e.claim limit named terms)
+      → IsTooManyFor e.problem.problem.setting.prime is.run t.steps limit named terms
+  many_at_end limit named terms t =
+      subst (λ (run : State). IsTooManyFor e.problem.problem.setting.prime run t.steps limit named
+        terms) (the_one t.many.runs) t.many.many
 
 -- ---- to the records
 
@@ -116,21 +145,26 @@ module _ (bytes : List ℕ) (r : Remainder) (is : IsRemainder bytes r) where
 
   module _ (nothing : r.rest ≡ []) where
     nothing_of : IsRestOf r.problem.problem r.handled r.claim [] r.steps
-    nothing_of = subst (λ (f : Polynomial). IsRestOf r.problem.problem r.handled r.claim f r.steps) nothing rest_of
+    nothing_of =
+        subst (λ (f : Polynomial). IsRestOf r.problem.problem r.handled r.claim f r.steps) nothing
+        rest_of
 
-    pub proved_of : (needed : List (ℕ × Trace)) (lines : List Line) → AreProof r needed lines → IsProved r.problem r.handled r.claim lines
+    pub proved_of : (needed : List (ℕ × Trace)) (lines : List Line) → AreProof r needed lines
+        → IsProved r.problem r.handled r.claim lines
     proved_of needed lines p = record {
       steps = r.steps;
       rest = nothing_of;
       needed = needed;
-      traces = record { run = r.run; last = runs.0; runs = runs.1; lists = p.lists; traces = p.traces };
+      traces =
+          record { run = r.run; last = runs.0; runs = runs.1; lists = p.lists; traces = p.traces };
       are = p.are;
       keeps = p.keeps.lines;
       valid = p.valid;
       has = p.has;
     }
 
-    pub represented_of : (limit : ℕ) (m : List (Term Sig)) → Represents r limit m → IsRepresented r.problem.problem r.handled r.claim limit m
+    pub represented_of : (limit : ℕ) (m : List (Term Sig)) → Represents r limit m
+        → IsRepresented r.problem.problem r.handled r.claim limit m
     represented_of limit m t = record {
       steps = r.steps;
       rest = nothing_of;
@@ -139,11 +173,20 @@ module _ (bytes : List ℕ) (r : Remainder) (is : IsRemainder bytes r) where
       evaluates = t.evaluates;
     }
 
-    pub many_of : (limit : ℕ) (named : Listed) (terms : ℕ) → IsTooManyFor r.problem.problem.setting.prime r.run r.steps limit named terms → IsTooManyOf r.problem.problem r.handled r.claim limit named terms
-    many_of limit named terms many = record { steps = r.steps; rest = nothing_of; many = record { run = r.run; last = runs.0; runs = runs.1; many = many } }
+    pub many_of : (limit : ℕ) (named : Listed) (terms : ℕ)
+        → IsTooManyFor r.problem.problem.setting.prime r.run r.steps limit named terms
+        → IsTooManyOf r.problem.problem r.handled r.claim limit named terms
+    many_of limit named terms many =
+        record { steps = r.steps; rest = nothing_of;
+          many = record { run = r.run; last = runs.0; runs = runs.1; many = many } }
 
-  pub unrepresented_of : r.ending ≡ End.complete → r.rest ≢ [] → ¬ HasRepresentation r.problem.problem.setting (IsWithin r.problem.problem) r.claim → IsUnrepresented r.problem.problem r.handled r.ending r.claim r.rest
-  unrepresented_of complete some none = record { complete = complete; some = some; steps = r.steps; is = rest_of; none = none }
+  pub unrepresented_of : r.ending ≡ End.complete → r.rest ≢ []
+      → ¬ HasRepresentation r.problem.problem.setting (IsWithin r.problem.problem) r.claim
+      → IsUnrepresented r.problem.problem r.handled r.ending r.claim r.rest
+  unrepresented_of complete some none =
+      record { complete = complete; some = some; steps = r.steps; is = rest_of; none = none }
 
-  abbrev pub open_of : (τ : Monomial) → r.ending ≡ End.budget τ → r.rest ≢ [] → IsOpen r.problem.problem r.handled r.ending r.claim r.rest
-  open_of τ budget some = record { next = τ; budget = budget; some = some; steps = r.steps; is = rest_of }
+  abbrev pub open_of : (τ : Monomial) → r.ending ≡ End.budget τ → r.rest ≢ []
+      → IsOpen r.problem.problem r.handled r.ending r.claim r.rest
+  open_of τ budget some =
+      record { next = τ; budget = budget; some = some; steps = r.steps; is = rest_of }

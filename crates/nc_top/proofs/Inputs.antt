@@ -11,11 +11,14 @@ module _ {T : Type 0} where
   pub err_or_ok : {t : T} {fault : TextFault} → Err fault ≡ Ok t → ⊥
   err_or_ok e = absurd cc
 
-  pub same_fault : (reads : List ℕ → Result T TextFault) (bytes : List ℕ) (l k l' k' : ℕ) (r r' : List ℕ) → IsBadText reads bytes l k r → IsBadText reads bytes l' k' r' → (BadText l k ≡ BadText l' k') × (r ≡ r')
+  pub same_fault : (reads : List ℕ → Result T TextFault) (bytes : List ℕ) (l k l' k' : ℕ)
+      (r r' : List ℕ) → IsBadText reads bytes l k r → IsBadText reads bytes l' k' r'
+      → (BadText l k ≡ BadText l' k') × (r ≡ r')
   same_fault reads bytes l k l' k' r r' a b =
       let one : a.fault ≡ b.fault = ap fault_in (sym a.read ∙ b.read) in
       let line : l ≡ l' = a.at_line ∙ (ap (λ (f : TextFault). f.line) one ∙ sym b.at_line) in
-      let kind : k ≡ k' = a.of_kind ∙ (ap (λ (f : TextFault). kind_number f.kind) one ∙ sym b.of_kind) in
+      let kind : k ≡ k' =
+          a.of_kind ∙ (ap (λ (f : TextFault). kind_number f.kind) one ∙ sym b.of_kind) in
       (ap₂ BadText line kind, a.written ∙ (ap₂ bad_text_report line kind ∙ sym b.written))
     where
       fault_in : Result T TextFault → TextFault

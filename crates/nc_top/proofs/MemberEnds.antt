@@ -26,7 +26,8 @@ use Rattle.std.proofs.Common.{All, List, [], ap, length, refl, subst, sym, ℕ, 
 pub written_new : (new old text : List ℕ) → new ≡ old ++ text → old ≡ [] → new ≡ text
 written_new new old text is empty = is ∙ ap (λ (l : List ℕ). l ++ text) empty
 
-module _ (s : Snapshot) (h : IsSnapshot s) (ending : End) (e : IsEndAt s ending) (bytes : List ℕ) (claim : Polynomial) (text : IsClaimText bytes s.problem claim) where
+module _ (s : Snapshot) (h : IsSnapshot s) (ending : End) (e : IsEndAt s ending) (bytes : List ℕ)
+    (claim : Polynomial) (text : IsClaimText bytes s.problem claim) where
   abbrev p : ℕ
   p = s.problem.problem.setting.prime
 
@@ -43,20 +44,30 @@ module _ (s : Snapshot) (h : IsSnapshot s) (ending : End) (e : IsEndAt s ending)
     HasNames f = All (λ t. All (λ x. x.index < length names) t.key) f
 
     pub claim_has_names : HasNames claim
-    claim_has_names = subst (λ (ns : List (List ℕ)). All (λ t. All (λ x. x.index < length ns) t.key) claim) (sym same) (claim_named bytes s.problem claim text)
+    claim_has_names =
+        subst (λ (ns : List (List ℕ)). All (λ t. All (λ x. x.index < length ns) t.key) claim)
+        (sym same) (claim_named bytes s.problem claim text)
 
-    rest_has_names : (rest : Polynomial) (steps : List Step) → IsRestOf s.problem.problem s.handled claim rest steps → HasNames rest
-    rest_has_names rest steps r = subst (λ (ns : List (List ℕ)). All (λ t. All (λ x. x.index < length ns) t.key) rest) (sym same) (rest_named s.problem h.problem r.runs claim (claim_in bytes s.problem claim text) r.reduces)
+    rest_has_names : (rest : Polynomial) (steps : List Step)
+        → IsRestOf s.problem.problem s.handled claim rest steps → HasNames rest
+    rest_has_names rest steps r =
+        subst (λ (ns : List (List ℕ)). All (λ t. All (λ x. x.index < length ns) t.key) rest)
+        (sym same) (rest_named s.problem h.problem r.runs claim
+          (claim_in bytes s.problem claim text) r.reduces)
 
-    pub unrepresented_names : (rest : Polynomial) → IsUnrepresented s.problem.problem s.handled ending claim rest → HasNames rest
+    pub unrepresented_names : (rest : Polynomial) → IsUnrepresented s.problem.problem s.handled
+        ending claim rest → HasNames rest
     unrepresented_names rest u = rest_has_names rest u.steps u.is
 
-    pub open_names : (rest : Polynomial) → IsOpen s.problem.problem s.handled ending claim rest → HasNames rest
+    pub open_names : (rest : Polynomial) → IsOpen s.problem.problem s.handled ending claim rest
+        → HasNames rest
     open_names rest o = rest_has_names rest o.steps o.is
 
     -- ---- where something is left
 
-    pub not_below_at : (rest : Polynomial) (report : List ℕ) → IsUnrepresented s.problem.problem s.handled ending claim rest → report ≡ not_below_report names rest → IsNotBelow bytes report
+    pub not_below_at : (rest : Polynomial) (report : List ℕ)
+        → IsUnrepresented s.problem.problem s.handled ending claim rest
+        → report ≡ not_below_report names rest → IsNotBelow bytes report
     not_below_at rest report u written = record {
       at_end = at_end;
       is = is_at_end;
@@ -65,13 +76,17 @@ module _ (s : Snapshot) (h : IsSnapshot s) (ending : End) (e : IsEndAt s ending)
       written = written ∙ ap (λ (ns : List (List ℕ)). not_below_report ns rest) same;
     }
 
-    pub undecided_at : (rest : Polynomial) (τ : Monomial) (report : List ℕ) → IsOpen s.problem.problem s.handled ending claim rest → End.budget τ ≡ ending → report ≡ undecided_report names τ rest → IsUndecided bytes report
+    pub undecided_at : (rest : Polynomial) (τ : Monomial) (report : List ℕ)
+        → IsOpen s.problem.problem s.handled ending claim rest → End.budget τ ≡ ending
+        → report ≡ undecided_report names τ rest → IsUndecided bytes report
     undecided_at rest τ report o budget written = record {
       at_end = at_end;
       is = is_at_end;
       rest = rest;
       left = o;
-      written = written ∙ (ap (λ (ns : List (List ℕ)). undecided_report ns τ rest) same ∙ ap (λ (σ : Monomial). undecided_report s.problem.alphabet.names σ rest) next);
+      written =
+          written ∙ (ap (λ (ns : List (List ℕ)). undecided_report ns τ rest) same
+            ∙ ap (λ (σ : Monomial). undecided_report s.problem.alphabet.names σ rest) next);
     }
       where
         both : End.budget τ ≡ End.budget o.next
@@ -85,29 +100,49 @@ module _ (s : Snapshot) (h : IsSnapshot s) (ending : End) (e : IsEndAt s ending)
   module _ (lines : List Line) (proved : IsProved s.problem s.handled claim lines) where
     module _ (setting : NamedSetting) (same : setting ≡ setting_of s.problem) where
       pub lines_claim : All (λ t. All (λ x. x.index < length setting.alphabet.names) t.key) claim
-      lines_claim = claim_has_names setting.alphabet.names (ap (λ (x : NamedSetting). x.alphabet.names) same)
+      lines_claim =
+          claim_has_names setting.alphabet.names (ap (λ (x : NamedSetting). x.alphabet.names) same)
 
-      pub lines_left : All (λ line. All (λ part. All (λ x. x.index < length setting.alphabet.names) part.left) line) lines
-      lines_left = parts_named (setting_of s.problem) (λ part. part.left) (λ reaches part k. k.left) setting.alphabet.names lines lines (ap (λ (x : NamedSetting). x.alphabet.names) same) refl proved.keeps
+      pub lines_left : All (λ line. All
+            (λ part. All (λ x. x.index < length setting.alphabet.names) part.left) line) lines
+      lines_left =
+          parts_named (setting_of s.problem) (λ part. part.left) (λ reaches part k. k.left)
+          setting.alphabet.names lines lines (ap (λ (x : NamedSetting). x.alphabet.names) same) refl
+          proved.keeps
 
-      pub lines_right : All (λ line. All (λ part. All (λ x. x.index < length setting.alphabet.names) part.right) line) lines
-      lines_right = parts_named (setting_of s.problem) (λ part. part.right) (λ reaches part k. k.right) setting.alphabet.names lines lines (ap (λ (x : NamedSetting). x.alphabet.names) same) refl proved.keeps
+      pub lines_right : All (λ line. All
+            (λ part. All (λ x. x.index < length setting.alphabet.names) part.right) line) lines
+      lines_right =
+          parts_named (setting_of s.problem) (λ part. part.right) (λ reaches part k. k.right)
+          setting.alphabet.names lines lines (ap (λ (x : NamedSetting). x.alphabet.names) same) refl
+          proved.keeps
 
-      pub lines_at : (report : List ℕ) → report ≡ certificate_text (record { setting = setting; claim = claim; lines = lines }) → IsLines bytes report
+      pub lines_at : (report : List ℕ)
+          → report ≡ certificate_text (record { setting = setting; claim = claim; lines = lines })
+          → IsLines bytes report
       lines_at report written = record {
         at_end = at_end;
         is = is_at_end;
         lines = lines;
         proved = proved;
-        keeps = record { setting = h.problem.setting; claim = claim_in bytes s.problem claim text; lines = proved.keeps };
-        written = written ∙ ap (λ (x : NamedSetting). certificate_text (record { setting = x; claim = claim; lines = lines })) same;
+        keeps = record { setting = h.problem.setting;
+              claim = claim_in bytes s.problem claim text; lines = proved.keeps };
+        written =
+            written ∙ ap (λ (x : NamedSetting). certificate_text
+              (record { setting = x; claim = claim; lines = lines })) same;
       }
 
   -- ---- form 1
 
-  module _ (limit : ℕ) (m : List (Term Sig)) (represented : IsRepresented s.problem.problem s.handled claim limit m) where
-    sum : IsSum s.problem.problem.setting (step_multiples (labels_of p represented.rest.run.entries) represented.steps) m
-    sum = subst (λ (run : State). IsSum s.problem.problem.setting (step_multiples (labels_of p run.entries) represented.steps) m) (one_run s h represented.is.run represented.rest.run (represented.is.last, represented.is.runs) (represented.rest.last, represented.rest.runs)) represented.is.is
+  module _ (limit : ℕ) (m : List (Term Sig))
+      (represented : IsRepresented s.problem.problem s.handled claim limit m) where
+    sum : IsSum s.problem.problem.setting
+        (step_multiples (labels_of p represented.rest.run.entries) represented.steps) m
+    sum = subst (λ (run : State). IsSum s.problem.problem.setting
+          (step_multiples (labels_of p run.entries) represented.steps) m)
+        (one_run s h represented.is.run represented.rest.run
+          (represented.is.last, represented.is.runs) (represented.rest.last, represented.rest.runs))
+        represented.is.is
 
     module _ (setting : NamedSetting) (same : setting ≡ setting_of s.problem) where
       names_same : setting.alphabet.names ≡ s.problem.alphabet.names
@@ -117,12 +152,20 @@ module _ (s : Snapshot) (h : IsSnapshot s) (ending : End) (e : IsEndAt s ending)
       terms_claim = claim_has_names setting.alphabet.names names_same
 
       pub terms_on_left : All (λ t. All (λ x. x.index < length setting.alphabet.names) t.key.left) m
-      terms_on_left = subst (λ (ns : List (List ℕ)). All (λ t. All (λ x. x.index < length ns) t.key.left) m) (sym names_same) (terms_left s.problem h.problem represented.rest.runs claim (claim_in bytes s.problem claim text) represented.rest.reduces m sum)
+      terms_on_left =
+          subst (λ (ns : List (List ℕ)). All (λ t. All (λ x. x.index < length ns) t.key.left) m)
+          (sym names_same) (terms_left s.problem h.problem represented.rest.runs claim
+            (claim_in bytes s.problem claim text) represented.rest.reduces m sum)
 
-      pub terms_on_right : All (λ t. All (λ x. x.index < length setting.alphabet.names) t.key.right) m
-      terms_on_right = subst (λ (ns : List (List ℕ)). All (λ t. All (λ x. x.index < length ns) t.key.right) m) (sym names_same) (terms_right s.problem h.problem represented.rest.runs claim (claim_in bytes s.problem claim text) represented.rest.reduces m sum)
+      pub terms_on_right : All (λ t. All (λ x. x.index < length setting.alphabet.names) t.key.right)
+          m
+      terms_on_right =
+          subst (λ (ns : List (List ℕ)). All (λ t. All (λ x. x.index < length ns) t.key.right) m)
+          (sym names_same) (terms_right s.problem h.problem represented.rest.runs claim
+            (claim_in bytes s.problem claim text) represented.rest.reduces m sum)
 
-      pub terms_at : (report : List ℕ) → report ≡ terms_text setting claim (element_of m) → IsTerms limit bytes report
+      pub terms_at : (report : List ℕ) → report ≡ terms_text setting claim (element_of m)
+          → IsTerms limit bytes report
       terms_at report written = record {
         at_end = at_end;
         is = is_at_end;
@@ -131,5 +174,8 @@ module _ (s : Snapshot) (h : IsSnapshot s) (ending : End) (e : IsEndAt s ending)
         written = written ∙ ap (λ (x : NamedSetting). terms_text x claim (element_of m)) same;
       }
 
-  pub many_at : (limit : ℕ) (named : Listed) (terms : ℕ) (report : List ℕ) → IsTooManyOf s.problem.problem s.handled claim limit named terms → report ≡ too_many_report named terms → IsTooManyInSum limit bytes named terms report
-  many_at limit named terms report many written = record { at_end = at_end; is = is_at_end; many = many; written = written }
+  pub many_at : (limit : ℕ) (named : Listed) (terms : ℕ) (report : List ℕ)
+      → IsTooManyOf s.problem.problem s.handled claim limit named terms
+      → report ≡ too_many_report named terms → IsTooManyInSum limit bytes named terms report
+  many_at limit named terms report many written =
+      record { at_end = at_end; is = is_at_end; many = many; written = written }

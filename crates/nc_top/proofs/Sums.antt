@@ -34,7 +34,8 @@ module _ (s : Setting) (some : 0 < s.prime) (run : State) (steps : List Step) (l
       go : (n : ℕ) × HasTerms s.prime α n → IsMany α ⊎ ((n : ℕ) → HasTerms s.prime α n → n ≤ limit)
       go (n, has) = by_size (cases_lt limit n)
         where
-          by_size : (limit < n) ⊎ (n ≤ limit) → IsMany α ⊎ ((m : ℕ) → HasTerms s.prime α m → m ≤ limit)
+          by_size : (limit < n) ⊎ (n ≤ limit) → IsMany α
+              ⊎ ((m : ℕ) → HasTerms s.prime α m → m ≤ limit)
           by_size (inl more) = inl (n, has, more)
           by_size (inr l) = inr (λ m h. omega (arith, l, terms_once s.prime α m n h has))
 
@@ -52,41 +53,66 @@ module _ (s : Setting) (some : 0 < s.prime) (run : State) (steps : List Step) (l
   needed_many_dec : ((j : ℕ) → Decided (Needed j)) → (j : ℕ) → Decided (NeededMany j)
   needed_many_dec dec j = go (dec j) (many_or_few (label j))
     where
-      go : Decided (Needed j) → IsMany (label j) ⊎ ((n : ℕ) → HasTerms s.prime (label j) n → n ≤ limit) → Decided (NeededMany j)
+      go : Decided (Needed j) → IsMany (label j)
+          ⊎ ((n : ℕ) → HasTerms s.prime (label j) n → n ≤ limit) → Decided (NeededMany j)
       go (inr never) o = inr (λ h. never h.0)
       go (inl needs) (inl many) = inl (needs, many)
       go (inl needs) (inr few) = inr (λ h. omega (arith, few h.1.0 h.1.1, h.1.2))
 
   -- there is a first one, or none
-  pub first_or_within : ((j : ℕ) → Decided (Needed j)) → ((j : ℕ) → Needed j → j ≤ length run.entries) → AreWithinLimit s.prime run steps limit ⊎ ((named : Listed) × (terms : ℕ) × IsTooManyFor s.prime run steps limit named terms)
-  first_or_within dec within = go (least NeededMany (needed_many_dec dec) (length run.entries + 1)) (many_or_few sum)
+  pub first_or_within : ((j : ℕ) → Decided (Needed j))
+      → ((j : ℕ) → Needed j → j ≤ length run.entries) → AreWithinLimit s.prime run steps limit
+      ⊎ ((named : Listed) × (terms : ℕ) × IsTooManyFor s.prime run steps limit named terms)
+  first_or_within dec within =
+      go (least NeededMany (needed_many_dec dec) (length run.entries + 1)) (many_or_few sum)
     where
       Found : Type 0
-      Found = AreWithinLimit s.prime run steps limit ⊎ ((named : Listed) × (terms : ℕ) × IsTooManyFor s.prime run steps limit named terms)
+      Found = AreWithinLimit s.prime run steps limit
+          ⊎ ((named : Listed) × (terms : ℕ) × IsTooManyFor s.prime run steps limit named terms)
 
-      go : ((k : ℕ) × (k < length run.entries + 1) × NeededMany k × ((j : ℕ) → j < k → ¬ NeededMany j)) ⊎ ((k : ℕ) → k < length run.entries + 1 → ¬ NeededMany k) → IsMany sum ⊎ ((n : ℕ) → HasTerms s.prime sum n → n ≤ limit)
-          → AreWithinLimit s.prime run steps limit ⊎ ((named : Listed) × (terms : ℕ) × IsTooManyFor s.prime run steps limit named terms)
-      go (inl (k, l, many, before)) o = inr (EntryOf k, many.1.0, (many.0, many.1.1, many.1.2, λ j m needs b has. few_from j m needs (before j b) has))
-      go (inr none) (inl many) = inr (Claim, many.0, (many.1, many.2, λ j m needs has. few_from j m needs (none j (omega (arith, within j needs))) has))
-      go (inr none) (inr few) = inl (record { entries = λ j n needs has. few_from j n needs (none j (omega (arith, within j needs))) has; sum = few })
+      go : ((k : ℕ) × (k < length run.entries + 1) × NeededMany k
+            × ((j : ℕ) → j < k → ¬ NeededMany j))
+          ⊎ ((k : ℕ) → k < length run.entries + 1 → ¬ NeededMany k) → IsMany sum
+          ⊎ ((n : ℕ) → HasTerms s.prime sum n → n ≤ limit)
+          → AreWithinLimit s.prime run steps limit
+              ⊎ ((named : Listed) × (terms : ℕ) × IsTooManyFor s.prime run steps limit named terms)
+      go (inl (k, l, many, before)) o =
+          inr (EntryOf k, many.1.0, (many.0, many.1.1, many.1.2,
+              λ j m needs b has. few_from j m needs (before j b) has))
+      go (inr none) (inl many) =
+          inr (Claim, many.0, (many.1, many.2,
+              λ j m needs has. few_from j m needs (none j (omega (arith, within j needs))) has))
+      go (inr none) (inr few) =
+          inl (record { entries = λ j n needs has. few_from j n needs
+              (none j (omega (arith, within j needs))) has; sum = few })
 
   -- not both
-  pub never_both : AreWithinLimit s.prime run steps limit → (named : Listed) (terms : ℕ) → IsTooManyFor s.prime run steps limit named terms → ⊥
-  never_both within (EntryOf k) terms (needs, has, more, before) = omega (arith, more, within.entries k terms needs has)
+  pub never_both : AreWithinLimit s.prime run steps limit → (named : Listed) (terms : ℕ)
+      → IsTooManyFor s.prime run steps limit named terms → ⊥
+  never_both within (EntryOf k) terms (needs, has, more, before) =
+      omega (arith, more, within.entries k terms needs has)
   never_both within (SyzygyOf k) terms many = many
   never_both within Claim terms (has, more, entries) = omega (arith, more, within.sum terms has)
 
   -- one alone
-  pub too_many_once : (named named' : Listed) (n n' : ℕ) → IsTooManyFor s.prime run steps limit named n → IsTooManyFor s.prime run steps limit named' n' → (named ≡ named') × (n ≡ n')
-  too_many_once (EntryOf k) (EntryOf k') n n' (needs, has, more, before) (needs', has', more', before') = go (nat_order k k')
+  pub too_many_once : (named named' : Listed) (n n' : ℕ)
+      → IsTooManyFor s.prime run steps limit named n → IsTooManyFor s.prime run steps limit named'
+      n' → (named ≡ named') × (n ≡ n')
+  too_many_once (EntryOf k) (EntryOf k') n n' (needs, has, more, before)
+      (needs', has', more', before') = go (nat_order k k')
     where
       go : (k < k') ⊎ ((k ≡ k') ⊎ (k' < k)) → (EntryOf k ≡ EntryOf k') × (n ≡ n')
       go (inl l) = absurd (omega (arith, more, before' k n needs l has))
-      go (inr (inl e)) = (ap EntryOf e, terms_once s.prime (label k) n n' has (subst (λ (i : ℕ). EntryTerms s.prime run i n') (sym e) has'))
+      go (inr (inl e)) =
+          (ap EntryOf e, terms_once s.prime (label k) n n' has
+            (subst (λ (i : ℕ). EntryTerms s.prime run i n') (sym e) has'))
       go (inr (inr l)) = absurd (omega (arith, more', before k' n' needs' l has'))
-  too_many_once (EntryOf k) Claim n n' (needs, has, more, before) (has', more', entries') = absurd (omega (arith, more, entries' k n needs has))
-  too_many_once Claim (EntryOf k) n n' (has, more, entries) (needs', has', more', before') = absurd (omega (arith, more', entries k n' needs' has'))
-  too_many_once Claim Claim n n' (has, more, entries) (has', more', entries') = (refl, terms_once s.prime sum n n' has has')
+  too_many_once (EntryOf k) Claim n n' (needs, has, more, before) (has', more', entries') =
+      absurd (omega (arith, more, entries' k n needs has))
+  too_many_once Claim (EntryOf k) n n' (has, more, entries) (needs', has', more', before') =
+      absurd (omega (arith, more', entries k n' needs' has'))
+  too_many_once Claim Claim n n' (has, more, entries) (has', more', entries') =
+      (refl, terms_once s.prime sum n n' has has')
   too_many_once (SyzygyOf k) named' n n' many many' = absurd many
   too_many_once (EntryOf k) (SyzygyOf k') n n' many many' = absurd many'
   too_many_once Claim (SyzygyOf k') n n' many many' = absurd many'

@@ -42,25 +42,33 @@ pub record IsProblemText (bytes : List ℕ) (P : NamedProblem) : Type 0 where
   pub claim : Option Polynomial
   pub read : reads_problem false bytes ≡ Ok (record { problem = P; claim = claim })
 
--- the label that its trace gives each entry, and each syzygy, multiplies out to its polynomial and leads with its signature
+-- the label that its trace gives each entry, and each syzygy, multiplies out to its polynomial and
+-- leads with its signature
 pub record AreLabelled (s : Setting) (run : State) : Type 0 where
-  pub entries : (e : Entry) (k : Contains run.entries e) → IsLabelled s e.signature e.polynomial (label_at (labels_of s.prime run.entries) (k.0 + 1))
-  pub syzygies : (h : Syzygy) → Contains run.syzygies h → IsLabelled s h.signature [] (trace_label s.prime (labels_of s.prime run.entries) h.trace)
+  pub entries : (e : Entry) (k : Contains run.entries e)
+      → IsLabelled s e.signature e.polynomial (label_at (labels_of s.prime run.entries) (k.0 + 1))
+  pub syzygies : (h : Syzygy) → Contains run.syzygies h
+      → IsLabelled s h.signature [] (trace_label s.prime (labels_of s.prime run.entries) h.trace)
 
 -- the labels that are shown are those of the items, each in normal form
 abbrev pub AreShown : Cofactors → Setting → State → (Listed → Element) → Type 0
 AreShown Omitted s run labels = Unit {0}
 AreShown TraceOf s run labels = Unit {0}
-AreShown Full s run labels = (listed : Listed) → IsListed run listed → (m : List (Term Sig)) × IsLabelOf s run listed m × (labels listed ≡ element_of m)
+AreShown Full s run labels =
+    (listed : Listed) → IsListed run listed → (m : List (Term Sig)) × IsLabelOf s run listed m
+    × (labels listed ≡ element_of m)
 
 -- where labels are shown, none has more terms than the limit
 abbrev pub AreShort : BasisOptions → Setting → State → Type 0
 AreShort options s run = options.cofactors ≡ Full → AllWithin s.prime run options.limit
 
--- the bytes are a text of a problem, and the report lists what its sequential run has found where it ends: with labels that
--- multiply out, and enough within the bound where the end is complete, and else below the next signature; what is shown of
+-- the bytes are a text of a problem, and the report lists what its sequential run has found where
+-- it ends: with labels that
+-- multiply out, and enough within the bound where the end is complete, and else below the next
+-- signature; what is shown of
 -- the cofactors are the run's traces, or the labels that these give
-pub record IsBasis (options : BasisOptions) (bytes : List ℕ) (ending : End) (report : List ℕ) : Type 0 where
+pub record IsBasis (options : BasisOptions) (bytes : List ℕ) (ending : End) (report : List ℕ) : Type
+    0 where
   pub problem : NamedProblem
   pub text : IsProblemText bytes problem
   pub handled : ℕ
@@ -72,7 +80,8 @@ pub record IsBasis (options : BasisOptions) (bytes : List ℕ) (ending : End) (r
   pub labels : Listed → Element
   pub are : AreShown options.cofactors problem.problem.setting run labels
   pub short : AreShort options problem.problem.setting run
-  pub written : report ≡ basis_report options.cofactors problem.alphabet.names labels handled run ending
+  pub written : report ≡ basis_report options.cofactors problem.alphabet.names labels handled run
+      ending
 
 -- the run is complete
 abbrev pub IsComplete : BasisOptions → List ℕ → List ℕ → Type 0
@@ -82,8 +91,10 @@ IsComplete options bytes report = IsBasis options bytes End.complete report
 abbrev pub IsBudget : BasisOptions → List ℕ → List ℕ → Type 0
 IsBudget options bytes report = (τ : Monomial) × IsBasis options bytes (End.budget τ) report
 
--- labels are to be shown, and that of this item of the run has more terms than the limit: the least entry, else the least syzygy
-pub record IsTooManyTerms (options : BasisOptions) (bytes : List ℕ) (named : Listed) (terms : ℕ) (report : List ℕ) : Type 0 where
+-- labels are to be shown, and that of this item of the run has more terms than the limit: the least
+-- entry, else the least syzygy
+pub record IsTooManyTerms (options : BasisOptions) (bytes : List ℕ) (named : Listed) (terms : ℕ)
+    (report : List ℕ) : Type 0 where
   pub full : options.cofactors ≡ Full
   pub problem : NamedProblem
   pub text : IsProblemText bytes problem
@@ -107,8 +118,10 @@ reads_relations bytes = reads_problem false bytes
 abbrev pub IsBasisAnswer : BasisOptions → List ℕ → Status → List ℕ → Type 0
 IsBasisAnswer options bytes Done report = IsComplete options bytes report
 IsBasisAnswer options bytes Budget report = IsBudget options bytes report
-IsBasisAnswer options bytes (TooMany named terms) report = IsTooManyTerms options bytes named terms report
-IsBasisAnswer options bytes (BadText line kind) report = IsBadText reads_relations bytes line kind report
+IsBasisAnswer options bytes (TooMany named terms) report =
+    IsTooManyTerms options bytes named terms report
+IsBasisAnswer options bytes (BadText line kind) report =
+    IsBadText reads_relations bytes line kind report
 IsBasisAnswer options bytes TooLarge report = IsTooLarge bytes report
 IsBasisAnswer options bytes Invalid report = ⊥
 IsBasisAnswer options bytes NotBelow report = ⊥

@@ -37,9 +37,11 @@ pub record IsInvalid (bytes report : List ℕ) : Type 0 where
   pub text : IsText bytes certificate
   pub within : IsWithinWork certificate
   pub invalid : ¬ IsValidCertificate certificate
-  pub written : report ≡ invalid_report certificate.setting.alphabet.names (rest_of certificate.setting.setting certificate.claim certificate.lines)
+  pub written : report ≡ invalid_report certificate.setting.alphabet.names
+      (rest_of certificate.setting.setting certificate.claim certificate.lines)
 
--- the bytes are a text of a certificate that asks for more work: the first part that passes the limit stands in this line
+-- the bytes are a text of a certificate that asks for more work: the first part that passes the
+-- limit stands in this line
 pub record IsTooMuchWork (bytes : List ℕ) (line charge : ℕ) (report : List ℕ) : Type 0 where
   pub certificate : Certificate
   pub text : IsText bytes certificate

@@ -9,7 +9,8 @@ use Rattle.std.specs.Prelude.{Err, List, codes, length, ℕ, ◌<◌, ◌≡◌,
 use Rattle.std.specs.declared.result.Result.{Result}
 
 -- the bytes are no such text, and are not too many: the first fault
-pub record IsBadText {T : Type 0} (reads : List ℕ → Result T TextFault) (bytes : List ℕ) (line kind : ℕ) (report : List ℕ) : Type 0 where
+pub record IsBadText {T : Type 0} (reads : List ℕ → Result T TextFault) (bytes : List ℕ)
+    (line kind : ℕ) (report : List ℕ) : Type 0 where
   pub fault : TextFault
   pub small : length bytes ≤ 16777216
   pub read : reads bytes ≡ Err fault

@@ -43,7 +43,8 @@ pub record IsClaimText (bytes : List ℕ) (P : NamedProblem) (claim : Polynomial
 
 -- ---- the end of the run
 
--- a problem with a claim, and the end of the problem's run: after how many signatures it comes, and how
+-- a problem with a claim, and the end of the problem's run: after how many signatures it comes, and
+-- how
 pub record ClaimAtEnd : Type 0 where
   pub problem : NamedProblem
   pub claim : Polynomial
@@ -80,7 +81,8 @@ pub record IsTerms (limit : ℕ) (bytes report : List ℕ) : Type 0 where
   pub written : report ≡ terms_text (setting_of at_end.problem) at_end.claim (element_of m)
 
 -- the label of this entry that is needed, or else the representation, has more terms than the limit
-pub record IsTooManyInSum (limit : ℕ) (bytes : List ℕ) (named : Listed) (terms : ℕ) (report : List ℕ) : Type 0 where
+pub record IsTooManyInSum (limit : ℕ) (bytes : List ℕ) (named : Listed) (terms : ℕ)
+    (report : List ℕ) : Type 0 where
   pub at_end : ClaimAtEnd
   pub is : IsClaimAtEnd bytes at_end
   pub many : IsTooManyOf at_end.problem.problem at_end.handled at_end.claim limit named terms
@@ -119,15 +121,18 @@ abbrev pub IsCertified : MemberOptions → List ℕ → List ℕ → Type 0
 IsCertified options bytes report = IsCertifiedAs options.form options.limit bytes report
 
 abbrev pub IsTooManyTermsOf : MemberOptions → List ℕ → Listed → ℕ → List ℕ → Type 0
-IsTooManyTermsOf options bytes named terms report = IsTooManyAs options.form options.limit bytes named terms report
+IsTooManyTermsOf options bytes named terms report =
+    IsTooManyAs options.form options.limit bytes named terms report
 
 -- status and report for the bytes of an input
 abbrev pub IsMemberAnswer : MemberOptions → List ℕ → Status → List ℕ → Type 0
 IsMemberAnswer options bytes Done report = IsCertified options bytes report
 IsMemberAnswer options bytes NotBelow report = IsNotBelow bytes report
 IsMemberAnswer options bytes Budget report = IsUndecided bytes report
-IsMemberAnswer options bytes (TooMany named terms) report = IsTooManyTermsOf options bytes named terms report
-IsMemberAnswer options bytes (BadText line kind) report = IsBadText reads_claim bytes line kind report
+IsMemberAnswer options bytes (TooMany named terms) report =
+    IsTooManyTermsOf options bytes named terms report
+IsMemberAnswer options bytes (BadText line kind) report =
+    IsBadText reads_claim bytes line kind report
 IsMemberAnswer options bytes TooLarge report = IsTooLarge bytes report
 IsMemberAnswer options bytes Invalid report = ⊥
 IsMemberAnswer options bytes (TooMuch line charge) report = ⊥

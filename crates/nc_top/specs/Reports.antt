@@ -23,11 +23,14 @@ invalid_report names rest = codes "invalid\nrest " ++ (poly_text names rest ++ c
 
 -- the line of the first fault, and the number of its kind
 abbrev pub bad_text_report : ℕ → ℕ → List ℕ
-bad_text_report line kind = codes "bad text line " ++ (decimal line ++ (codes " kind " ++ (decimal kind ++ codes "\n")))
+bad_text_report line kind =
+    codes "bad text line " ++ (decimal line ++ (codes " kind " ++ (decimal kind ++ codes "\n")))
 
 -- the line of the first part that passes the limit on work, and the charge up to it
 abbrev pub too_much_report : ℕ → ℕ → List ℕ
-too_much_report line charge = codes "too much work: line " ++ (decimal line ++ (codes " needs " ++ (decimal charge ++ codes "\n")))
+too_much_report line charge =
+    codes "too much work: line " ++ (decimal
+      line ++ (codes " needs " ++ (decimal charge ++ codes "\n")))
 
 -- ---- claims
 
@@ -37,11 +40,13 @@ remainder_line names rest = codes "remainder " ++ (poly_text names rest ++ codes
 
 -- the claim has no representation below the bound
 abbrev pub not_below_report : List (List ℕ) → Polynomial → List ℕ
-not_below_report names rest = codes "no representation below the bound\n" ++ remainder_line names rest
+not_below_report names rest =
+    codes "no representation below the bound\n" ++ remainder_line names rest
 
 -- the next signature, and what is left of the claim
 abbrev pub undecided_report : List (List ℕ) → Monomial → Polynomial → List ℕ
-undecided_report names next rest = codes "undecided\nnext " ++ (sig_text names next ++ (codes "\n" ++ remainder_line names rest))
+undecided_report names next rest =
+    codes "undecided\nnext " ++ (sig_text names next ++ (codes "\n" ++ remainder_line names rest))
 
 -- ---- runs
 

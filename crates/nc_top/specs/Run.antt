@@ -48,17 +48,23 @@ IsAnswer (Demo options) bytes status report = ⊥
 -- ---- what was read and written
 
 -- the report was written, or the count of the sink's failures rose and a front of it was written
-abbrev pub IsReported : Option (List ℕ) → Option (List ℕ) → ℕ → ℕ → List ℕ → Status → Status → Type 0
+abbrev pub IsReported : Option (List ℕ) → Option (List ℕ) → ℕ → ℕ → List ℕ → Status → Status
+    → Type 0
 IsReported old new before now report status result =
-    ((result ≡ status) × Adds old new report) ⊎ ((result ≡ WriteFault) × Rose before now × AddsFront old new report)
+    ((result ≡ status) × Adds old new report)
+        ⊎ ((result ≡ WriteFault) × Rose before now × AddsFront old new report)
 
 -- `usage` was reported, or memory ran out while the words were read, with nothing written
 abbrev pub IsRefused : Option (List ℕ) → Option (List ℕ) → ℕ → ℕ → Status → Type 0
 IsRefused old new before now result =
-    ((result ≡ OutOfMemory) × Adds old new []) ⊎ IsReported old new before now (codes "usage\n") Usage result
+    ((result ≡ OutOfMemory) × Adds old new []) ⊎ IsReported old new before now (codes "usage\n")
+        Usage result
 
--- the source was read to its end, or as far as 16,777,217 bytes, and status and report are those of its bytes
-pub record IsAnswered (options : Options) (left_before left_after written_before written_after : Option (List ℕ)) (before now : ℕ) (result : Status) : Type 0 where
+-- the source was read to its end, or as far as 16,777,217 bytes, and status and report are those of
+-- its bytes
+pub record IsAnswered (options : Options)
+    (left_before left_after written_before written_after : Option (List ℕ)) (before now : ℕ)
+    (result : Status) : Type 0 where
   pub bytes : List ℕ
   pub taken : TakesWhole left_before left_after bytes 16777217
   pub status : Status
@@ -66,8 +72,13 @@ pub record IsAnswered (options : Options) (left_before left_after written_before
   pub answer : IsAnswer options bytes status report
   pub reported : IsReported written_before written_after before now report status result
 
--- a read fault only where the count of the source's failures rose, with nothing written; want of memory, with nothing written; or an answer
-abbrev pub Ran : Options → Option (List ℕ) → Option (List ℕ) → Option (List ℕ) → Option (List ℕ) → ℕ → ℕ → ℕ → ℕ → Status → Type 0
-Ran options left_before left_after written_before written_after source_before source_now sink_before sink_now result =
+-- a read fault only where the count of the source's failures rose, with nothing written; want of
+-- memory, with nothing written; or an answer
+abbrev pub Ran : Options → Option (List ℕ) → Option (List ℕ) → Option (List ℕ) → Option (List ℕ) → ℕ
+    → ℕ → ℕ → ℕ → Status → Type 0
+Ran options left_before left_after written_before written_after source_before source_now sink_before
+    sink_now result =
     ((result ≡ ReadFault) × Rose source_before source_now × Adds written_before written_after [])
-    ⊎ (((result ≡ OutOfMemory) × Adds written_before written_after []) ⊎ IsAnswered options left_before left_after written_before written_after sink_before sink_now result)
+    ⊎ (((result ≡ OutOfMemory) × Adds written_before written_after [])
+          ⊎ IsAnswered options left_before left_after written_before written_after sink_before
+          sink_now result)

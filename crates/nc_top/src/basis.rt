@@ -55,7 +55,8 @@ fn labels_of(
     requires leads { LeadsOf snapshot.now leads.now }
     ensures shown { IfOk result (IsShownOf snapshot.now) }
     ensures kind { IfOk result (λ s. kind_of s ≡ Cofactors.Full) }
-    ensures short { IfOk result (λ s. (run : State) → IsRunAt snapshot.now run → AllWithin snapshot.now.problem.problem.setting.prime run limit) }
+    ensures short { IfOk result (λ s. (run : State) → IsRunAt snapshot.now run
+            → AllWithin snapshot.now.problem.problem.setting.prime run limit) }
     ensures fault { IfErr result (FailsToShow snapshot.now limit) }
 {
     let limit = u64::from(limit);
@@ -80,7 +81,8 @@ fn shown_of(
     requires leads { LeadsOf snapshot.now leads.now }
     ensures shown { IfOk result (IsShownOf snapshot.now) }
     ensures kind { IfOk result (λ s. kind_of s ≡ options.cofactors) }
-    ensures short { IfOk result (λ s. (run : State) → IsRunAt snapshot.now run → AreShort options snapshot.now.problem.problem.setting run) }
+    ensures short { IfOk result (λ s. (run : State) → IsRunAt snapshot.now run
+            → AreShort options snapshot.now.problem.problem.setting run) }
     ensures full { IfErr result (λ e. options.cofactors ≡ Cofactors.Full) }
     ensures fault { IfErr result (FailsToShow snapshot.now options.limit) }
 {
@@ -125,7 +127,11 @@ fn answer_run(
     shown: &Shown,
 ) -> Result<(Status, Vec<u8>), AllocError>
     requires shown { IsShownOf finished.now.snapshot shown.now }
-    ensures { IfOk result (λ r. (r.0 ≡ status_at finished.now.ending) × ((run : State) → IsRunAt finished.now.snapshot run → r.1.items ≡ basis_report (kind_of shown.now) finished.now.snapshot.problem.alphabet.names (labels_in shown.now) finished.now.snapshot.handled run finished.now.ending)) }
+    ensures { IfOk result (λ r. (r.0 ≡ status_at finished.now.ending)
+            × ((run : State) → IsRunAt finished.now.snapshot run
+              → r.1.items ≡ basis_report (kind_of shown.now)
+              finished.now.snapshot.problem.alphabet.names (labels_in shown.now)
+              finished.now.snapshot.handled run finished.now.ending)) }
 {
     let report = report_on(alloc, finished, shown)?;
     match finished.end() {

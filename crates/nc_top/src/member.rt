@@ -52,7 +52,8 @@ fn undecided_report(
     requires left { All (λ x. x.index < length names.now) next.now.left }
     requires right { All (λ x. x.index < length names.now) next.now.right }
     requires rest { All (λ t. All (λ x. x.index < length names.now) t.key) rest.now }
-    ensures { IfOk result (λ report. report.items ≡ undecided_report names.now (monomial_of next.now) rest.now) }
+    ensures { IfOk result (λ report. report.items ≡ undecided_report names.now
+            (monomial_of next.now) rest.now) }
 {
     let mut report = Vec::from_slice(alloc, b"undecided\nnext ")?;
     write_sig(&mut report, names, next)?;
@@ -71,7 +72,8 @@ fn answer_not_below(
     options: MemberOptions,
 ) -> Result<(Status, Vec<u8>), AllocError>
     requires text { IsClaimText bytes.now finished.now.snapshot.problem claim.now }
-    requires rest { IsUnrepresented finished.now.snapshot.problem.problem finished.now.snapshot.handled finished.now.ending claim.now rest.now }
+    requires rest { IsUnrepresented finished.now.snapshot.problem.problem
+          finished.now.snapshot.handled finished.now.ending claim.now rest.now }
     ensures { IfOk result (λ r. IsMemberAnswer options bytes.now r.0 r.1.items) }
 {
     let snapshot = finished.snapshot();
@@ -90,7 +92,8 @@ fn answer_undecided(
     options: MemberOptions,
 ) -> Result<(Status, Vec<u8>), AllocError>
     requires text { IsClaimText bytes.now finished.now.snapshot.problem claim.now }
-    requires rest { IsOpen finished.now.snapshot.problem.problem finished.now.snapshot.handled finished.now.ending claim.now rest.now }
+    requires rest { IsOpen finished.now.snapshot.problem.problem finished.now.snapshot.handled
+          finished.now.ending claim.now rest.now }
     ensures { IfOk result (λ r. IsMemberAnswer options bytes.now r.0 r.1.items) }
 {
     let snapshot = finished.snapshot();
@@ -115,7 +118,8 @@ fn answer_lines(
 ) -> Result<(Status, Vec<u8>), AllocError>
     requires text { IsClaimText bytes.now finished.now.snapshot.problem claim.now }
     requires form { options.form ≡ AsLines }
-    requires lines { IsProved finished.now.snapshot.problem finished.now.snapshot.handled claim.now lines.now }
+    requires lines { IsProved finished.now.snapshot.problem finished.now.snapshot.handled claim.now
+          lines.now }
     ensures { IfOk result (λ r. IsMemberAnswer options bytes.now r.0 r.1.items) }
 {
     let snapshot = finished.snapshot();
@@ -136,7 +140,8 @@ fn answer_terms(
 ) -> Result<(Status, Vec<u8>), AllocError>
     requires text { IsClaimText bytes.now finished.now.snapshot.problem claim.now }
     requires form { options.form ≡ AsTerms }
-    requires m { IsRepresented finished.now.snapshot.problem.problem finished.now.snapshot.handled claim.now options.limit m.now }
+    requires m { IsRepresented finished.now.snapshot.problem.problem finished.now.snapshot.handled
+          claim.now options.limit m.now }
     ensures { IfOk result (λ r. IsMemberAnswer options bytes.now r.0 r.1.items) }
 {
     let snapshot = finished.snapshot();

@@ -9,7 +9,11 @@ pub halves-preserved-then-is_lt : goal.halves-preserved-then-is_lt
 halves-preserved-then-is_lt c = record {
   order = omega arith;
   few = c.halves.invariant.few;
-  lesser = lower_half c.args.snapshot.now c.recall_rule.ensures.snapshot c.args.sig.now c.requires (c.halves.low + (c.halves.high - c.halves.low) / 2) c.entry.result.now c.entry.ensures.entry c.entry.ensures.degree c.deref-entry.result.now (c.deref-entry.ensures ∙ c.sig.ensures) c.is_lt.result (c.is_lt.ensures ∙ ap is_lt c.cmp.ensures) c.if-is_lt.true;
+  lesser =
+      lower_half c.args.snapshot.now c.recall_rule.ensures.snapshot c.args.sig.now c.requires
+      (c.halves.low + (c.halves.high - c.halves.low) / 2) c.entry.result.now c.entry.ensures.entry
+      c.entry.ensures.degree c.deref-entry.result.now (c.deref-entry.ensures ∙ c.sig.ensures)
+      c.is_lt.result (c.is_lt.ensures ∙ ap is_lt c.cmp.ensures) c.if-is_lt.true;
   others = c.halves.invariant.others;
 }
 
@@ -18,11 +22,18 @@ halves-preserved c = record {
   order = omega arith;
   few = omega arith;
   lesser = c.halves.invariant.lesser;
-  others = upper_half c.args.snapshot.now c.recall_rule.ensures.snapshot c.args.sig.now c.requires (c.halves.low + (c.halves.high - c.halves.low) / 2) c.entry.result.now c.entry.ensures.entry c.entry.ensures.degree c.deref-entry.result.now (c.deref-entry.ensures ∙ c.sig.ensures) c.is_lt.result (c.is_lt.ensures ∙ ap is_lt c.cmp.ensures) c.if-is_lt.false;
+  others =
+      upper_half c.args.snapshot.now c.recall_rule.ensures.snapshot c.args.sig.now c.requires
+      (c.halves.low + (c.halves.high - c.halves.low) / 2) c.entry.result.now c.entry.ensures.entry
+      c.entry.ensures.degree c.deref-entry.result.now (c.deref-entry.ensures ∙ c.sig.ensures)
+      c.is_lt.result (c.is_lt.ensures ∙ ap is_lt c.cmp.ensures) c.if-is_lt.false;
 }
 
 pub returns : goal.returns
 returns c =
     let same : c.halves.high ≡ c.halves.low = omega arith in
-    lesser_by_numbers c.args.snapshot.now.problem.problem.setting c.args.snapshot.now.state.entries (monomial_of c.args.sig.now) c.halves.low (omega arith) c.halves.invariant.lesser
-    (subst (IsOtherFrom c.args.snapshot.now.problem.problem.setting c.args.snapshot.now.state.entries (monomial_of c.args.sig.now)) same c.halves.invariant.others)
+    lesser_by_numbers c.args.snapshot.now.problem.problem.setting c.args.snapshot.now.state.entries
+        (monomial_of c.args.sig.now) c.halves.low (omega arith) c.halves.invariant.lesser
+    (subst (IsOtherFrom c.args.snapshot.now.problem.problem.setting
+            c.args.snapshot.now.state.entries (monomial_of c.args.sig.now)) same
+          c.halves.invariant.others)

@@ -7,8 +7,10 @@ abbrev pub invariant-halves : goal.invariant-halves
 invariant-halves l = record {
   order : l.low ≤ l.high;
   few : l.high ≤ length l.snapshot.state.entries;
-  lesser : IsLesserTo l.snapshot.problem.problem.setting l.snapshot.state.entries (monomial_of l.sig) l.low;
-  others : IsOtherFrom l.snapshot.problem.problem.setting l.snapshot.state.entries (monomial_of l.sig) l.high;
+  lesser : IsLesserTo l.snapshot.problem.problem.setting l.snapshot.state.entries
+      (monomial_of l.sig) l.low;
+  others : IsOtherFrom l.snapshot.problem.problem.setting l.snapshot.state.entries
+      (monomial_of l.sig) l.high;
 }
 
 abbrev pub decreases-halves : goal.decreases-halves

@@ -5,6 +5,7 @@ use Rattle.nc_options.proofs.fit.is_single.Given as goal
 
 abbrev pub invariant-loop-word : goal.invariant-loop-word
 invariant-loop-word l = record {
-  counts : l.count ≡ count_by (λ w. names_option l.name (string_bytes w)) (take l.word-index l.words);
+  counts : l.count ≡ count_by (λ w. names_option l.name (string_bytes w))
+      (take l.word-index l.words);
   few : l.count ≤ l.word-index;
 }

@@ -16,7 +16,8 @@ use Rattle.nc_options.specs.declared.error.OptionsError.TheVariants.{Usage, Memo
 use Rattle.nc_options.proofs.split.split_words.Goals as goal
 
 -- an error by its cause
-by_cause : (o : Option (List Use)) (e : Error) (r : OptionsError) → IsCause e r → ((kind_of e ≡ OutOfMemory → ⊥) → o ≡ None) → AnswersUses o (Err r)
+by_cause : (o : Option (List Use)) (e : Error) (r : OptionsError) → IsCause e r
+    → ((kind_of e ≡ OutOfMemory → ⊥) → o ≡ None) → AnswersUses o (Err r)
 by_cause o e Usage h g = g h
 by_cause o e (Memory m) h g = tt
 
@@ -31,16 +32,21 @@ pub returns-then-not-are_fit_and_single : goal.returns-then-not-are_fit_and_sing
 returns-then-not-are_fit_and_single c =
     let names = map (λ (n : Bor (List ℕ)). n.now) c.args.names.now in
     not_plain names c.args.takes_number (drop 1 (map string_bytes c.args.words.now))
-    (ap (are_fit_and_single names) (sym (after_first_word string_bytes c.args.words.now)) ∙ sym c.are_fit_and_single.ensures ∙ c.if-not-are_fit_and_single.true)
+    (ap (are_fit_and_single names) (sym (after_first_word string_bytes c.args.words.now))
+          ∙ sym c.are_fit_and_single.ensures ∙ c.if-not-are_fit_and_single.true)
 
 pub returns-in-Ok : goal.returns-in-Ok
 returns-in-Ok c =
     let names = map (λ (n : Bor (List ℕ)). n.now) c.args.names.now in
     let words = map string_bytes c.args.words.now in
     let fit : list_all (is_fit names) (drop 1 words) ≡ true =
-    plain_fit names (drop 1 words) (ap (are_fit_and_single names) (sym (after_first_word string_bytes c.args.words.now)) ∙ sym c.are_fit_and_single.ensures ∙ c.if-not-are_fit_and_single.false) in
-    let app : app_of c.in_ok-command.command ≡ command_for c.args.name.now names c.args.takes_number = search rules in
-    taken c.args.name.now names c.args.takes_number (app_of c.in_ok-command.command) words (found_of c.in-Ok.matches)
+    plain_fit names (drop 1 words)
+        (ap (are_fit_and_single names) (sym (after_first_word string_bytes c.args.words.now))
+          ∙ sym c.are_fit_and_single.ensures ∙ c.if-not-are_fit_and_single.false) in
+    let app : app_of c.in_ok-command.command ≡ command_for c.args.name.now names
+        c.args.takes_number = search rules in
+    taken c.args.name.now names c.args.takes_number (app_of c.in_ok-command.command) words
+        (found_of c.in-Ok.matches)
     (simp length-map (omega arith)) c.requires.named c.requires.apart fit app
     (λ e. c.in-Ok.ensures.kinds e) (λ e. (c.in-Ok.ensures.matches e).0)
 
@@ -49,9 +55,13 @@ returns-in-Err c =
     let names = map (λ (n : Bor (List ℕ)). n.now) c.args.names.now in
     let words = map string_bytes c.args.words.now in
     let fit : list_all (is_fit names) (drop 1 words) ≡ true =
-    plain_fit names (drop 1 words) (ap (are_fit_and_single names) (sym (after_first_word string_bytes c.args.words.now)) ∙ sym c.are_fit_and_single.ensures ∙ c.if-not-are_fit_and_single.false) in
-    let app : app_of c.in_ok-command.command ≡ command_for c.args.name.now names c.args.takes_number = search rules in
+    plain_fit names (drop 1 words)
+        (ap (are_fit_and_single names) (sym (after_first_word string_bytes c.args.words.now))
+          ∙ sym c.are_fit_and_single.ensures ∙ c.if-not-are_fit_and_single.false) in
+    let app : app_of c.in_ok-command.command ≡ command_for c.args.name.now names
+        c.args.takes_number = search rules in
     by_cause _ c.in-Err.error c.cause_of.result c.cause_of.ensures
-    (λ other. refused c.args.name.now names c.args.takes_number (app_of c.in_ok-command.command) words
+    (λ other. refused c.args.name.now names c.args.takes_number (app_of c.in_ok-command.command)
+          words
     (simp length-map (omega arith)) c.requires.named c.requires.apart fit app
     (λ e none. has_fault c.in-Err.error _ other (c.in-Err.ensures.kinds e) none))

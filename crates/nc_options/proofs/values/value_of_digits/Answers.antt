@@ -16,7 +16,8 @@ fits : (v : ℕ) → v < 10 ^ 18 → v < 2 ^ 64
 fits v h = omega arith
 
 -- the text passes the three tests
-tested : (text : List ℕ) → 0 < length text → length text ≤ 18 → list_all is_ascii_digit text ≡ true → digits_of text ≡ Some (digits_value 10 text)
+tested : (text : List ℕ) → 0 < length text → length text ≤ 18 → list_all is_ascii_digit text ≡ true
+    → digits_of text ≡ Some (digits_value 10 text)
 tested text some short digits =
     let is_some : nat_lt 0 (length text) ≡ true = lt-ltb _ _ some in
     let is_short : nat_le (length text) 18 ≡ true = le-leb _ _ short in
@@ -28,5 +29,6 @@ returns c =
     let short : length c.args.text.now ≤ 18 = omega arith in
     let some : 0 < length c.args.text.now = search rules in
     c.ok.ensures.value
-    ∙ ap result_ok (parse_gives own 64 c.args.text.now c.parse.result c.parse.ensures.value.0 digits some (fits _ (digits_value_short own c.args.text.now 18 digits short)))
+    ∙ ap result_ok (parse_gives own 64 c.args.text.now c.parse.result c.parse.ensures.value.0 digits
+          some (fits _ (digits_value_short own c.args.text.now 18 digits short)))
     ∙ sym (tested c.args.text.now some short digits)

@@ -9,7 +9,10 @@ use Rattle.std.proofs.lemmas.Option.{get_or_from_slice_get}
 use Rattle.nc_overlap.proofs.found.lead_of.Goals as goal
 
 pub unreachable-requires : goal.unreachable-requires
-unreachable-requires c = not_zero c.args.snapshot.now c.recall_rule.ensures.snapshot (c.args.n - 1) (entry_of c.entry-entry.result.now) c.entry-entry.ensures.entry (sym c.poly.ensures ∙ c.in_default.ensures.none.0 refl)
+unreachable-requires c =
+    not_zero c.args.snapshot.now c.recall_rule.ensures.snapshot (c.args.n - 1)
+    (entry_of c.entry-entry.result.now) c.entry-entry.ensures.entry
+    (sym c.poly.ensures ∙ c.in_default.ensures.none.0 refl)
 
 pub returns-clause-lead : goal.returns-clause-lead
 returns-clause-lead c d =
@@ -17,9 +20,12 @@ returns-clause-lead c d =
     let s : Setting = x.problem.problem.setting in
     let e : Entry = entry_of c.entry-entry.result.now in
     let sig : c.deref.result.now ≡ c.entry-entry.result.now.sig = c.deref.ensures ∙ c.sig.ensures in
-    subst (IsLedBy s (record { word = c.letters.result; sig = c.deref.result })) (sym (get_or_from_slice_get x.state.entries (c.args.n - 1) e d c.entry-entry.ensures.entry))
+    subst (IsLedBy s (record { word = c.letters.result; sig = c.deref.result }))
+        (sym (get_or_from_slice_get x.state.entries (c.args.n - 1) e d c.entry-entry.ensures.entry))
     (record {
-      lead = leads x c.recall_rule.ensures.snapshot (c.args.n - 1) e c.entry-entry.ensures.entry c.in-Some.term.now c.in-Some.ensures.some.0 (sym c.poly.ensures ∙ c.in-Some.ensures.some.1) ∙ sym c.letters.ensures.letters;
+      lead = leads x c.recall_rule.ensures.snapshot (c.args.n - 1) e c.entry-entry.ensures.entry
+          c.in-Some.term.now c.in-Some.ensures.some.0
+          (sym c.poly.ensures ∙ c.in-Some.ensures.some.1) ∙ sym c.letters.ensures.letters;
       signed = ap monomial_of (sym sig);
     })
 
@@ -29,5 +35,8 @@ returns-clause-over c =
     let sig : c.deref.result.now ≡ c.entry-entry.result.now.sig = c.deref.ensures ∙ c.sig.ensures in
     record {
       degree = subst (HasDegree s) (sym sig) c.entry-entry.ensures.degree;
-      generator = subst (λ (σ : Sig). IsGenerator s σ.generator) (sym sig) (over c.args.snapshot.now c.recall_rule.ensures.snapshot (c.args.n - 1) (entry_of c.entry-entry.result.now) c.entry-entry.ensures.entry);
+      generator =
+          subst (λ (σ : Sig). IsGenerator s σ.generator) (sym sig)
+          (over c.args.snapshot.now c.recall_rule.ensures.snapshot (c.args.n - 1)
+            (entry_of c.entry-entry.result.now) c.entry-entry.ensures.entry);
     }

@@ -4,4 +4,6 @@ use Rattle.std.proofs.Common.{take, ◌++◌, ◌≡◌}
 use Rattle.nc_poly.proofs.multiple.push_pairs.Given as goal
 
 abbrev pub invariant-loop-t : goal.invariant-loop-t
-invariant-loop-t l = listed l.out.items ≡ listed l.initial.out.items ++ multiples_of l.p l.c l.u (take l.t-index l.g) l.v
+invariant-loop-t l =
+    listed l.out.items ≡ listed l.initial.out.items ++ multiples_of l.p l.c l.u (take l.t-index l.g)
+    l.v

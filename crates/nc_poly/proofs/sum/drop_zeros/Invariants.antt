@@ -6,7 +6,8 @@ use Rattle.nc_poly.proofs.sum.drop_zeros.Given as goal
 abbrev pub invariant-loop-map : goal.invariant-loop-map
 invariant-loop-map g l = record {
   terms : terms_by now_of l.map.entries ≡ terms_by now_of l.initial.map.entries;
-  stamps : (pass : ℕ) → All (λ e. e.1.pass ≤ pass) l.initial.map.entries → All (λ e. e.1.pass ≤ pass) l.map.entries;
+  stamps : (pass : ℕ) → All (λ e. e.1.pass ≤ pass) l.initial.map.entries
+      → All (λ e. e.1.pass ≤ pass) l.map.entries;
 }
 
 abbrev pub decreases-loop-map : goal.decreases-loop-map

@@ -3,4 +3,6 @@ use Rattle.std.proofs.Common.{arith}
 use Rattle.nc_print.proofs.module.write_others.Goals as goal
 
 pub returns : goal.returns
-returns c = bare_texts_end c.args.names.now c.args.terms.now c.loop-t.t-index c.args.out.now.items c.loop-t.out.items (omega arith) c.loop-t.invariant
+returns c =
+    bare_texts_end c.args.names.now c.args.terms.now c.loop-t.t-index c.args.out.now.items
+    c.loop-t.out.items (omega arith) c.loop-t.invariant

@@ -7,7 +7,9 @@ use Rattle.nc_reduce.proofs.reduction.reduce_all.Given as goal
 
 abbrev pub invariant-turns : goal.invariant-turns
 invariant-turns l = record {
-  reached : ReducedTo l.snapshot.problem.problem.setting l.snapshot.state.entries (IsBelowSig l.snapshot.problem.problem.setting l.bound) l.initial.rest l.kept.items l.steps.items l.rest;
+  reached : ReducedTo l.snapshot.problem.problem.setting l.snapshot.state.entries
+      (IsBelowSig l.snapshot.problem.problem.setting l.bound) l.initial.rest l.kept.items
+      l.steps.items l.rest;
   normal : IsNormal l.snapshot.problem.problem.setting.prime l.rest;
   small : HasSmallWords l.snapshot.problem.problem.setting l.rest;
 }

@@ -8,7 +8,8 @@ use Rattle.nc_text.proofs.lines.parts_of.Given as goal
 
 abbrev pub invariant-lines : goal.invariant-lines
 invariant-lines l = record {
-  reads : IsOnTheWay l.setting l.lines l.reaches.items l.line (left l.text) (part_lines l.setting [] [] (left l.fn.text));
+  reads : IsOnTheWay l.setting l.lines l.reaches.items l.line (left l.text)
+      (part_lines l.setting [] [] (left l.fn.text));
   reach : l.reach ≡ line_reach l.setting.setting l.reaches.items l.line;
   short : l.reach ≤ 100000;
   reached : All (λ m. m ≤ 100000) l.reaches.items;

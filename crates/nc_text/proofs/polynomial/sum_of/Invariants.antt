@@ -6,7 +6,8 @@ use Rattle.std.proofs.Common.{length}
 
 abbrev pub invariant-terms : goal.invariant-terms
 invariant-terms l = record {
-  reads : IsOnTheWay l.prime l.alphabet l.terms.items l.negative l.line (sum_at l.prime l.alphabet l.fn.line);
+  reads : IsOnTheWay l.prime l.alphabet l.terms.items l.negative l.line
+      (sum_at l.prime l.alphabet l.fn.line);
   residues : AreResidues l.prime l.terms.items;
 }
 

@@ -5,4 +5,7 @@ use Rattle.nc_theory.proofs.Ends.{source}
 use Rattle.nc_theory.proofs.runs.outcomes_exist.Goals as goal
 
 pub returns : goal.returns
-returns c P prime n state last run τ k = handles_exists P.setting (field_from_prime P.setting.prime prime) state (invariant P (field_from_prime P.setting.prime prime) run).sound.nonzero τ (source P (field_from_prime P.setting.prime prime) state τ k)
+returns c P prime n state last run τ k =
+    handles_exists P.setting (field_from_prime P.setting.prime prime) state
+    (invariant P (field_from_prime P.setting.prime prime) run).sound.nonzero τ
+    (source P (field_from_prime P.setting.prime prime) state τ k)

@@ -3,4 +3,5 @@ use Rattle.nc_theory.proofs.Completeness.{invariant}
 use Rattle.nc_theory.proofs.runs.runs_are_sound.Goals as goal
 
 pub returns : goal.returns
-returns c P prime n state last run = (invariant P (field_from_prime P.setting.prime prime) run).sound
+returns c P prime n state last run =
+    (invariant P (field_from_prime P.setting.prime prime) run).sound

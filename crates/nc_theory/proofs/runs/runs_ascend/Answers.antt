@@ -13,11 +13,23 @@ use Rattle.std.proofs.Common.{Contains, Option, [], append-nil, subst, sym, ℕ,
 use Rattle.nc_theory.proofs.runs.runs_ascend.Goals as goal
 
 -- the earlier entry would give a regular divisor of the later one's leading word
-leading_differ : (P : Problem) → IsField P.setting.prime → {n : ℕ} {state : State} {last : Option Monomial} → SequentialRun P n state last → (e e' : Entry) (k : Contains state.entries e) (k' : Contains state.entries e') → k.0 < k'.0 → leading P.setting.prime e.polynomial ≢ leading P.setting.prime e'.polynomial
-leading_differ P field run e e' k k' l i = (invariant P field run).clear e' k' (leading P.setting.prime e'.polynomial) (lead_leads P.setting.prime e'.polynomial ((invariant P field run).sound.nonzero e' k')).nonzero (record {
-  divisor = record { entry = e; listed = k; left = []; right = []; spells = append-nil (leading P.setting.prime e.polynomial) ∙ i };
-  below = subst (λ σ. IsLess P.setting σ e'.signature) (sym (whole_multiple e.signature)) ((rebuilt P field run).entries_ascend e e' k k' l);
+leading_differ : (P : Problem) → IsField P.setting.prime
+    → {n : ℕ} {state : State} {last : Option Monomial} → SequentialRun P n state last
+    → (e e' : Entry) (k : Contains state.entries e) (k' : Contains state.entries e') → k.0 < k'.0
+    → leading P.setting.prime e.polynomial ≢ leading P.setting.prime e'.polynomial
+leading_differ P field run e e' k k' l i =
+    (invariant P field run).clear e' k' (leading P.setting.prime e'.polynomial)
+    (lead_leads P.setting.prime e'.polynomial ((invariant P field run).sound.nonzero e' k')).nonzero
+    (record {
+  divisor =
+      record { entry = e; listed = k;
+        left = []; right = []; spells = append-nil (leading P.setting.prime e.polynomial) ∙ i };
+  below = subst (λ σ. IsLess P.setting σ e'.signature) (sym (whole_multiple e.signature))
+      ((rebuilt P field run).entries_ascend e e' k k' l);
 })
 
 pub returns : goal.returns
-returns c P prime n state last run = ((rebuilt P (field_from_prime P.setting.prime prime) run).entries_ascend, (rebuilt P (field_from_prime P.setting.prime prime) run).syzygies_ascend, leading_differ P (field_from_prime P.setting.prime prime) run)
+returns c P prime n state last run =
+    ((rebuilt P (field_from_prime P.setting.prime prime) run).entries_ascend,
+      (rebuilt P (field_from_prime P.setting.prime prime) run).syzygies_ascend,
+      leading_differ P (field_from_prime P.setting.prime prime) run)

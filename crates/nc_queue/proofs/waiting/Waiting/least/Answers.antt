@@ -5,4 +5,7 @@ use Rattle.nc_queue.proofs.waiting.Waiting.least.Goals as goal
 use Rattle.nc_queue.proofs.Mapped.{first_map}
 
 pub returns-clause-least : goal.returns-clause-least
-returns-clause-least c = subst (λ l. IfSome c.first.result (λ s. (x : List Value) × (l ≡ arc_value s.now ∷ x))) c.self.view_is (first_map arc_value c.self.inside.kept.keys c.first.result c.first.ensures.first)
+returns-clause-least c =
+    subst (λ l. IfSome c.first.result (λ s. (x : List Value) × (l ≡ arc_value s.now ∷ x)))
+    c.self.view_is (first_map arc_value c.self.inside.kept.keys c.first.result
+      c.first.ensures.first)

@@ -6,7 +6,8 @@ use Rattle.nc_words.proofs.joined.Joined.compare_letters.Given as goal
 
 abbrev pub invariant-loop-count : goal.invariant-loop-count
 invariant-loop-count l = record {
-  same : slice_cmp compare_letters (joined_word l.self) (joined_word l.other) ≡ slice_cmp compare_letters (joined_word l.a) (joined_word l.b);
+  same : slice_cmp compare_letters (joined_word l.self) (joined_word l.other) ≡ slice_cmp
+      compare_letters (joined_word l.a) (joined_word l.b);
   first : l.a.first.now ≡ [] → joined_word l.a ≡ [];
   second : l.b.first.now ≡ [] → joined_word l.b ≡ [];
 }
