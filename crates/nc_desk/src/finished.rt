@@ -53,7 +53,7 @@ impl Finished {
         }
     }
 
-    /// Tells the proof, where it stands, what always holds of a finished run. It does nothing.
+    /// Makes known to the prover what always holds of a finished run. It does nothing else.
     pub fn recall_rule(&self)
         ensures ended { IsEndAt self.now.snapshot self.now.ending }
     {

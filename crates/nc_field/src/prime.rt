@@ -55,7 +55,7 @@ impl Prime {
         }
     }
 
-    /// Tells the proof, where it stands, what always holds of a prime. It does nothing.
+    /// Makes known to the prover what always holds of a prime. It does nothing else.
     pub fn recall_rule(&self)
         ensures prime { IsPrime self.now }
         ensures listed { IsTrue (is_listed_prime self.now) }

@@ -92,7 +92,7 @@ impl Alphabet {
         same_names(self.names(), other.names()) && self.weights() == other.weights()
     }
 
-    /// Tells the proof, where it stands, what always holds of an alphabet. It does nothing.
+    /// Makes known to the prover what always holds of an alphabet. It does nothing else.
     pub fn recall_rule(&self)
         ensures alphabet { IsAlphabet self.now }
     {

@@ -211,7 +211,7 @@ impl Module {
         }
     }
 
-    /// Tells the proof, where it stands, what always holds of a module element. It does nothing.
+    /// Makes known to the prover what always holds of a module element. It does nothing else.
     pub fn recall_rule(&self)
         ensures descending { Descends compare_sigs self.now }
     {

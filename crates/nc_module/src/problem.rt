@@ -81,7 +81,7 @@ impl Problem {
         }
     }
 
-    /// Tells the proof, where it stands, what always holds of a problem. It does nothing.
+    /// Makes known to the prover what always holds of a problem. It does nothing else.
     pub fn recall_rule(&self)
         ensures problem { IsProblem self.now }
     {

@@ -79,7 +79,7 @@ impl Setting {
             && same_polynomials(self.generators(), other.generators())
     }
 
-    /// Tells the proof, where it stands, what always holds of a setting. It does nothing.
+    /// Makes known to the prover what always holds of a setting. It does nothing else.
     pub fn recall_rule(&self)
         ensures setting { IsSetting self.now }
     {

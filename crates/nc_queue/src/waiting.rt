@@ -96,7 +96,7 @@ impl Waiting {
         }
     }
 
-    /// Tells the proof, where it stands, what always holds of waiting signatures. It does nothing.
+    /// Makes known to the prover what always holds of waiting signatures. It does nothing else.
     pub fn recall_rule(&self)
         ensures ascending { IsAscending self.now }
     {

@@ -58,7 +58,7 @@ impl Snapshot {
         }
     }
 
-    /// Tells the proof, where it stands, what always holds of a snapshot. It does nothing.
+    /// Makes known to the prover what always holds of a snapshot. It does nothing else.
     pub fn recall_rule(&self)
         ensures snapshot { IsSnapshot self.now }
     {
