@@ -1,9 +1,4 @@
--- What the tests for covered signatures find.
---
--- A trivial syzygy signature is found by places, as `ApartAt` says it: a multiple with
--- signature τ has the word w and its leading word from place k up to n, and some other leading word
--- stands in w before k or behind n, with a lesser signature. So the test looks for a place in one
--- word, and tries no words between two entries.
+-- What the test for listed syzygies finds. `nc_criteria` tells what the one for trivial ones finds.
 use Rattle.nc_algebra.specs.Monomials.{Divides, Monomial}
 use Rattle.nc_theory.specs.States.{Syzygy}
 use Rattle.std.specs.Prelude.{Contains, List}
