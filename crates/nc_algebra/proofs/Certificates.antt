@@ -12,8 +12,8 @@ use Rattle.std.proofs.Common.{List, [], ap, arith, subst, sym, ℕ, ◌%◌, ◌
 use Rattle.std.proofs.lemmas.List.Elements.{All-from_recursion}
 
 module _ (p : ℕ) (some : 0 < p) where
-  difference_at : (f g : Polynomial) (x : Word) → coefficient (minus p f 1 g) x ≡ coefficient f
-      x + (p - 1) * coefficient g x
+  difference_at : (f g : Polynomial) (x : Word) → coefficient (minus p f 1 g) x ≡ coefficient f x
+      + (p - 1) * coefficient g x
   difference_at f g x = coefficient-minus same_word IsWordLess word_laws p f 1 g x ∙ omega arith
 
   -- the difference of equal polynomials has an empty normal form
@@ -22,8 +22,7 @@ module _ (p : ℕ) (some : 0 < p) where
   difference_empty f g e =
       sym (normal_form_only p (minus p f 1 g) [] some
         (tt, All-from_recursion (λ t. t.coefficient < p) [] tt) record
-        { at = λ x. zero_number p ∙ sym
-          (subst (IsZero p) (sym (difference_at f g x))
+        { at = λ x. zero_number p ∙ sym (subst (IsZero p) (sym (difference_at f g x))
             (zero_from_same p (coefficient f x) (coefficient g x) some (sym (e.at x)))) })
 
   -- and where it is empty they are equal

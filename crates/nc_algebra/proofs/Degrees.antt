@@ -52,7 +52,7 @@ module _ (s : Setting) where
       → degree_of (generator_weight s) σ ≤ degree_of (generator_weight s) τ
   degrees σ τ (inl e) =
       let d : degree_of (generator_weight s) σ ≡ degree_of (generator_weight s) τ =
-      ap (degree_of (generator_weight s)) e in omega (arith, d)
+          ap (degree_of (generator_weight s)) e in omega (arith, d)
   degrees σ τ (inr (inl h)) = omega arith
   degrees σ τ (inr (inr (e, h))) = omega (arith, e)
 
@@ -72,8 +72,8 @@ module _ (s : Setting) where
       each l σ =
           elim (zero_dec s.prime (coefficient_by same_monomial α σ))
           [ inl z ↦ inl z | inr nz ↦ inr
-            (image_limited σ x (let k : degree_of (generator_weight s) σ ≤ degree_of
-                (generator_weight s) τ = degrees σ τ
+            (image_limited σ x (let k : degree_of (generator_weight s) σ
+                ≤ degree_of (generator_weight s) τ = degrees σ τ
                 (below_lead same_monomial (IsLess s) (monomial_laws (generator_weight s)) s.prime α
                   τ σ d nz) in omega arith)) ]
 

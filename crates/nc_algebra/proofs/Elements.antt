@@ -30,12 +30,13 @@ module _ (s : Setting) where
       (λ σ. polynomial_times σ.left (generator s σ.generator) σ.right) α
 
   pub evaluation-minus : (α : Element) (c : ℕ) (β : Element) (y : Word)
-      → coefficient (evaluation s (minus s.prime α c β)) y ≡ coefficient (evaluation s α)
-      y + (s.prime - 1) * c * coefficient (evaluation s β) y
+      → coefficient (evaluation s (minus s.prime α c β)) y ≡ coefficient (evaluation s α) y
+      + (s.prime - 1) * c * coefficient (evaluation s β) y
   evaluation-minus α c β y =
       coefficient-evaluation (minus s.prime α c β) y
-      ∙ (linear_sum-append (image s y) α (scale ((s.prime - 1) * c) β) ∙ ap₂ (λ a b. a + b)
-        (sym (coefficient-evaluation α y)) (linear_sum-scale (image s y) ((s.prime - 1) * c) β
+      ∙ (linear_sum-append (image s y) α (scale ((s.prime - 1) * c) β)
+        ∙ ap₂ (λ a b. a + b) (sym (coefficient-evaluation α y))
+        (linear_sum-scale (image s y) ((s.prime - 1) * c) β
           ∙ ap (λ n. (s.prime - 1) * c * n) (sym (coefficient-evaluation β y))))
 
   pub evaluation-times : (u : Word) (α : Element) (v : Word) (y : Word)
@@ -78,8 +79,8 @@ module _ (s : Setting) where
               g))) }
 
   pub evaluation_times : (u : Word) (α : Element) (f : Polynomial) (v : Word) → 0 < s.prime
-      → SamePolynomial s (evaluation s α) f → SamePolynomial s (evaluation s (element_times u α v))
-      (polynomial_times u f v)
+      → SamePolynomial s (evaluation s α) f
+      → SamePolynomial s (evaluation s (element_times u α v)) (polynomial_times u f v)
   evaluation_times u α f v h e =
       record { at = λ y. ap (λ n. n % s.prime) (evaluation-times u α v y)
         ∙ (same_times u (evaluation s α) f v h e).at y }
@@ -181,8 +182,8 @@ module _ (s : Setting) where
 
   -- a monomial less, or nothing at all, is left where the greatest monomial is struck out
   pub strike_top : (α : Element) (c : ℕ) (δ : Element) (τ : Monomial) → 0 < s.prime
-      → IsSignatureOf s α τ → IsSignatureOf s δ τ
-      → coefficient_by same_monomial α τ % s.prime ≡ c * coefficient_by same_monomial δ τ % s.prime
+      → IsSignatureOf s α τ → IsSignatureOf s δ τ → coefficient_by same_monomial α τ % s.prime ≡ c
+      * coefficient_by same_monomial δ τ % s.prime
       → ((σ : Monomial) → IsZero s.prime (coefficient_by same_monomial (minus s.prime α c δ) σ))
       ⊎ ((σ : Monomial) × IsLess s σ τ × IsSignatureOf s (minus s.prime α c δ) σ)
   strike_top α c δ τ h d e q =

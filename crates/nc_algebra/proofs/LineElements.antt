@@ -68,8 +68,8 @@ module _ {K L : Type 0} where
   substitute-scale φ c [] = refl
   substitute-scale φ c (t ∷ f) =
       ap₂ (λ (g h : List (Term L)). g ++ h) (scale-scale c t.coefficient (φ t.key))
-      (substitute-scale φ c f) ∙ sym
-      (scale-append c (scale t.coefficient (φ t.key)) (substitute f φ))
+      (substitute-scale φ c f) ∙ sym (scale-append c (scale t.coefficient (φ t.key))
+        (substitute f φ))
 
 -- ---- evaluation
 
@@ -105,8 +105,8 @@ module _ (s : Setting) where
 
   -- ---- lines
 
-  item-values : (elements : List Element) (k : ℕ) → item [] (map (evaluation s) elements)
-      k ≡ evaluation s (item [] elements k)
+  item-values : (elements : List Element) (k : ℕ)
+      → item [] (map (evaluation s) elements) k ≡ evaluation s (item [] elements k)
   item-values elements zero = refl
   item-values elements (suc k) = get_or-map (evaluation s) elements k []
 
@@ -122,8 +122,8 @@ module _ (s : Setting) where
   part_evaluates elements part =
       ap (λ (f : Polynomial). scale part.coefficient (polynomial_times part.left f part.right))
           (factor_evaluates elements part.of)
-      ∙ ap (scale part.coefficient) (sym
-            (evaluation-multiple part.left (factor_element elements part.of) part.right))
+      ∙ ap (scale part.coefficient) (sym (evaluation-multiple part.left
+              (factor_element elements part.of) part.right))
       ∙ sym (substitute-scale (λ σ. polynomial_times σ.left (generator s σ.generator) σ.right)
             part.coefficient (element_times part.left (factor_element elements part.of) part.right))
 
@@ -150,8 +150,8 @@ module _ (s : Setting) where
       ∙ lines_evaluate (elements ++ line_element elements line ∷ []) lines
 
   -- the value of the last line is what its element evaluates to
-  pub value_evaluates : (lines : List Line) → evaluation s (lines_element lines) ≡ lines_value s
-      lines
+  pub value_evaluates : (lines : List Line)
+      → evaluation s (lines_element lines) ≡ lines_value s lines
   value_evaluates lines =
       sym (ap (λ (values : List Polynomial). item [] values (length lines))
         (lines_evaluate [] lines) ∙ item-values (elements_after [] lines) (length lines))
@@ -223,9 +223,9 @@ module _ (s : NamedSetting) where
       generated-append s.setting (part_element elements part) (line_element elements line)
       (part_generated elements reaches part a h.0) (line_generated elements reaches line a h.1)
 
-  all_pushed : (elements : List Element) (α : Element) → AllByRecursion (AreGenerated s.setting)
-      elements → AreGenerated s.setting α → AllByRecursion (AreGenerated s.setting)
-      (elements ++ α ∷ [])
+  all_pushed : (elements : List Element) (α : Element)
+      → AllByRecursion (AreGenerated s.setting) elements → AreGenerated s.setting α
+      → AllByRecursion (AreGenerated s.setting) (elements ++ α ∷ [])
   all_pushed [] α a h = (h, tt)
   all_pushed (β ∷ elements) α a h = (a.0, all_pushed elements α a.1 h)
 

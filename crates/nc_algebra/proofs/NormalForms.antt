@@ -127,8 +127,8 @@ module _ (p : ℕ) where
   led_same c v f x = go (nat_eq (c % p) 0) refl
     where
       go : (b : Bool) → nat_eq (c % p) 0 ≡ b
-          → coefficient (cond b f (record { coefficient = c % p; key = v } ∷ f))
-          x % p ≡ (c * is_at same_word x v + coefficient f x) % p
+          → coefficient (cond b f (record { coefficient = c % p; key = v } ∷ f)) x
+          % p ≡ (c * is_at same_word x v + coefficient f x) % p
       go true e =
           sym (sym (scaled c (is_at same_word x v) (coefficient f x))
             ∙ ap (λ n. n % p) (let z : c % p ≡ 0 = eqb-true (c % p) 0 e in
@@ -153,8 +153,8 @@ module _ (p : ℕ) where
       go false e = (positive (c % p) e, a, d)
 
   led_residues : (c : ℕ) (v : Word) (f : Polynomial) → 0 < p
-      → AllByRecursion (λ t. t.coefficient < p) f → AllByRecursion (λ t. t.coefficient < p)
-      (led_by p c v f)
+      → AllByRecursion (λ t. t.coefficient < p) f
+      → AllByRecursion (λ t. t.coefficient < p) (led_by p c v f)
   led_residues c v f some r = go (nat_eq (c % p) 0)
     where
       go : (b : Bool) → AllByRecursion (λ t. t.coefficient < p)
@@ -196,8 +196,8 @@ module _ (p : ℕ) where
           led_descends t.coefficient t.key (u ∷ f) (m, all_less_trans u.key t.key f m d.1) d
 
   with_term_residues : (t : Term Word) (f : Polynomial) → 0 < p
-      → AllByRecursion (λ t. t.coefficient < p) f → AllByRecursion (λ t. t.coefficient < p)
-      (with_term p t f)
+      → AllByRecursion (λ t. t.coefficient < p) f
+      → AllByRecursion (λ t. t.coefficient < p) (with_term p t f)
   unfolding with_term
   with_term_residues t [] some r = led_residues t.coefficient t.key [] some tt
   with_term_residues t (u ∷ f) some r =
@@ -229,8 +229,8 @@ module _ (p : ℕ) where
               ∙ ap (λ n. n % p) (omega arith)))
       go Equal m h =
           led_same (t.coefficient + u.coefficient) u.key f x
-          ∙ ap (λ n. n % p) (let e : is_at same_word x t.key ≡ is_at same_word x u.key = ap
-            (is_at same_word x) m in omega (arith, ap (λ n. t.coefficient * n) e))
+          ∙ ap (λ n. n % p) (let e : is_at same_word x t.key ≡ is_at same_word x
+            u.key = ap (is_at same_word x) m in omega (arith, ap (λ n. t.coefficient * n) e))
       go Greater m h = led_same t.coefficient t.key (u ∷ f) x
 
   pub normal_form_descends : (f : Polynomial) → IsDescending (normal_form p f)
@@ -238,15 +238,15 @@ module _ (p : ℕ) where
   normal_form_descends [] = tt
   normal_form_descends (t ∷ f) = with_term_descends t (normal_form p f) (normal_form_descends f)
 
-  normal_form_residues : (f : Polynomial) → 0 < p → AllByRecursion (λ t. t.coefficient < p)
-      (normal_form p f)
+  normal_form_residues : (f : Polynomial) → 0 < p
+      → AllByRecursion (λ t. t.coefficient < p) (normal_form p f)
   unfolding normal_form
   normal_form_residues [] some = tt
   normal_form_residues (t ∷ f) some =
       with_term_residues t (normal_form p f) some (normal_form_residues f some)
 
-  normal_form_at : (f : Polynomial) (x : Word) → coefficient (normal_form p f) x % p ≡ coefficient f
-      x % p
+  normal_form_at : (f : Polynomial) (x : Word)
+      → coefficient (normal_form p f) x % p ≡ coefficient f x % p
   unfolding normal_form
   normal_form_at [] x = refl
   normal_form_at (t ∷ f) x =

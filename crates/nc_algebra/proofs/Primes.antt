@@ -51,8 +51,8 @@ inverse_below p prime = nat_ind (λ a. 0 < a → a < p → (i : ℕ) × (a * i %
             no_divisor (inr d) = omega arith
         go (inr (inr b)) (suc r) e =
             let below : p % a < a =
-            mod-lt p l in let t : (i : ℕ) × ((p % a) * i % p ≡ 1) =
-            before (p % a) below (omega arith) (omega arith) in
+                mod-lt p l in let t : (i : ℕ) × ((p % a) * i % p ≡ 1) =
+                before (p % a) below (omega arith) (omega arith) in
             ((p - 1) * (p / a) * t.0, step p a t.0 l h t.1)
 
 pub field_from_prime : (p : ℕ) → IsPrime p → IsField p
@@ -61,8 +61,8 @@ field_from_prime p prime = record { above_one = prime.above_one; inverse = each 
     each : (a : ℕ) → ¬ IsZero p a → (i : ℕ) × (a * i % p ≡ 1)
     each a n =
         let below : a % p < p =
-        mod-lt a (omega (arith, prime.above_one)) in let t : (i : ℕ) × ((a % p) * i % p ≡ 1) =
-        inverse_below p prime (a % p) (positive (a % p) n) below in
+            mod-lt a (omega (arith, prime.above_one)) in let t : (i : ℕ) × ((a % p) * i % p ≡ 1) =
+            inverse_below p prime (a % p) (positive (a % p) n) below in
         (t.0, sym (mul-mod_first a t.0 p) ∙ t.1)
       where
         positive : (m : ℕ) → ¬ (m ≡ 0) → 0 < m

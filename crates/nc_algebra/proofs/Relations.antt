@@ -82,8 +82,9 @@ module _ (s : Setting) where
           ∙ (linear_sum_cong same_word IsWordLess word_laws s.prime
             (λ w. coefficient (evaluation s (element_times [] α (m ++ w))) y)
             (λ w. coefficient (polynomial_times [] g (m ++ w)) y) g' pos
-            (λ w. (evaluation_times s [] α g (m ++ w) pos e).at y) ∙ ap (λ n. n % s.prime)
-            (linear_sum-ext (λ w. coefficient (polynomial_times [] g (m ++ w)) y)
+            (λ w. (evaluation_times s [] α g (m ++ w) pos e).at y)
+            ∙ ap (λ n. n % s.prime) (linear_sum-ext
+              (λ w. coefficient (polynomial_times [] g (m ++ w)) y)
               (λ w. linear_sum (λ x. is_at same_word y ([] ++ (x ++ (m ++ w)))) g) g'
               (λ w. linear_sum-map_keys (is_at same_word y) (λ x. [] ++ (x ++ (m ++ w))) g)))
 
@@ -94,8 +95,9 @@ module _ (s : Setting) where
           ∙ (linear_sum_cong same_word IsWordLess word_laws s.prime
             (λ x. coefficient (evaluation s (element_times (x ++ m) α' [])) y)
             (λ x. coefficient (polynomial_times (x ++ m) g' []) y) g pos
-            (λ x. (evaluation_times s (x ++ m) α' g' [] pos e').at y) ∙ ap (λ n. n % s.prime)
-            (linear_sum-ext (λ x. coefficient (polynomial_times (x ++ m) g' []) y)
+            (λ x. (evaluation_times s (x ++ m) α' g' [] pos e').at y)
+            ∙ ap (λ n. n % s.prime) (linear_sum-ext
+              (λ x. coefficient (polynomial_times (x ++ m) g' []) y)
               (λ x. linear_sum (λ w. is_at same_word y ((x ++ m) ++ (w ++ []))) g') g
               (λ x. linear_sum-map_keys (is_at same_word y) (λ w. (x ++ m) ++ (w ++ [])) g')))
 
@@ -126,12 +128,12 @@ module _ (s : Setting) where
         (e.at y))
 
   -- the relation behind a trivial signature
-  pub trivial_relation : IsField s.prime → (ρ : Monomial) (g g' : Polynomial) (w w' : Word)
-      (σ σ' : Monomial) (α α' : Element) (m : Word) → IsLeadingWord s g w → IsLeadingWord s g' w'
-      → IsLabelled s σ g α → IsLabelled s σ' g' α'
-      → (IsLess s (times (w ++ m) σ' []) (times [] σ (m ++ w')) × (ρ ≡ times [] σ (m ++ w')))
-      ⊎ (IsLess s (times [] σ (m ++ w')) (times (w ++ m) σ' []) × (ρ ≡ times (w ++ m) σ' []))
-      → Relation s ρ
+  pub trivial_relation : IsField s.prime
+      → (ρ : Monomial) (g g' : Polynomial) (w w' : Word) (σ σ' : Monomial) (α α' : Element)
+      (m : Word) → IsLeadingWord s g w → IsLeadingWord s g' w' → IsLabelled s σ g α
+      → IsLabelled s σ' g' α' → (IsLess s (times (w ++ m) σ' []) (times [] σ (m ++ w'))
+        × (ρ ≡ times [] σ (m ++ w'))) ⊎ (IsLess s (times [] σ (m ++ w')) (times (w ++ m) σ' [])
+        × (ρ ≡ times (w ++ m) σ' [])) → Relation s ρ
   trivial_relation field ρ g g' w w' σ σ' α α' m d d' l l' (inl (less, is)) = record {
     element = minus s.prime (right_side α m g') 1 (left_side g m α');
     lies = in_minus s (right_side α m g') 1 (left_side g m α')

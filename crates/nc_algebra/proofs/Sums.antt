@@ -71,8 +71,8 @@ module _ {K L : Type 0} where
   linear_sum_swap H (t ∷ f) g = omega (arith, linear_sum_swap H f g, split g)
     where
       split : (g : List (Term L)) → linear_sum
-          (λ y. t.coefficient * H t.key y + linear_sum (λ x. H x y) f)
-          g ≡ t.coefficient * linear_sum (H t.key) g + linear_sum (λ y. linear_sum (λ x. H x y) f) g
+          (λ y. t.coefficient * H t.key y + linear_sum (λ x. H x y) f) g ≡ t.coefficient
+          * linear_sum (H t.key) g + linear_sum (λ y. linear_sum (λ x. H x y) f) g
       split [] = omega arith
       split (s ∷ g) = omega (arith, split g)
 
@@ -144,9 +144,9 @@ module _ {K : Type 0} (same : K → K → Bool) (less : K → K → Type 0) (law
   linear_sum-without F k [] = omega arith
   linear_sum-without F k (t ∷ f) = go (same k t.key) refl (linear_sum-without F k f)
     where
-      go : (b : Bool) → same k t.key ≡ b → linear_sum F f ≡ coefficient_by same f k * F
-          k + linear_sum F (without same k f) → linear_sum F (t ∷ f) ≡ coefficient_by same (t ∷ f)
-          k * F k + linear_sum F (without same k (t ∷ f))
+      go : (b : Bool) → same k t.key ≡ b → linear_sum F f ≡ coefficient_by same f k * F k
+          + linear_sum F (without same k f) → linear_sum F (t ∷ f) ≡ coefficient_by same (t ∷ f) k
+          * F k + linear_sum F (without same k (t ∷ f))
       go true e h = rw (e, ← (ap F (laws.same_eq k t.key e))) (omega (arith, h))
       go false e h = rw e (omega (arith, h))
 
@@ -171,24 +171,24 @@ module _ {K : Type 0} (same : K → K → Bool) (less : K → K → Type 0) (law
       omega (arith, linear_sum-without (is_at same x) k f,
         ap (λ n. coefficient_by same f k * n) (at_other x k n))
 
-  without_head : (t : Term K) (f : List (Term K)) → without same t.key (t ∷ f) ≡ without same t.key
-      f
+  without_head : (t : Term K) (f : List (Term K))
+      → without same t.key (t ∷ f) ≡ without same t.key f
   unfolding without
   without_head t f = rw (laws.same_refl t.key)
 
-  rest_self : (t : Term K) (f : List (Term K)) → coefficient_by same (without same t.key f)
-      t.key ≡ 0
+  rest_self : (t : Term K) (f : List (Term K)) → coefficient_by same (without same t.key f) t.key
+      ≡ 0
   rest_self t f = coef_without_self t.key f
 
   rest_other : (t : Term K) (f : List (Term K)) (x : K) → x ≢ t.key
       → coefficient_by same (without same t.key f) x ≡ coefficient_by same (t ∷ f) x
   rest_other t f x n =
-      ap (λ g. coefficient_by same g x) (sym (without_head t f)) ∙ coef_without_other t.key x
-      (t ∷ f) n
+      ap (λ g. coefficient_by same g x) (sym (without_head t f))
+      ∙ coef_without_other t.key x (t ∷ f) n
 
   rest_weigh : (F : K → ℕ) (t : Term K) (f : List (Term K))
-      → linear_sum F (t ∷ f) ≡ coefficient_by same (t ∷ f) t.key * F t.key + linear_sum F
-      (without same t.key f)
+      → linear_sum F (t ∷ f) ≡ coefficient_by same (t ∷ f) t.key * F t.key
+      + linear_sum F (without same t.key f)
   rest_weigh F t f =
       linear_sum-without F t.key (t ∷ f)
       ∙ ap (λ g. coefficient_by same (t ∷ f) t.key * F t.key + linear_sum F g) (without_head t f)
@@ -240,8 +240,8 @@ module _ {K : Type 0} (same : K → K → Bool) (less : K → K → Type 0) (law
             ↦ inr z ]
 
   pub coefficient-minus : (p : ℕ) (f : List (Term K)) (c : ℕ) (g : List (Term K)) (x : K)
-      → coefficient_by same (minus p f c g) x ≡ coefficient_by same f
-      x + (p - 1) * c * coefficient_by same g x
+      → coefficient_by same (minus p f c g) x ≡ coefficient_by same f x + (p - 1) * c
+      * coefficient_by same g x
   coefficient-minus p f c g x =
       linear_sum-append (is_at same x) f (scale ((p - 1) * c) g)
       ∙ ap (λ n. coefficient_by same f x + n) (linear_sum-scale (is_at same x) ((p - 1) * c) g)
@@ -251,8 +251,8 @@ module _ {K : Type 0} (same : K → K → Bool) (less : K → K → Type 0) (law
       → linear_sum F f % p ≡ linear_sum F g % p
   linear_sum_same p F f g h s =
       same_from_zero p (linear_sum F f) (linear_sum F g) h
-      (subst (IsZero p) (linear_sum-append F f (scale (p - 1) g) ∙ ap (λ n. linear_sum F f + n)
-          (linear_sum-scale F (p - 1) g))
+      (subst (IsZero p) (linear_sum-append F f (scale (p - 1) g)
+          ∙ ap (λ n. linear_sum F f + n) (linear_sum-scale F (p - 1) g))
         (linear_sum_zero p F (f ++ scale (p - 1) g) (λ x. inl (each x))))
     where
       each : (x : K) → IsZero p (coefficient_by same (f ++ scale (p - 1) g) x)
@@ -409,14 +409,15 @@ module _ {K L : Type 0} (same : K → K → Bool) (less : K → K → Type 0) (l
           elim (zero_dec p (coefficient_by same g x))
           [ inl z ↦ inl z | inr nz ↦ inr (below x n (below_lead same less laws p g k x d nz)) ]
 
-      go : (r : ℕ) × (linear_sum (λ x. coefficient_by same' (φ x) (ψ k)) g ≡ coefficient_by same g
-            k * coefficient_by same' (φ k) (ψ k) + r) × IsZero p r
-          → coefficient_by same' (substitute g φ) (ψ k) % p ≡ coefficient_by same g
-          k * coefficient_by same' (φ k) (ψ k) % p
+      go : (r : ℕ) × (linear_sum (λ x. coefficient_by same' (φ x) (ψ k)) g ≡ coefficient_by same g k
+            * coefficient_by same' (φ k) (ψ k) + r) × IsZero p r
+          → coefficient_by same' (substitute g φ) (ψ k) % p ≡ coefficient_by same g k
+          * coefficient_by same' (φ k) (ψ k) % p
       go (r, e, z) = same_plus_zero p _ _ r (coefficient-substitute g φ (ψ k) ∙ e) z
 
-  pub leads_substitute : (p : ℕ) → IsField p → (g : List (Term K)) (k : K) (φ : K → List (Term L))
-      (ψ : K → L) → ((x y : K) → less x y → less' (ψ x) (ψ y))
+  pub leads_substitute : (p : ℕ) → IsField p
+      → (g : List (Term K)) (k : K) (φ : K → List (Term L)) (ψ : K → L)
+      → ((x y : K) → less x y → less' (ψ x) (ψ y))
       → ((x : K) → IsLeadingKey same' less' p (φ x) (ψ x)) → IsLeadingKey same less p g k
       → IsLeadingKey same' less' p (substitute g φ) (ψ k)
   leads_substitute p field g k φ ψ up leads d = record {
@@ -444,17 +445,16 @@ module _ {K L : Type 0} (same : K → K → Bool) (less : K → K → Type 0) (l
       → coefficient_by same' (map_keys φ g) (φ k) % p ≡ coefficient_by same g k % p
   coefficient_map_keys p g k φ up =
       go (linear_sum_one same less laws p (λ x. is_at same' (φ k) (φ x)) g k
-        (λ x n. inr (subst (IsZero p) (sym
-              (at_other same' less' laws' (φ k) (φ x) (λ e. apart x n e (laws.total x k))))
-            (zero_number p))))
+        (λ x n. inr (subst (IsZero p) (sym (at_other same' less' laws' (φ k) (φ x)
+              (λ e. apart x n e (laws.total x k)))) (zero_number p))))
     where
       apart : (x : K) → x ≢ k → φ k ≡ φ x → less x k ⊎ ((x ≡ k) ⊎ less k x) → ⊥
       apart x n e (inl h) = laws'.irrefl (φ k) (subst (λ y. less' y (φ k)) (sym e) (up x k h))
       apart x n e (inr (inl d)) = n d
       apart x n e (inr (inr h)) = laws'.irrefl (φ k) (subst (less' (φ k)) (sym e) (up k x h))
 
-      go : (r : ℕ) × (linear_sum (λ x. is_at same' (φ k) (φ x)) g ≡ coefficient_by same g k * is_at
-            same' (φ k) (φ k) + r) × IsZero p r
+      go : (r : ℕ) × (linear_sum (λ x. is_at same' (φ k) (φ x)) g ≡ coefficient_by same g k
+            * is_at same' (φ k) (φ k) + r) × IsZero p r
           → coefficient_by same' (map_keys φ g) (φ k) % p ≡ coefficient_by same g k % p
       go (r, e, z) =
           same_plus_zero p _ _ r (linear_sum-map_keys (is_at same' (φ k)) φ g

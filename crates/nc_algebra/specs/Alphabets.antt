@@ -23,8 +23,8 @@ is_name_byte b = is_ascii_alphanumeric b || (b == 95)
 -- an ASCII letter, and then letters, digits and underscores, at most 16 in all
 abbrev pub is_name : List ℕ → Bool
 is_name bytes =
-    nat_le (length bytes) 16 && (is_ascii_alphabetic (slice_index bytes 0) && list_all is_name_byte
-      bytes)
+    nat_le (length bytes) 16 && (is_ascii_alphabetic (slice_index bytes 0)
+      && list_all is_name_byte bytes)
 
 -- ---- alphabets
 

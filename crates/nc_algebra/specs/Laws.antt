@@ -63,8 +63,9 @@ Inverses = (p : ℕ) → IsPrime p → (a : ℕ) → ¬ IsZero p a → (b : ℕ)
 -- code that keeps a monomial's degree beside it compares and multiplies as the definitions do, and
 -- a bound by degree is one by a Sig
 pub record SigLaw (s : Setting) : Type 0 where
-  pub compares : (σ τ : Monomial) → compare_monomials (generator_weight s) σ τ ≡ compare_sigs
-      (sig_of (generator_weight s) σ) (sig_of (generator_weight s) τ)
+  pub compares : (σ τ : Monomial)
+      → compare_monomials (generator_weight s) σ τ ≡ compare_sigs (sig_of (generator_weight s) σ)
+      (sig_of (generator_weight s) τ)
   pub multiples : (u v : Word) (σ : Monomial)
       → sig_of (generator_weight s) (times u σ v) ≡ sig_times u (sig_of (generator_weight s) σ) v
   pub bound : (d : ℕ) (σ : Monomial)
@@ -93,7 +94,8 @@ Validity =
 -- it evaluates to: so a valid certificate has cofactors of its claim
 abbrev pub CofactorLaw : Type 0
 CofactorLaw =
-    (c : Certificate) → IsCertificate c → IsIn c.setting.setting (lines_element c.lines)
+    (c : Certificate) → IsCertificate c
+    → IsIn c.setting.setting (lines_element c.lines)
     (λ σ. IsGenerator c.setting.setting σ.generator)
     × (evaluation c.setting.setting (lines_element c.lines) ≡ lines_value c.setting.setting c.lines)
 

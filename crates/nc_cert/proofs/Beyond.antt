@@ -12,7 +12,7 @@ passed_by : (limit spent : ℕ) (c : Charge) (charges : List Charge) → spent +
     → first_beyond limit spent (c ∷ charges) ≡ first_beyond limit (spent + c.amount) charges
 passed_by limit spent c charges within =
     let few : ltb limit (spent + c.amount) ≡ false =
-    le-ltb limit (spent + c.amount) within in
+        le-ltb limit (spent + c.amount) within in
     ap (λ (b : Bool). if b then Some (record { line = c.line; amount = spent + c.amount }) else
       first_beyond limit (spent + c.amount) charges) few
 
@@ -25,8 +25,8 @@ none_beyond limit spent (c ∷ charges) within =
 
 found_beyond : (limit spent : ℕ) (before : List Charge) (c : Charge) (after : List Charge)
     → spent + total before ≤ limit → limit < spent + total before + c.amount
-    → first_beyond limit spent (before ++ c ∷ after) ≡ Some
-        (record { line = c.line; amount = spent + total before + c.amount })
+    → first_beyond limit spent (before ++ c ∷ after)
+        ≡ Some (record { line = c.line; amount = spent + total before + c.amount })
 found_beyond limit spent [] c after within beyond =
     let sum : spent + c.amount ≡ spent + total [] + c.amount = omega arith in
     let many : ltb limit (spent + c.amount) ≡ true =

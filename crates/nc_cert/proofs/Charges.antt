@@ -33,14 +33,15 @@ module _ (s : Setting) where
             (charges_after s (values_after s next lines) more))
 
   charges-line : (lines : List Line) (line : Line) (more : List Line) →
-      charges_of s (lines ++ line ∷ more) ≡ charges_of s
-          lines ++ (line_charges s (values_of s lines) line ++ charges_after s
+      charges_of s (lines ++ line ∷ more) ≡ charges_of s lines
+          ++ (line_charges s (values_of s lines) line ++ charges_after s
             (values_of s lines ++ line_value s (values_of s lines) line ∷ []) more)
   unfolding charges_after
   charges-line lines line more = charges-append [] lines (line ∷ more)
 
-  charges-last : (lines : List Line) (line : Line) → charges_of s (lines ++ line ∷ []) ≡ charges_of
-      s lines ++ line_charges s (values_of s lines) line
+  charges-last : (lines : List Line) (line : Line)
+      → charges_of s (lines ++ line ∷ []) ≡ charges_of s lines ++ line_charges s (values_of s lines)
+      line
   unfolding charges_after
   charges-last lines line =
       charges-line lines line [] ∙ ap (λ (l : List Charge). charges_of s lines ++ l)
@@ -48,8 +49,8 @@ module _ (s : Setting) where
 
   -- what passes the limit does so whatever follows
   pub too_much_before : (limit : ℕ) (lines more : List Line) (k t : ℕ)
-      → IsTooMuch limit (charges_of s lines) k t → IsTooMuch limit (charges_of s (lines ++ more)) k
-      t
+      → IsTooMuch limit (charges_of s lines) k t
+      → IsTooMuch limit (charges_of s (lines ++ more)) k t
   too_much_before limit lines more k t h =
       let others : List Charge = charges_after s (values_of s lines) more in
       record {
@@ -57,8 +58,8 @@ module _ (s : Setting) where
         first = h.first;
         after = h.after ++ others;
         parts = charges-append [] lines more
-            ∙ (ap (λ (l : List Charge). l ++ others) h.parts ∙ append_assoc h.before
-              (h.first ∷ h.after) others);
+            ∙ (ap (λ (l : List Charge). l ++ others) h.parts
+              ∙ append_assoc h.before (h.first ∷ h.after) others);
         within = h.within;
         beyond = h.beyond;
         line = h.line;
@@ -76,8 +77,8 @@ module _ (s : NamedSetting) (is : IsSetting s) where
       (tt, All-nil (λ t. t.coefficient < s.setting.prime))
   listed_normal a (g ∷ f) zero h =
       let first : IsTextGenerator a s.setting.prime g =
-      h.0 in normal_form-normal s.setting.prime g (omega (arith, above_one s is))
-      first.polynomial.normal
+          h.0 in normal_form-normal s.setting.prime g (omega (arith, above_one s is))
+          first.polynomial.normal
   listed_normal a (g ∷ f) (suc i) h = listed_normal a f i h.1
 
   generator_normal : (i : ℕ) → normal_form s.setting.prime (generator s.setting i) ≡ generator
@@ -101,8 +102,8 @@ module _ (s : NamedSetting) (is : IsSetting s) where
       ap (λ (f : Polynomial). products_charge part.left f part.right) (kept_factor values part.of)
 
   line_total : (values : List Polynomial) (line : Line)
-      → total (line_charges s.setting values line) ≡ sum_by
-      (kept_charge s.setting (map (normal_form s.setting.prime) values)) line
+      → total (line_charges s.setting values line)
+      ≡ sum_by (kept_charge s.setting (map (normal_form s.setting.prime) values)) line
   line_total values [] = refl
   line_total values (part ∷ line) =
       let charge : Part → ℕ = kept_charge s.setting (map (normal_form s.setting.prime) values) in
@@ -113,8 +114,8 @@ module _ (s : NamedSetting) (is : IsSetting s) where
 
   -- what is spent after one line more
   pub spent_after : (lines : List Line) (line : Line)
-      → total (charges_of s.setting (lines ++ line ∷ [])) ≡ total
-      (charges_of s.setting lines) + sum_by (kept_charge s.setting (normals s is lines)) line
+      → total (charges_of s.setting (lines ++ line ∷ [])) ≡ total (charges_of s.setting lines)
+      + sum_by (kept_charge s.setting (normals s is lines)) line
   spent_after lines line =
       ap total (charges-last s.setting lines line)
       ∙ (sum_by-append (λ (c : Charge). c.amount) (charges_of s.setting lines)
@@ -135,9 +136,8 @@ module _ (s : NamedSetting) (is : IsSetting s) where
       let first : Charge =
           record { line = suc (length values); amount = part_charge s.setting values h.first } in
       let back : List Charge = line_charges s.setting values h.after in
-      let spent : total (charges_of s.setting lines ++ front) ≡ total
-          (charges_of s.setting lines) + sum_by (kept_charge s.setting (normals s is lines))
-          h.before =
+      let spent : total (charges_of s.setting lines ++ front) ≡ total (charges_of s.setting lines)
+          + sum_by (kept_charge s.setting (normals s is lines)) h.before =
       sum_by-append (λ (c : Charge). c.amount) (charges_of s.setting lines) front
           ∙ ap (λ n. total (charges_of s.setting lines) + n) (line_total values h.before) in
       record {
@@ -146,8 +146,8 @@ module _ (s : NamedSetting) (is : IsSetting s) where
         after = back ++ others;
         parts =
             charges-line s.setting lines line more
-            ∙ (ap (λ (l : Line). charges_of s.setting
-                    lines ++ (line_charges s.setting values l ++ others)) h.parts
+            ∙ (ap (λ (l : Line). charges_of s.setting lines
+                    ++ (line_charges s.setting values l ++ others)) h.parts
             ∙ (ap (λ (l : List Charge). charges_of s.setting lines ++ (l ++ others))
                   (map-append (λ (part : Part). record { line = suc (length values);
                         amount = part_charge s.setting values part }) h.before (h.first ∷ h.after))
@@ -174,8 +174,8 @@ module _ (s : NamedSetting) (is : IsSetting s) where
   spent_step lines i line values spent now within at kept before e =
       e
       ∙ (ap (λ n. n + sum_by (kept_charge s.setting values) line) before
-      ∙ (ap (λ (values : List Polynomial). total (charges_of s.setting (take i lines)) + sum_by
-              (kept_charge s.setting values) line) kept
+      ∙ (ap (λ (values : List Polynomial). total (charges_of s.setting (take i lines))
+              + sum_by (kept_charge s.setting values) line) kept
       ∙ (sym (spent_after (take i lines) line)
       ∙ ap (λ (l : List Line). total (charges_of s.setting l))
           (sym (take_more lines i line within ∙ ap (λ (l : Line). take i lines ++ l ∷ [])

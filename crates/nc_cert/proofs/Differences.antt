@@ -63,8 +63,8 @@ part_taken s values part p c k u v f old new prime scalar left factor right e =
     let is : polynomial_times u f v ≡ product =
     ap (λ (w : Word). polynomial_times w f v) left
         ∙ (ap (λ (g : Polynomial). polynomial_times part.left g v) factor
-          ∙ ap (λ (w : Word). polynomial_times part.left (factor_value s values part.of) w)
-          right) in
+          ∙ ap (λ (w : Word). polynomial_times part.left (factor_value s values part.of) w) right)
+        in
     scalar_into s.prime c part.coefficient old new product
     (subst (λ (m : Polynomial). SameSum same_word s.prime new
             (minus s.prime old ((c * part.coefficient) % s.prime) m)) is
@@ -74,8 +74,8 @@ part_taken s values part p c k u v f old new prime scalar left factor right e =
 
 -- one part more
 module _ (s : Setting) (values : List Polynomial) where
-  line_value-append : (line more : Line) → line_value s values (line ++ more) ≡ line_value s values
-      line ++ line_value s values more
+  line_value-append : (line more : Line)
+      → line_value s values (line ++ more) ≡ line_value s values line ++ line_value s values more
   unfolding line_value
   line_value-append [] more = refl
   line_value-append (part ∷ line) more =
@@ -130,16 +130,15 @@ module _ (s : Setting) (values : List Polynomial) where
           (line_value s values (take i line)) x + coefficient (part_value s values part) x
       one_more x =
           ap (λ (l : Line). coefficient (line_value s values l) x) more
-          ∙ (ap (λ (g : Polynomial). coefficient g x)
-                (line_value-append (take i line) (part ∷ [])
+          ∙ (ap (λ (g : Polynomial). coefficient g x) (line_value-append (take i line) (part ∷ [])
                   ∙ ap (λ (g : Polynomial). line_value s values (take i line) ++ g)
                   (one_value part))
           ∙ linear_sum-append (is_at same_word x) (line_value s values (take i line))
               (part_value s values part))
 
   pub left_ends : (f : Polynomial) (c : ℕ) (line : Line) (i : ℕ) (g : Polynomial) → 0 < s.prime
-      → length line ≤ i → IsLeft f c line i g → normal_form s.prime g ≡ normal_form s.prime
-      (minus s.prime f c (line_value s values line))
+      → length line ≤ i → IsLeft f c line i g
+      → normal_form s.prime g ≡ normal_form s.prime (minus s.prime f c (line_value s values line))
   left_ends f c line i g some long h =
       normal_form_equal s.prime g (minus s.prime f c (line_value s values line)) some
       (subst (λ (l : Line). SameSum same_word s.prime g (minus s.prime f c (line_value s values l)))
@@ -154,8 +153,8 @@ difference_same p f c g h some e = normal_form_equal p (minus p f c g) (minus p 
       ap (λ n. n % p) (minus_at p f c g x)
       ∙ (plus_same p (coefficient f x) ((p - 1) * c * coefficient g x)
             ((p - 1) * c * coefficient h x) (sym (mul-mod_second ((p - 1) * c) (coefficient g x) p)
-              ∙ (ap (λ n. ((p - 1) * c * n) % p) (e.at x) ∙ mul-mod_second ((p - 1) * c)
-                (coefficient h x) p))
+              ∙ (ap (λ n. ((p - 1) * c * n) % p) (e.at x)
+                ∙ mul-mod_second ((p - 1) * c) (coefficient h x) p))
       ∙ ap (λ n. n % p) (sym (minus_at p f c h x)));
 }
 

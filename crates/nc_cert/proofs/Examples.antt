@@ -24,8 +24,9 @@ setting =
 abbrev lines : List Line
 lines =
     (record { coefficient = 1; left = []; of = Factor.a_generator 1; right = [] } ∷ [])
-    ∷ (record { coefficient = 1; left = x; of = Factor.a_line 1; right = [] } ∷ record
-          { coefficient = 100; left = []; of = Factor.a_line 1; right = x } ∷ [])
+    ∷ (record { coefficient = 1; left = x;
+            of = Factor.a_line 1; right = [] } ∷ record { coefficient = 100;
+            left = []; of = Factor.a_line 1; right = x } ∷ [])
     ∷ (record { coefficient = 100; left = []; of = Factor.a_line 2; right = [] } ∷ [])
     ∷ []
 

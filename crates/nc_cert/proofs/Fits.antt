@@ -29,8 +29,8 @@ module _ (a : Alphabet) where
   fits_more [] r q h x = tt
   fits_more (t ∷ f) r q h x =
       let first : IsWordWithin a r t.key =
-      x.0 in (record { letters = first.letters; short = omega (arith, first.short) },
-        fits_more f r q h x.1)
+          x.0 in (record { letters = first.letters; short = omega (arith, first.short) },
+            fits_more f r q h x.1)
 
   fits-append : (f g : Polynomial) (r : ℕ) → Fits a f r → Fits a g r → Fits a (f ++ g) r
   fits-append [] g r x y = y
@@ -59,8 +59,8 @@ module _ (a : Alphabet) where
   longest_fits [] x = tt
   longest_fits (t ∷ f) x =
       let first : IsTextWord a t.key =
-      x.0 in (record { letters = first.letters; short = omega arith },
-        fits_more f (longest f) (longest (t ∷ f)) (omega arith) (longest_fits f x.1))
+          x.0 in (record { letters = first.letters; short = omega arith },
+            fits_more f (longest f) (longest (t ∷ f)) (omega arith) (longest_fits f x.1))
 
   pub item_fits : (values : List Polynomial) (reaches : List ℕ) (k : ℕ)
       → AllZip (Fits a) values reaches → Fits a (item [] values k) (item 0 reaches k)
@@ -85,8 +85,8 @@ module _ (s : NamedSetting) (is : IsSetting s) where
       subst (IsTextGenerator s.alphabet s.setting.prime) (sym (generator_at s.setting i g))
       (is.each (i - 1) [] (omega (arith, g.0, g.1)))
 
-  pub generator_fits : (i : ℕ) → IsGenerator s.setting i → Fits s.alphabet (generator s.setting i)
-      (longest (generator s.setting i))
+  pub generator_fits : (i : ℕ) → IsGenerator s.setting i
+      → Fits s.alphabet (generator s.setting i) (longest (generator s.setting i))
   generator_fits i g =
       longest_fits s.alphabet (generator s.setting i)
       (recursion_from_All (λ t. IsTextWord s.alphabet t.key) (generator s.setting i)

@@ -26,7 +26,7 @@ module _ (c : Certificate) (h : IsCertificate c) where
   value_has [] r x = tt
   value_has (t ∷ f) r x =
       let first : IsWordWithin c.setting.alphabet r t.key =
-      x.0 in (first.letters, value_has f r x.1)
+          x.0 in (first.letters, value_has f r x.1)
 
   last_has : AllByRecursion (λ t. IsWordIn c.setting.alphabet t.key)
       (lines_value c.setting.setting c.lines)

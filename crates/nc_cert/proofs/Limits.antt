@@ -42,13 +42,13 @@ same_place : (limit spent : ℕ) (front : List Charge) (c : Charge) (back front'
         × (total front + c.amount ≡ total front' + d.amount)
 same_place limit spent [] c back [] d back' e low high low' high' =
     let same : c ≡ d =
-    cc in (ap (λ (c : Charge). c.line) same, ap (λ (c : Charge). total [] + c.amount) same)
+        cc in (ap (λ (c : Charge). c.line) same, ap (λ (c : Charge). total [] + c.amount) same)
 same_place limit spent [] c back (y ∷ front') d back' e low high low' high' =
     let same : c ≡ y =
-    cc in absurd (omega (arith, high, low', more y front', ap (λ (c : Charge). c.amount) same))
+        cc in absurd (omega (arith, high, low', more y front', ap (λ (c : Charge). c.amount) same))
 same_place limit spent (x ∷ front) c back [] d back' e low high low' high' =
     let same : x ≡ d =
-    cc in absurd (omega (arith, high', low, more x front, ap (λ (c : Charge). c.amount) same))
+        cc in absurd (omega (arith, high', low, more x front, ap (λ (c : Charge). c.amount) same))
 same_place limit spent (x ∷ front) c back (y ∷ front') d back' e low high low' high' =
     let same : x ≡ y = cc in
     let amounts : x.amount ≡ y.amount = ap (λ (c : Charge). c.amount) same in

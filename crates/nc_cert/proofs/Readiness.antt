@@ -58,7 +58,7 @@ module _ (s : NamedSetting) (is : IsSetting s) where
   short_products u v [] r h x = tt
   short_products u v (t ∷ f) r h x =
       let first : IsWordWithin s.alphabet r t.key =
-      x.0 in (omega (arith, first.short), short_products u v f r h x.1)
+          x.0 in (omega (arith, first.short), short_products u v f r h x.1)
 
   same_many : (values : List Polynomial) (reaches : List ℕ)
       → AllZip (Fits s.alphabet) values reaches → length values ≡ length reaches
@@ -80,8 +80,8 @@ module _ (s : NamedSetting) (is : IsSetting s) where
             (sym (length-map values (normal_form s.setting.prime) ∙ same_many values reaches x))
             h.factor;
         residues = ready.0;
-        short = All-from_recursion (λ t. length part.left + length t.key + length
-              part.right ≤ 200000) (factor_value s.setting kept part.of)
+        short = All-from_recursion (λ t. length part.left + length t.key + length part.right
+              ≤ 200000) (factor_value s.setting kept part.of)
             (short_products part.left part.right (factor_value s.setting kept part.of)
               (factor_reach s.setting reaches part.of) h.short ready.1);
       }

@@ -21,9 +21,9 @@ module _ (s : NamedSetting) (is : IsSetting s) where
   rest_of_claim claim h =
       sym (normal_form_equal s.setting.prime
         (minus s.setting.prime claim 1 (lines_value s.setting [])) claim some record
-        { at = λ x. ap (λ n. n % s.setting.prime)
-          (minus_at s.setting.prime claim 1 [] x ∙ none (coefficient claim x)
-            ((s.setting.prime - 1) * 1)) } ∙ normal_form-normal s.setting.prime claim some h)
+        { at = λ x. ap (λ n. n % s.setting.prime) (minus_at s.setting.prime claim 1 [] x
+            ∙ none (coefficient claim x) ((s.setting.prime - 1) * 1)) }
+        ∙ normal_form-normal s.setting.prime claim some h)
     where
       some : 0 < s.setting.prime
       some = omega (arith, above_one s is)

@@ -54,7 +54,7 @@ pub charge_few : (n k m r : ℕ) → k ≤ 200000 → m ≤ 200000 → r ≤ 200
     → n * (1 + k + m) + r ≤ 600001 * n
 charge_few n k m r left right few =
     let each : 1 + k + m ≤ 400001 =
-    omega (arith, left, right) in omega (arith, mul-le-mul_left n each, few)
+        omega (arith, left, right) in omega (arith, mul-le-mul_left n each, few)
 
 -- ---- what a part multiplies
 

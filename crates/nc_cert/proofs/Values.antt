@@ -68,6 +68,6 @@ module _ (s : NamedSetting) (is : IsSetting s) where
       ∙ (sym (map-append (normal_form s.setting.prime) (values_of s.setting (take i lines))
               (line_value s.setting (values_of s.setting (take i lines)) line ∷ []))
       ∙ ap (map (normal_form s.setting.prime))
-          (sym (values_after-push s.setting [] (take i lines) line) ∙ ap (values_of s.setting)
-            (sym (take_more lines i line within ∙ ap (λ (l : Line). take i lines ++ l ∷ [])
-                (sym at)))))
+          (sym (values_after-push s.setting [] (take i lines) line)
+            ∙ ap (values_of s.setting) (sym (take_more lines i line within
+                ∙ ap (λ (l : Line). take i lines ++ l ∷ []) (sym at)))))

@@ -16,8 +16,8 @@ module _ {X : Type 0} where
         others = λ y n h. elim h [ inl d ↦ absurd (n (d ∙ sym e)) | inr k ↦ k ] }
   without x (z ∷ ys) (inr h) =
       let w = without x ys h in record { rest = z ∷ w.rest;
-        one_less = omega (arith, w.one_less);
-        others = λ y n h. elim h [ inl d ↦ inl d | inr k ↦ inr (w.others y n k) ] }
+            one_less = omega (arith, w.one_less);
+            others = λ y n h. elim h [ inl d ↦ inl d | inr k ↦ inr (w.others y n k) ] }
 
   pub at_most : (xs ys : List X) → IsDistinct xs → ((x : X) → Among x xs → Among x ys)
       → length xs ≤ length ys

@@ -181,8 +181,8 @@ module _ (s : Setting) (some : 0 < s.prime) (run : State) (limit : ℕ) where
   not_both : (named : Listed) (n : ℕ) → AllWithin s.prime run limit
       → IsFirstOf s.prime run limit named n → ⊥
   not_both (EntryOf k) n all (l, within, h, more, before) =
-      omega (arith, more, all (EntryOf k) (label_at (labels_of s.prime run.entries) k) n
-        (l, within, refl) h)
+      omega (arith, more, all (EntryOf k) (label_at (labels_of s.prime run.entries) k) n (l, within,
+          refl) h)
   not_both (SyzygyOf k) n all (l, within, (α, is, h), more, before, entries) =
       omega (arith, more, all (SyzygyOf k) α n is h)
   not_both Claim n all f = absurd f
@@ -191,8 +191,8 @@ module _ (s : Setting) (some : 0 < s.prime) (run : State) (limit : ℕ) where
 
   one_alone : (named named' : Listed) (n n' : ℕ) → IsFirstOf s.prime run limit named n
       → IsFirstOf s.prime run limit named' n' → (named ≡ named') × (n ≡ n')
-  one_alone (EntryOf k) (EntryOf k') n n' (l, within, h, more, before)
-      (l', within', h', more', before') = go (nat_order k k')
+  one_alone (EntryOf k) (EntryOf k') n n' (l, within, h, more, before) (l', within', h', more',
+        before') = go (nat_order k k')
     where
       go : (k < k') ⊎ ((k ≡ k') ⊎ (k' < k)) → (EntryOf k ≡ EntryOf k') × (n ≡ n')
       go (inl b) = absurd (omega (arith, more, before' k n l b h))
@@ -200,11 +200,10 @@ module _ (s : Setting) (some : 0 < s.prime) (run : State) (limit : ℕ) where
           (ap EntryOf e, terms_once s.prime (label_at (labels_of s.prime run.entries) k) n n' h
             (subst (λ i. EntryTerms s.prime run i n') (sym e) h'))
       go (inr (inr b)) = absurd (omega (arith, more', before k' n' l' b h'))
-  one_alone (EntryOf k) (SyzygyOf k') n n' (l, within, h, more, before)
-      (l', within', h', more', before', entries') =
-      absurd (omega (arith, more, entries' k n l within h))
-  one_alone (SyzygyOf k) (EntryOf k') n n' (l, within, h, more, before, entries)
-      (l', within', h', more', before') = absurd (omega (arith, more', entries k' n' l' within' h'))
+  one_alone (EntryOf k) (SyzygyOf k') n n' (l, within, h, more, before) (l', within', h', more',
+        before', entries') = absurd (omega (arith, more, entries' k n l within h))
+  one_alone (SyzygyOf k) (EntryOf k') n n' (l, within, h, more, before, entries) (l', within', h',
+        more', before') = absurd (omega (arith, more', entries k' n' l' within' h'))
   one_alone (SyzygyOf k) (SyzygyOf k') n n' (l, within, (α, is, h), more, before, entries)
       (l', within', (α', is', h'), more', before', entries') = go (nat_order k k')
     where
@@ -224,5 +223,5 @@ module _ (s : Setting) (some : 0 < s.prime) (run : State) (limit : ℕ) where
 pub one_first : OneFirst
 one_first s prime run limit =
     let some : 0 < s.prime =
-    some_residue s.prime prime in (found s some run limit, not_both s some run limit,
-      one_alone s some run limit)
+        some_residue s.prime prime in (found s some run limit, not_both s some run limit,
+          one_alone s some run limit)

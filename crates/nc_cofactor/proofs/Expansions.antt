@@ -27,8 +27,8 @@ use Rattle.nc_theory.specs.States.{State, Trace}
 use Rattle.std.proofs.Common.{Bool, Err, IfErr, IfOk, List, Ok, Option, Result, arith, inl, inr, length, refl, subst, sym, ℕ, ◌<◌, ◌∙◌, ◌≡◌, ◌≤◌, ◌↔◌, ◌⊎◌}
 
 module _ (P : NamedProblem) (problem : IsProblem P) (n : ℕ) (listed : Listed) (t : Trace)
-    (has : HasTrace P.problem n listed t) (marks : List Bool) (limit : ℕ)
-    (exact : (j : ℕ) → 1 ≤ j → IsMarked marks j ↔ Names t j) where
+    (has : HasTrace P.problem n listed t) (marks : List Bool) (limit : ℕ) (exact : (j : ℕ) → 1 ≤ j
+      → IsMarked marks j ↔ Names t j) where
   module _ {run : State} {last : Option Monomial} (runs : SequentialRun P.problem n run last) where
     is_there : IsTraceIn run listed t
     is_there =
@@ -136,8 +136,9 @@ module _ (P : NamedProblem) (problem : IsProblem P) (n : ℕ) (listed : Listed) 
             (has_terms P.problem.setting own.label f.label
               (label_sum P.problem.setting h.run listed f.label own))
 
-        lesser : (k j i : ℕ) → listed ≡ EntryOf k → j < k → EntryTerms P.problem.setting.prime h.run
-            j i → (listed ≡ EntryOf j) ⊎ IsReached h.run.entries marks j → i ≤ limit
+        lesser : (k j i : ℕ) → listed ≡ EntryOf k → j < k
+            → EntryTerms P.problem.setting.prime h.run j i → (listed ≡ EntryOf j)
+            ⊎ IsReached h.run.entries marks j → i ≤ limit
         lesser k j i e l terms (inl d) =
             absurd (let same : EntryOf k ≡ EntryOf j = sym e ∙ d in let one : k ≡ j = cc in
               omega (arith, one, l))
@@ -153,8 +154,8 @@ module _ (P : NamedProblem) (problem : IsProblem P) (n : ℕ) (listed : Listed) 
         others k j i e terms (inr reached) =
             few_filled P problem n marks limit labels h j i reached terms
 
-        many : (l : Listed) → listed ≡ l → IsTooMany P.problem.setting.prime h.run listed limit l
-            terms
+        many : (l : Listed) → listed ≡ l
+            → IsTooMany P.problem.setting.prime h.run listed limit l terms
         many (EntryOf k) e =
             let is : IsLabelIn P.problem.setting.prime h.run (EntryOf k) own.label =
                 subst (λ (l : Listed). IsLabelIn P.problem.setting.prime h.run l own.label) e

@@ -226,16 +226,17 @@ module _ (s : Snapshot) (is : IsSnapshot s) (marks : List Bool) (labels : List (
   -- entries are few
   pub next_few : length labels ≤ 1000000000
   next_few =
-      omega (arith, h.height, snapshot_counts s is, entries_kept s.problem.problem s.handled s.state
-        is.run, ap (λ (r : State). length r.entries)
+      omega (arith, h.height, snapshot_counts s is,
+        entries_kept s.problem.problem s.handled s.state is.run,
+        ap (λ (r : State). length r.entries)
         (one_run s.problem is.problem s.handled is.run.runs h.runs))
 
   -- where the next label fails
   pub next_fails : (rest : List (Option Trace)) (o : Option Trace) → stack ≡ rest ++ o ∷ []
       → (e : CofactorFault) → (e ≡ OutOfMemory)
       ⊎ ((x : Trace) × (o ≡ Some x) × FailsToSum s.problem.problem s.handled
-        (EntryOf (length labels + 1)) limit e) → FailsToFill s.problem.problem s.handled marks limit
-      e
+        (EntryOf (length labels + 1)) limit e)
+      → FailsToFill s.problem.problem s.handled marks limit e
   next_fails rest o popped e (inl no_memory) =
       subst (FailsToFill s.problem.problem s.handled marks limit) (sym no_memory) tt
   next_fails rest o popped e (inr (x, i, f)) =

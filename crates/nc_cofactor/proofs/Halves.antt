@@ -23,8 +23,8 @@ module _ (s : Snapshot) (h : IsSnapshot s) (β : Sig)
   test : answer ≡ is_lt (compare_sigs e.sig β)
   test = told ∙ ap (λ ρ. is_lt (compare_sigs ρ β)) is
 
-  pub lower_half : answer ≡ true → IsLesserTo s.problem.problem.setting s.state.entries
-      (monomial_of β) (m + 1)
+  pub lower_half : answer ≡ true
+      → IsLesserTo s.problem.problem.setting s.state.entries (monomial_of β) (m + 1)
   lower_half t =
       let here : m + 1 - 1 ≡ m = omega arith in
       subst (λ n. IsLesserTo s.problem.problem.setting s.state.entries (monomial_of β) (n + 1)) here
@@ -33,8 +33,8 @@ module _ (s : Snapshot) (h : IsSnapshot s) (β : Sig)
       (less_from_sigs s.problem.problem.setting e.sig β own degree
             (less_from_test (compare_sigs e.sig β) (sym test ∙ t))))
 
-  pub upper_half : answer ≡ false → IsOtherFrom s.problem.problem.setting s.state.entries
-      (monomial_of β) m
+  pub upper_half : answer ≡ false
+      → IsOtherFrom s.problem.problem.setting s.state.entries (monomial_of β) m
   upper_half t =
       let here : m + 1 - 1 ≡ m = omega arith in
       subst (IsOtherFrom s.problem.problem.setting s.state.entries (monomial_of β)) here
@@ -44,8 +44,9 @@ module _ (s : Snapshot) (h : IsSnapshot s) (β : Sig)
                 (monomial_of β))))
     where
       go : IsLess s.problem.problem.setting (monomial_of e.sig) (monomial_of β)
-          ⊎ ((monomial_of e.sig ≡ monomial_of β) ⊎ IsLess s.problem.problem.setting (monomial_of β)
-            (monomial_of e.sig)) → IsAtLeast s.problem.problem.setting (monomial_of β) (entry_of e)
+          ⊎ ((monomial_of e.sig ≡ monomial_of β)
+            ⊎ IsLess s.problem.problem.setting (monomial_of β) (monomial_of e.sig))
+          → IsAtLeast s.problem.problem.setting (monomial_of β) (entry_of e)
       go (inl l) =
           absurd (false≢true (sym t ∙ (test
                 ∙ ap is_lt (sigs_from_less s.problem.problem.setting e.sig β own degree l))))

@@ -151,8 +151,9 @@ module _ (s : Snapshot) (h : IsSnapshot s) where
         (moved_rebuilds s.problem.problem.setting s.state.entries h.run.run.entries es τ t f r)).0
 
   pub entry_has_trace : (k : ℕ) (e : Entry) → 1 ≤ k → slice_get s.state.entries (k - 1) ≡ Some e
-      → (t : Trace) (f : Polynomial) → Rebuilds s.problem.problem.setting s.state.entries
-      e.signature t f → HasTrace s.problem.problem s.handled (EntryOf k) t
+      → (t : Trace) (f : Polynomial)
+      → Rebuilds s.problem.problem.setting s.state.entries e.signature t f
+      → HasTrace s.problem.problem s.handled (EntryOf k) t
   entry_has_trace k e some at t f r =
       let listed : Contains s.state.entries e = listed_at s.state.entries (k - 1) e at in
       let there : Contains h.run.run.entries (entry e listed) = entry_listed e listed in record {
@@ -166,8 +167,9 @@ module _ (s : Snapshot) (h : IsSnapshot s) where
       }
 
   pub syzygy_has_trace : (k : ℕ) (z : Syzygy) → 1 ≤ k → slice_get s.state.syzygies (k - 1) ≡ Some z
-      → (t : Trace) (f : Polynomial) → Rebuilds s.problem.problem.setting s.state.entries
-      z.signature t f → HasTrace s.problem.problem s.handled (SyzygyOf k) t
+      → (t : Trace) (f : Polynomial)
+      → Rebuilds s.problem.problem.setting s.state.entries z.signature t f
+      → HasTrace s.problem.problem s.handled (SyzygyOf k) t
   syzygy_has_trace k z some at t f r =
       let listed : Contains s.state.syzygies z = listed_at s.state.syzygies (k - 1) z at in
       let there : Contains h.run.run.syzygies (syzygy z listed) = syzygy_listed z listed in record {
@@ -189,9 +191,8 @@ module _ (s : Snapshot) (h : IsSnapshot s) where
   divisor_light w d within =
       let e : Entry = entry d.entry d.listed in
       let there : Contains h.run.run.entries e = entry_listed d.entry d.listed in
-      let low : degree s.problem.problem.setting
-          (times d.left d.entry.signature d.right) ≤ bound_degree s.problem.problem.setting
-          s.problem.problem.bound =
+      let low : degree s.problem.problem.setting (times d.left d.entry.signature d.right)
+          ≤ bound_degree s.problem.problem.setting s.problem.problem.bound =
           degree_within s.problem.problem.setting s.problem.problem.bound
           (signature_at s.problem.problem.setting s.state.entries w d) within.1 in record {
         some = omega arith;
@@ -199,8 +200,8 @@ module _ (s : Snapshot) (h : IsSnapshot s) where
         at = subst (λ i. slice_get h.run.run.entries i ≡ Some e) (omega arith)
             (slice_get_read h.run.run.entries (length h.run.run.entries) d.listed.0 e refl there.1
               (sym there.2));
-        light = subst (λ σ. degree s.problem.problem.setting (times d.left σ d.right) ≤ bound_degree
-              s.problem.problem.setting s.problem.problem.bound)
+        light = subst (λ σ. degree s.problem.problem.setting (times d.left σ d.right)
+              ≤ bound_degree s.problem.problem.setting s.problem.problem.bound)
             (sym (entry_signed d.entry d.listed)) low;
       }
 
@@ -239,8 +240,9 @@ module _ (s : Snapshot) (h : IsSnapshot s) where
 
   module _ (τ : Monomial) (m : ℕ) (a : AreLesser s.problem.problem.setting s.state.entries τ m)
       where
-    start_from : (t : Trace) (f : Polynomial) → Rebuilds s.problem.problem.setting s.state.entries τ
-        t f → HasStart s.problem.problem.setting s.state.entries τ m
+    start_from : (t : Trace) (f : Polynomial)
+        → Rebuilds s.problem.problem.setting s.state.entries τ t f
+        → HasStart s.problem.problem.setting s.state.entries τ m
     start_from t f r =
         (r.start, t.start, subst (λ l. Starts s.problem.problem.setting l τ r.start t.start)
           (first_of_rebuilt s.problem.problem.setting s.state.entries τ m a t f r) r.starts)

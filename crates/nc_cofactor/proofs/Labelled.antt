@@ -100,15 +100,15 @@ module _ (P : NamedProblem) (problem : IsProblem P) {n : ℕ} {run : State} {las
         addable = subst (λ (l : List (Term Sig)). IsAddable P.problem.setting u l v) here (record {
           residues = stands.is.residues;
           degrees = stands.is.degrees;
-          light = All-from_recursion (λ (t : Term Sig). word_weight u + t.key.degree + word_weight
-                v ≤ 100000) m (among_all (λ (t : Term Sig). word_weight
-                  u + t.key.degree + word_weight v ≤ 100000) m
-                (λ t k. light u j v n m stands.is t k (degree_is t k)));
+          light = All-from_recursion (λ (t : Term Sig). word_weight u + t.key.degree + word_weight v
+                ≤ 100000) m (among_all (λ (t : Term Sig). word_weight u + t.key.degree
+                  + word_weight v ≤ 100000) m (λ t k. light u j v n m stands.is t k
+                  (degree_is t k)));
         });
       }
     where
-      degree_is : (t : Term Sig) → Among t stands.label → t.key.degree ≡ degree P.problem.setting
-          (monomial_of t.key)
+      degree_is : (t : Term Sig) → Among t stands.label
+          → t.key.degree ≡ degree P.problem.setting (monomial_of t.key)
       degree_is t k =
           ap (λ (ρ : Sig). ρ.degree) (all_among
             (λ (t : Term Sig). HasDegree P.problem.setting t.key) stands.label
@@ -174,9 +174,9 @@ module _ (P : NamedProblem) (problem : IsProblem P) {n : ℕ} {run : State} {las
 
   whole : (t : Trace) (m : List (Term Sig))
       → ((j : ℕ) → Names t j → StandsAt P.problem.setting run labels j)
-      → IsTraceSum P.problem.setting labels t m → SameSum same_monomial P.problem.setting.prime
-      (element_of m) (trace_label P.problem.setting.prime
-        (labels_of P.problem.setting.prime run.entries) t)
+      → IsTraceSum P.problem.setting labels t m
+      → SameSum same_monomial P.problem.setting.prime (element_of m)
+      (trace_label P.problem.setting.prime (labels_of P.problem.setting.prime run.entries) t)
   whole t m stands sum =
       same-trans same_monomial P.problem.setting.prime (element_of m)
           (trace_label P.problem.setting.prime (elements_of labels) t)

@@ -101,8 +101,9 @@ module _ (P : NamedProblem) (is : IsProblem P) (prime : IsPrime P.problem.settin
             t.steps o.steps (λ step k. word_in P.alphabet step.right k.1);
       }
 
-  pub terms_over : (listed : Listed) (m : List (Term Sig)) → IsLabelOf P.problem.setting run listed
-      m → All (λ t. IsWordIn P.alphabet t.key.left) m × All (λ t. IsWordIn P.alphabet t.key.right) m
+  pub terms_over : (listed : Listed) (m : List (Term Sig))
+      → IsLabelOf P.problem.setting run listed m → All (λ t. IsWordIn P.alphabet t.key.left) m
+      × All (λ t. IsWordIn P.alphabet t.key.right) m
   terms_over listed m l =
       sum_over P l.label (label_over listed l.label l.is) m
       (label_sum P.problem.setting run listed m l)

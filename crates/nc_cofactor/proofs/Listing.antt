@@ -83,8 +83,8 @@ module _ (p : ℕ) where
 
   alike_steps : 0 < p → (ls ls' : List Element) (α β : Element) (steps : List Step)
       → AllByRecursion (λ t. SameSum same_monomial p (label_at ls t.number) (label_at ls' t.number))
-      steps → SameSum same_monomial p α β → SameSum same_monomial p (less_steps p ls α steps)
-      (less_steps p ls' β steps)
+      steps → SameSum same_monomial p α β
+      → SameSum same_monomial p (less_steps p ls α steps) (less_steps p ls' β steps)
   alike_steps some ls ls' α β [] a e = e
   alike_steps some ls ls' α β (t ∷ steps) a e =
       alike_steps some ls ls' (minus p α t.coefficient
@@ -138,8 +138,9 @@ module _ (p : ℕ) where
       let new : List Element = ls ++ (trace_label p ls x.trace ∷ []) in
       let same : x ≡ e = cc in
       let longer : length new ≡ length ls + 1 = length-append ls (trace_label p ls x.trace ∷ []) in
-      let old : (j : ℕ) → 1 ≤ j → j ≤ length ls → label_at (labels_onto p new es) j ≡ label_at ls
-          j = λ j a b. onto_front ls (x ∷ es) j a b in
+      let old : (j : ℕ) → 1 ≤ j → j ≤ length ls
+          → label_at (labels_onto p new es) j ≡ label_at ls j =
+          λ j a b. onto_front ls (x ∷ es) j a b in
       onto_front new es (length ls + zero + 1) (omega arith) (omega (arith, longer))
       ∙ (get_or_at ls (trace_label p ls x.trace) [] [] (length ls + zero + 1 - 1) (omega arith)
       ∙ (ap (λ (y : Entry). trace_label p ls y.trace) same

@@ -21,7 +21,8 @@ module _ {X Y : Type 0} (f : X → Y) where
       × (f x ≡ y)
   map_contains xs y c =
       let r : (x : X) × Among x xs × (y ≡ f x) =
-      map_among xs y (contains_among y (map f xs) c) in (r.0, among_contains r.0 xs r.1, sym r.2)
+          map_among xs y (contains_among y (map f xs) c) in
+      (r.0, among_contains r.0 xs r.1, sym r.2)
 
   pub contains_map : (xs : List X) (x : X) (y : Y) → Contains xs x → f x ≡ y → Contains (map f xs) y
   contains_map xs x y c e =

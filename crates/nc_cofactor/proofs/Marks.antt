@@ -99,13 +99,13 @@ only_marked old new named none more j one =
 pub steps_low : (t : Trace) (steps : List Step) (count : ℕ) → steps ≡ t.steps
     → ((j : ℕ) → Names t j → (1 ≤ j) × (j ≤ count)) → All (λ step. 1 ≤ step.number) steps
 steps_low t steps count same h k d within =
-    (h (get_or steps k d).number (inr
-        (get_or steps k d, subst (λ (l : List Step). Contains l (get_or steps k d)) same
+    (h (get_or steps k d).number (inr (get_or steps k d,
+          subst (λ (l : List Step). Contains l (get_or steps k d)) same
           (Contains-get_or steps k d within), refl))).0
 
 pub steps_high : (t : Trace) (steps : List Step) (count : ℕ) → steps ≡ t.steps
     → ((j : ℕ) → Names t j → (1 ≤ j) × (j ≤ count)) → All (λ step. step.number ≤ count) steps
 steps_high t steps count same h k d within =
-    (h (get_or steps k d).number (inr
-        (get_or steps k d, subst (λ (l : List Step). Contains l (get_or steps k d)) same
+    (h (get_or steps k d).number (inr (get_or steps k d,
+          subst (λ (l : List Step). Contains l (get_or steps k d)) same
           (Contains-get_or steps k d within), refl))).1

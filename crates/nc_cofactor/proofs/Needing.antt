@@ -235,8 +235,8 @@ module _ (P : NamedProblem) (problem : IsProblem P) (n : ℕ) (state : State)
   pub entries_in : {run : State} {last : Option Monomial} → SequentialRun P.problem n run last
       → length state.entries ≡ length run.entries
   entries_in runs =
-      entries_kept P.problem n state r ∙ ap (λ (x : State). length x.entries)
-      (one_run P problem n r.runs runs)
+      entries_kept P.problem n state r
+      ∙ ap (λ (x : State). length x.entries) (one_run P problem n r.runs runs)
 
   -- a trace of the run names entries
   pub named_within : (listed : Listed) (t : Trace) → HasTrace P.problem n listed t → (count : ℕ)

@@ -78,9 +78,9 @@ module _ (all stack rest : List (Option Trace)) (o : Option Trace) (number : ℕ
     height = height;
     rest = others;
     ascending =
-        subst IsStrictlyIncreasing (sym
-          (map_push (λ (y : ℕ × Trace). y.0) numbered (number + 1, x)))
-        (rising_push (map (λ (y : ℕ × Trace). y.0) numbered) (number + 1) h.ascending below);
+        subst IsStrictlyIncreasing (sym (map_push (λ (y : ℕ × Trace). y.0) numbered (number + 1,
+              x))) (rising_push (map (λ (y : ℕ × Trace). y.0) numbered) (number + 1) h.ascending
+          below);
     sound = λ k t c. sound k t (Contains-push_cases numbered (number + 1, x) (k, t) c);
     complete = λ k t some within at. complete k t some within at (compared k (number + 1));
   })
@@ -107,8 +107,8 @@ module _ (all stack rest : List (Option Trace)) (o : Option Trace) (number : ℕ
 
       complete : (k : ℕ) (t : Trace) → 1 ≤ k → k ≤ number + 1
           → slice_get all (length all - k) ≡ Some (Some t) → (k < number + 1)
-          ⊎ ((k ≡ number + 1) ⊎ (number + 1 < k)) → Contains (numbered ++ (number + 1, x) ∷ [])
-          (k, t)
+          ⊎ ((k ≡ number + 1) ⊎ (number + 1 < k))
+          → Contains (numbered ++ (number + 1, x) ∷ []) (k, t)
       complete k t some within at (inl l) =
           Contains-append_left numbered ((number + 1, x) ∷ []) (k, t)
           (h.complete k t some (omega (arith, l)) at)

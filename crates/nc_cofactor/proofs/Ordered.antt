@@ -87,11 +87,11 @@ module _ {K : Type 0} (cmp : K → K → Ordering)
       falls : Descends cmp new
       falls = (leading, below k r.normal lesser, r.descends)
 
-      at : (x : K) → (x ≡ k) ⊎ (x ≢ k) → coefficient_by (eq_by_cmp cmp) new x % p ≡ coefficient_by
-          (eq_by_cmp cmp) f x % p
+      at : (x : K) → (x ≡ k) ⊎ (x ≢ k)
+          → coefficient_by (eq_by_cmp cmp) new x % p ≡ coefficient_by (eq_by_cmp cmp) f x % p
       at x (inl e) =
-          subst (λ y. coefficient_by (eq_by_cmp cmp) new y % p ≡ coefficient_by (eq_by_cmp cmp) f
-                y % p) (sym e)
+          subst (λ y. coefficient_by (eq_by_cmp cmp) new y % p ≡ coefficient_by (eq_by_cmp cmp) f y
+                % p) (sym e)
           (ap (λ n. n % p) (own cmp laws new falls first (inl refl))
                 ∙ mod-mod (coefficient_by (eq_by_cmp cmp) f k) p)
       at x (inr n) =

@@ -46,5 +46,5 @@ module _ {X : Type 0} (xs : List X) (x : X) where
       go (inl l) = old i y some (earlier_place (i - 1) y l at)
       go (inr e) =
           let number : k ≡ i =
-          omega (arith, e, next) in subst (λ j. Q j y) number
-          (subst (Q k) (last_place (i - 1) y e at) new)
+              omega (arith, e, next) in subst (λ j. Q j y) number
+              (subst (Q k) (last_place (i - 1) y e at) new)

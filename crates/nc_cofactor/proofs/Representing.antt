@@ -34,8 +34,9 @@ use Rattle.std.specs.List.{All}
 module _ (s : Snapshot) (is : IsSnapshot s) (steps : List Step)
     (subtracted : AreSubtracted s.problem.problem s.state.entries steps) where
   -- the multiples in any state of the run
-  light : {run : State} {last : Option Monomial} → SequentialRun s.problem.problem s.handled run
-      last → AreLight s.problem.problem run.entries steps
+  light : {run : State} {last : Option Monomial}
+      → SequentialRun s.problem.problem s.handled run last
+      → AreLight s.problem.problem run.entries steps
   light runs =
       subst (λ (r : State). AreLight s.problem.problem r.entries steps)
       (one_run s.problem is.problem s.handled is.run.runs runs)
@@ -55,14 +56,14 @@ module _ (s : Snapshot) (is : IsSnapshot s) (steps : List Step)
 
   pub steps_low : All (λ step. 1 ≤ step.number) steps
   steps_low k d within =
-      (named_low (length s.state.entries) refl (get_or steps k d).number
-        (get_or steps k d, Contains-get_or steps k d within, refl)).0
+      (named_low (length s.state.entries) refl (get_or steps k d).number (get_or steps k d,
+          Contains-get_or steps k d within, refl)).0
 
   pub steps_high : (count : ℕ) → count ≡ length s.state.entries
       → All (λ step. step.number ≤ count) steps
   steps_high count e k d within =
-      (named_low count e (get_or steps k d).number
-        (get_or steps k d, Contains-get_or steps k d within, refl)).1
+      (named_low count e (get_or steps k d).number (get_or steps k d,
+          Contains-get_or steps k d within, refl)).1
 
   module _ (marks : List Bool) (limit : ℕ) (exact : (j : ℕ) → 1 ≤ j → IsMarked marks j
         ↔ StepsName steps j) where
@@ -81,8 +82,8 @@ module _ (s : Snapshot) (is : IsSnapshot s) (steps : List Step)
         → IsNeededFor run.entries (numbers_of steps) j
     needed run reached =
         reached_needed run.entries marks (numbers_of steps)
-        (λ j some m. let r = (exact j some).0 m in contains_map (λ (t : Step). t.number) steps r.0 j
-          r.1 r.2) reached
+        (λ j some m. let r = (exact j some).0 m in
+          contains_map (λ (t : Step). t.number) steps r.0 j r.1 r.2) reached
 
     -- where not all labels are made
     pub fill_fails : (e : CofactorFault) → FailsToFill s.problem.problem s.handled marks limit e
@@ -123,8 +124,8 @@ module _ (s : Snapshot) (is : IsSnapshot s) (steps : List Step)
             has_terms s.problem.problem.setting
             (step_multiples (labels_of s.problem.problem.setting.prime h.run.entries) steps) m own
 
-        pub represents : length m ≤ limit → IsRepresentation s.problem.problem s.handled steps limit
-            m
+        pub represents : length m ≤ limit
+            → IsRepresentation s.problem.problem s.handled steps limit m
         represents few = record {
           run = h.run;
           last = h.last;
@@ -134,7 +135,8 @@ module _ (s : Snapshot) (is : IsSnapshot s) (steps : List Step)
             entries =
                 λ j i n terms. few_filled s.problem is.problem s.handled marks limit labels h j i
                 (need h.run n) terms;
-            sum = λ i terms. omega (arith, terms_once s.problem.problem.setting.prime
+            sum = λ i terms. omega (arith,
+                  terms_once s.problem.problem.setting.prime
                   (step_multiples (labels_of s.problem.problem.setting.prime h.run.entries) steps) i
                   (length m) terms own_terms, few);
           };
@@ -148,6 +150,7 @@ module _ (s : Snapshot) (is : IsSnapshot s) (steps : List Step)
           runs = h.runs;
           many = (subst (λ i. HasTerms s.problem.problem.setting.prime
                   (step_multiples (labels_of s.problem.problem.setting.prime h.run.entries) steps)
-                  i) (sym count) own_terms, many, λ j i n ts. few_filled s.problem is.problem
-                s.handled marks limit labels h j i (need h.run n) ts);
+                  i) (sym count) own_terms, many,
+                λ j i n ts. few_filled s.problem is.problem s.handled marks limit labels h j i
+                (need h.run n) ts);
         }

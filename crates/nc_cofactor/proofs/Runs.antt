@@ -56,8 +56,8 @@ module _ (P : NamedProblem) (problem : IsProblem P) (n : ℕ) where
 
   -- a label has as many terms as its normal form lists
   pub label_terms : (run : State) (k : ℕ) (m : List (Term Sig))
-      → IsLabelOf P.problem.setting run (EntryOf k) m → EntryTerms P.problem.setting.prime run k
-      (length m)
+      → IsLabelOf P.problem.setting run (EntryOf k) m
+      → EntryTerms P.problem.setting.prime run k (length m)
   label_terms run k m l =
       label_count P.problem.setting run (EntryOf k) m l
       (label_at (labels_of P.problem.setting.prime run.entries) k) (l.is.0, l.is.1, refl)
@@ -214,8 +214,9 @@ module _ (P : NamedProblem) (problem : IsProblem P) (n : ℕ) where
         new : IsLabelOf P.problem.setting a.run (SyzygyOf k) h.label
         new = next_syzygy k h.label h.has
 
-        lesser : (j i : ℕ) (α : Element) → 1 ≤ j → j < k → IsLabelIn P.problem.setting.prime a.run
-            (SyzygyOf j) α → HasTerms P.problem.setting.prime α i → i ≤ limit
+        lesser : (j i : ℕ) (α : Element) → 1 ≤ j → j < k
+            → IsLabelIn P.problem.setting.prime a.run (SyzygyOf j) α
+            → HasTerms P.problem.setting.prime α i → i ≤ limit
         lesser j i α some l is terms =
             let m : List (Term Sig) = get_or labels (j - 1) [] in
             let within : j - 1 < length labels = omega (arith, l, next, some) in

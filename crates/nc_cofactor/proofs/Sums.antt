@@ -120,8 +120,8 @@ element_of-minus p c x y =
     (element_of-scale ((p - 1) * c) y)
 
 -- residues times 1
-once : (p : ℕ) (u : Word) (m : List (Term Sig)) (v : Word) → AllByRecursion (λ t. t.coefficient < p)
-    m → module_multiples p 1 u m v ≡ module_times u m v
+once : (p : ℕ) (u : Word) (m : List (Term Sig)) (v : Word)
+    → AllByRecursion (λ t. t.coefficient < p) m → module_multiples p 1 u m v ≡ module_times u m v
 once p u [] v a = refl
 once p u (t ∷ m) v a =
     ap₂ (λ (n : ℕ) (l : List (Term Sig)). record { coefficient = n; key = sig_times u t.key v } ∷ l)
@@ -135,8 +135,8 @@ same_multiples : (p c : ℕ) (u : Word) (m : List (Term Sig)) (v : Word)
     → SameSum same_sig p (module_multiples p c u m v) (scale c (module_times u m v))
 same_multiples p c u m v = record { at = λ k. each k m }
   where
-    each : (k : Sig) (m : List (Term Sig)) → coefficient_by same_sig (module_multiples p c u m v)
-        k % p ≡ coefficient_by same_sig (scale c (module_times u m v)) k % p
+    each : (k : Sig) (m : List (Term Sig)) → coefficient_by same_sig (module_multiples p c u m v) k
+        % p ≡ coefficient_by same_sig (scale c (module_times u m v)) k % p
     each k [] = refl
     each k (t ∷ m) =
         add-mod (((c * t.coefficient) % p) * is_at same_sig k (sig_times u t.key v))
@@ -159,8 +159,8 @@ module _ (s : Setting) where
             left = u ++ σ.left; right = σ.right ++ v }
 
   moved_degrees : (k : ℕ) (u : Word) (m : List (Term Sig)) (v : Word)
-      → AllByRecursion (λ t. HasDegree s t.key) m → AllByRecursion (λ t. HasDegree s t.key)
-      (module_multiples s.prime k u m v)
+      → AllByRecursion (λ t. HasDegree s t.key) m
+      → AllByRecursion (λ t. HasDegree s t.key) (module_multiples s.prime k u m v)
   moved_degrees k u [] v a = tt
   moved_degrees k u (t ∷ m) v a = (times_degree u t.key v a.0, moved_degrees k u m v a.1)
 
@@ -234,8 +234,9 @@ module _ (s : Setting) where
       → Descends compare_sigs new → AreResiduesBy s.prime new → IsSum s (element_times u α v) new
   sum_begins α u m v new some addable is e d residues =
       let whole : module_multiples s.prime 1 u m v ++ [] ≡ module_times u m v =
-          append-nil (module_multiples s.prime 1 u m v) ∙ once s.prime u m v
-          (recursion_from_All (λ (t : Term Sig). t.coefficient < s.prime) m addable.residues) in
+          append-nil (module_multiples s.prime 1 u m v)
+          ∙ once s.prime u m v (recursion_from_All (λ (t : Term Sig). t.coefficient < s.prime) m
+            addable.residues) in
       is_sum (module_multiples s.prime 1 u m v ++ []) new (element_times u α v)
       (joined_degrees (module_multiples s.prime 1 u m v) []
             (moved_degrees 1 u m v (recursion_from_All (λ (t : Term Sig). HasDegree s t.key) m
@@ -252,9 +253,8 @@ module _ (s : Setting) where
   pub sum_steps : (α β : Element) (c : ℕ) (u : Word) (m : List (Term Sig)) (v : Word)
       (old new : List (Term Sig)) → c < s.prime → IsAddable s u m v
       → SameSum same_monomial s.prime (element_of m) β
-      → SameSum same_sig s.prime new
-      (module_multiples s.prime ((s.prime - c) % s.prime) u m v ++ old) → Descends compare_sigs new
-      → AreResiduesBy s.prime new → IsSum s α old
+      → SameSum same_sig s.prime new (module_multiples s.prime ((s.prime - c) % s.prime) u m v
+        ++ old) → Descends compare_sigs new → AreResiduesBy s.prime new → IsSum s α old
       → IsSum s (minus s.prime α c (element_times u β v)) new
   sum_steps α β c u m v old new small addable is e d residues h =
       let k = (s.prime - c) % s.prime in
@@ -301,8 +301,8 @@ module _ (s : Setting) where
       let whole : element_of (scale c (module_times u m v) ++ old) ≡ scale c
           (element_times u (element_of m) v) ++ element_of old =
       element_of-append (scale c (module_times u m v)) old
-          ∙ ap (λ (l : Element). l ++ element_of old)
-          (element_of-scale c (module_times u m v) ∙ ap (scale c) (element_of-times u m v)) in
+          ∙ ap (λ (l : Element). l ++ element_of old) (element_of-scale c (module_times u m v)
+            ∙ ap (scale c) (element_of-times u m v)) in
       is_sum (module_multiples s.prime c u m v ++ old) new (scale c (element_times u β v) ++ α)
       (joined_degrees (module_multiples s.prime c u m v) old
             (moved_degrees c u m v (recursion_from_All (λ (t : Term Sig). HasDegree s t.key) m

@@ -25,7 +25,8 @@ use Rattle.std.specs.List.{AllByRecursion}
 -- an element has one number of terms
 pub terms_once : (p : ℕ) (α : Element) (n m : ℕ) → HasTerms p α n → HasTerms p α m → n ≡ m
 terms_once p α n m a b =
-    omega (arith, a.count, b.count, at_most a.monomials b.monomials a.distinct
+    omega (arith, a.count, b.count,
+      at_most a.monomials b.monomials a.distinct
       (λ x k. contains_among x b.monomials
         ((b.exact x).1 ((a.exact x).0 (among_contains x a.monomials k)))),
       at_most b.monomials a.monomials b.distinct
@@ -58,8 +59,8 @@ module _ (s : Setting) where
 
   -- the coefficient, with or without degrees
   coefficient_at : (k : Sig) → HasDegree s k → (m : List (Term Sig))
-      → AllByRecursion (λ t. HasDegree s t.key) m → coefficient_by same_monomial (element_of m)
-      (monomial_of k) ≡ coefficient_by same_sig m k
+      → AllByRecursion (λ t. HasDegree s t.key) m
+      → coefficient_by same_monomial (element_of m) (monomial_of k) ≡ coefficient_by same_sig m k
   coefficient_at k a [] b = refl
   coefficient_at k a (t ∷ m) b =
       ap₂ (λ x y. t.coefficient * x + y) (same_at k t.key a b.0) (coefficient_at k a m b.1)
@@ -84,7 +85,7 @@ module _ (s : Setting) where
   listed (t ∷ m) σ (inl e) = (t, inl refl, e)
   listed (t ∷ m) σ (inr h) =
       let r : (t : Term Sig) × Among t m × (σ ≡ monomial_of t.key) =
-      listed m σ h in (r.0, inr r.1, r.2)
+          listed m σ h in (r.0, inr r.1, r.2)
 
   there : (m : List (Term Sig)) (σ : Monomial)
       → ¬ IsZero s.prime (coefficient_by same_monomial (element_of m) σ) → Among σ (monomials m)
@@ -149,8 +150,8 @@ module _ (s : Setting) where
 
   -- equal elements are equal sums with their degrees
   pub same_sigs : (m m' : List (Term Sig)) → AllByRecursion (λ t. HasDegree s t.key) m
-      → AllByRecursion (λ t. HasDegree s t.key) m' → SameSum same_monomial s.prime (element_of m)
-      (element_of m') → SameSum same_sig s.prime m m'
+      → AllByRecursion (λ t. HasDegree s t.key) m'
+      → SameSum same_monomial s.prime (element_of m) (element_of m') → SameSum same_sig s.prime m m'
   same_sigs m m' a b e =
       record { at = λ k. go k (key_dec same_sig (λ σ τ. compare_sigs σ τ ≡ Less) sig_laws k
           (sig_of (generator_weight s) (monomial_of k))) }

@@ -24,13 +24,15 @@ fn next_label(
     limit: u64,
 ) -> Result<Module, CofactorFault>
     requires few { length labels.now ≤ 1000000000 }
-    requires named { (t : TraceValue) → slot ≡ Some t → AreNamedLabels snapshot.now.problem.problem
-          snapshot.now.handled (EntryOf (length labels.now + 1)) t labels.now }
+    requires named { (t : TraceValue) → slot ≡ Some t
+          → AreNamedLabels snapshot.now.problem.problem snapshot.now.handled
+          (EntryOf (length labels.now + 1)) t labels.now }
     ensures label { IfOk result (IsNewLabel snapshot.now.problem.problem snapshot.now.handled limit
             (length labels.now + 1) slot) }
     ensures fault { IfErr result (λ e. (e ≡ CofactorFault.OutOfMemory)
-            ⊎ ((t : TraceValue) × (slot ≡ Some t) × FailsToSum snapshot.now.problem.problem
-              snapshot.now.handled (EntryOf (length labels.now + 1)) limit e)) }
+            ⊎ ((t : TraceValue) × (slot ≡ Some t)
+              × FailsToSum snapshot.now.problem.problem snapshot.now.handled
+              (EntryOf (length labels.now + 1)) limit e)) }
 {
     let Some(trace) = slot else {
         return Ok(Module::zero(alloc));

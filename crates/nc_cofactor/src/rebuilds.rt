@@ -96,8 +96,9 @@ pub fn rebuild(
     requires listed { IsListedSignature snapshot.now.state (monomial_of sig.now) }
     requires lesser { AreLesser snapshot.now.problem.problem.setting snapshot.now.state.entries
           (monomial_of sig.now) entries }
-    ensures { IfOk result (λ t. (f : Polynomial) × Rebuilds snapshot.now.problem.problem.setting
-            snapshot.now.state.entries (monomial_of sig.now) t f) }
+    ensures { IfOk result (λ t. (f : Polynomial)
+            × Rebuilds snapshot.now.problem.problem.setting snapshot.now.state.entries
+            (monomial_of sig.now) t f) }
 {
     snapshot.recall_rule();
     let start = start_over(alloc, snapshot, sig, entries)?;

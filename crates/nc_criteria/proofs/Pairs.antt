@@ -24,8 +24,8 @@ times_degree : (s : Setting) (u v : Word) (σ : Sig) → HasDegree s σ → HasD
 times_degree s u v σ h =
     let d : σ.degree ≡ (sig_of (generator_weight s) (monomial_of σ)).degree =
         ap (λ (x : Sig). x.degree) h in
-    let whole : word_weight u + σ.degree + word_weight
-        v ≡ (sig_of (generator_weight s) (times u (monomial_of σ) v)).degree =
+    let whole : word_weight u + σ.degree + word_weight v
+        ≡ (sig_of (generator_weight s) (times u (monomial_of σ) v)).degree =
         omega (arith, d, degree-times (generator_weight s) u v (monomial_of σ)) in
     ap (λ n. record { degree = n; generator = σ.generator;
             left = u ++ σ.left; right = σ.right ++ v }) whole
@@ -39,8 +39,8 @@ module _ (σ τ : Monomial) (u v : Word) (is : times u σ v ≡ τ) where
 
   pub is_behind : (x y m : Word) → times x (times [] σ m) y ≡ τ → m ++ y ≡ v
   is_behind x y m e =
-      append_cancel_left σ.right (m ++ y) v
-      (sym (append_assoc σ.right m y) ∙ ap (λ (ρ : Monomial). ρ.right) (e ∙ sym is))
+      append_cancel_left σ.right (m ++ y) v (sym (append_assoc σ.right m y)
+        ∙ ap (λ (ρ : Monomial). ρ.right) (e ∙ sym is))
 
   pub before_is : (rest m : Word) → rest ++ m ≡ u → times rest (times m σ []) v ≡ τ
   before_is rest m e = times-times rest m [] v σ ∙ (ap (λ x. times x σ v) e ∙ is)
@@ -153,8 +153,9 @@ module _ (s : Setting) (entries : List Entry) (τ : Monomial) where
           go (inl (m, less, (x, y, e))) =
               inl (record { m = m; rest = y;
                   spells = sym (append_assoc m other.word.now y)
-                  ∙ (ap (λ l. (m ++ l) ++ y) (sym others.leads) ∙ is_behind mine.entry.signature τ u
-                    v signed x y (m ++ leading s.prime others.entry.polynomial) e);
+                  ∙ (ap (λ l. (m ++ l) ++ y) (sym others.leads)
+                    ∙ is_behind mine.entry.signature τ u v signed x y
+                    (m ++ leading s.prime others.entry.polynomial) e);
                   lesser = (lesser_behind m).1 less })
           go (inr (m, less, (x, y, e))) =
               inr (record { rest = x; m = m;
@@ -231,14 +232,12 @@ module _ (s : Setting) (entries : List Entry) (τ : Monomial) where
           ⊎ (IsLess s (first_side s t.first t.m t.second) (second_side s t.first t.m t.second)
             × (ρ ≡ second_side s t.first t.m t.second)) → ⊥
       go (inl (less, i)) =
-          before t.first_listed.0 (omega (arith, h, t.first_listed.1))
-          (t.second_listed.0, record { own = t.first;
-              own_stands = stands t.first t.first_listed;
+          before t.first_listed.0 (omega (arith, h, t.first_listed.1)) (t.second_listed.0,
+            record { own = t.first; own_stands = stands t.first t.first_listed;
               other = t.second; other_stands = stands t.second t.second_listed;
               by = inl (t.m, less, subst (λ σ. Divides σ τ) i d) })
       go (inr (less, i)) =
-          before t.second_listed.0 (omega (arith, h, t.second_listed.1))
-          (t.first_listed.0, record { own = t.second;
-              own_stands = stands t.second t.second_listed;
+          before t.second_listed.0 (omega (arith, h, t.second_listed.1)) (t.first_listed.0,
+            record { own = t.second; own_stands = stands t.second t.second_listed;
               other = t.first; other_stands = stands t.first t.first_listed;
               by = inr (t.m, less, subst (λ σ. Divides σ τ) i d) })

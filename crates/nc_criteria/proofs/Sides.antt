@@ -25,8 +25,8 @@ nat_cmp_more a b k x y d e = go (nat_order a b)
     go (inr (inr l)) =
         sym (nat_cmp_is x y Greater (omega (arith, l, d, e))) ∙ nat_cmp_is a b Greater l
 
-then_first : (a b c : Ordering) → ordering_then a (ordering_then b c) ≡ ordering_then
-    (ordering_then a b) c
+then_first : (a b c : Ordering)
+    → ordering_then a (ordering_then b c) ≡ ordering_then (ordering_then a b) c
 then_first Less b c = refl
 then_first Equal b c = refl
 then_first Greater b c = refl
@@ -127,7 +127,8 @@ module _ (own other : Lead) where
         record { m = m; rest = rest; spells = sym e;
               lesser = by_words (compare_sigs (sig_times (own.word.now ++ m) other.sig.now [])
                 (sig_times [] own.sig.now (m ++ other.word.now))) (compare_heads own other)
-              (words_behind own other m) (sides_behind m) heads ∙ is_less (words_behind own other m)
+              (words_behind own other m) (sides_behind m) heads
+              ∙ is_less (words_behind own other m)
               (ap (λ x. is_lt (words_behind own other x)) (sym (front m rest at e n)) ∙ less) }
 
     pub none_behind : (from : ℕ) → NoneBehind from → IsPlaceFrom other.word.now v from None
@@ -194,7 +195,8 @@ module _ (own other : Lead) where
         record { rest = rest; m = m; spells = sym e;
               lesser = by_words (compare_sigs (sig_times [] other.sig.now (m ++ own.word.now))
                 (sig_times (other.word.now ++ m) own.sig.now [])) (compare_heads own other)
-              (words_before own other m) (sides_before m) heads ∙ is_less (words_before own other m)
+              (words_before own other m) (sides_before m) heads
+              ∙ is_less (words_before own other m)
               (ap (λ x. is_lt (words_before own other x)) (sym (back rest m at e n)) ∙ less) }
 
     pub none_before : (from : ℕ) → NoneBefore from → IsPlaceFrom other.word.now u from None

@@ -42,5 +42,6 @@ IsBestWithin s entries τ after until (Some m) =
 abbrev pub BestMultipleLaw : Type 0
 BestMultipleLaw = (s : Setting) (entries : List Entry) (τ : Monomial) →
     (IsBestWithin s entries τ 0 (length entries) None ↔ ((w : Word) → ¬ MultipleAt s entries τ w))
-    × ((w : Word) (d : Divisor s entries w) → IsBestMultipleWithin s entries τ 0 (length entries) w
-          d ↔ IsBestMultiple s entries τ w d)
+    × ((w : Word) (d : Divisor s entries w)
+          → IsBestMultipleWithin s entries τ 0 (length entries) w d
+          ↔ IsBestMultiple s entries τ w d)

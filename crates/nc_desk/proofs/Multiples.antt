@@ -45,8 +45,8 @@ module _ (s : Setting) (entries : List Entry) (usable : All (IsUsable s) entries
 
     pub lead_is : leading s.prime (polynomial_of entries j) ≡ t.key
     lead_is =
-        ap (leading s.prime) (read ∙ parts) ∙ leading-normal s.prime t others
-        (subst (IsNormal s.prime) parts usable_one.normal)
+        ap (leading s.prime) (read ∙ parts)
+        ∙ leading-normal s.prime t others (subst (IsNormal s.prime) parts usable_one.normal)
 
 -- ---- the best multiple
 

@@ -71,7 +71,7 @@ module _ (s : Snapshot) (h : IsSnapshot s) (τ : Monomial) (x : IsNextAt s τ) w
         the_lead : record { word = t.key; signature = σ } ≡ lead_of s.problem.problem.setting new
         the_lead =
             let a = new_lead in let b =
-            degree ∙ ap (sig_of (generator_weight s.problem.problem.setting)) is in
+                degree ∙ ap (sig_of (generator_weight s.problem.problem.setting)) is in
             λ i. record { word = sym a i; signature = b i }
 
         more_listed : more ≡ leads_of s.problem.problem.setting (s.state.entries ++ new ∷ [])

@@ -19,8 +19,8 @@ use Rattle.nc_theory.specs.States.{Entry}
 use Rattle.std.proofs.Common.{Contains, IfSome, IsNone, List, None, Option, Some, [], ap, arith, inl, inr, map, refl, subst, sym, ◌+◌, ◌∙◌, ◌∷◌, ◌≡◌, ◌↔◌, ◌⊎◌}
 
 -- traces do not show in the leads
-pub untraced_leads : (s : Setting) (es : List Entry) → leads_of s (map untraced_entry es) ≡ leads_of
-    s es
+pub untraced_leads : (s : Setting) (es : List Entry)
+    → leads_of s (map untraced_entry es) ≡ leads_of s es
 untraced_leads s [] = refl
 untraced_leads s (e ∷ es) = ap (λ (ls : List Lead). lead_of s e ∷ ls) (untraced_leads s es)
 

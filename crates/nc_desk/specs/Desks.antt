@@ -26,8 +26,8 @@ pub record AreLeft (s : Snapshot) (signatures : List Sig) : Type 0 where
   pub last : Option Monomial
   pub run : IsRunTo s.problem.problem s.handled s.state last
   pub exact : (σ : Sig) → Contains signatures σ
-      ↔ (HasDegree s.problem.problem.setting σ × IsWaiting s.problem.problem s.state last
-        (monomial_of σ))
+      ↔ (HasDegree s.problem.problem.setting σ
+        × IsWaiting s.problem.problem s.state last (monomial_of σ))
 
 -- what is kept beside a snapshot fits it, and the window is 1 to 4,096
 pub record IsDesk (s : Snapshot) (leads : List Lead) (signatures : List Sig) (window : ℕ) : Type 0

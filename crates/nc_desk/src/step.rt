@@ -40,10 +40,12 @@ fn entry_news(
     requires leads { LeadsOf snapshot.now leads.now }
     requires degree { HasDegree snapshot.now.problem.problem.setting sig.now.value }
     requires next { IsNextAt snapshot.now (monomial_of sig.now.value) }
-    requires handles { (trace : Trace) × Handles snapshot.now.problem.problem.setting
-          snapshot.now.state (monomial_of sig.now.value) (Result.an_entry poly.now trace) }
-    ensures { IfOk result (λ r. (trace : Trace) → Handles snapshot.now.problem.problem.setting
-            snapshot.now.state (monomial_of sig.now.value) (Result.an_entry poly.now trace)
+    requires handles { (trace : Trace)
+          × Handles snapshot.now.problem.problem.setting snapshot.now.state
+          (monomial_of sig.now.value) (Result.an_entry poly.now trace) }
+    ensures { IfOk result (λ r. (trace : Trace)
+            → Handles snapshot.now.problem.problem.setting snapshot.now.state
+            (monomial_of sig.now.value) (Result.an_entry poly.now trace)
             → AreNews snapshot.now.problem.problem snapshot.now.state (monomial_of sig.now.value)
             (Result.an_entry poly.now trace) r.0 (map arc_value r.1.items)) }
 {

@@ -48,9 +48,9 @@ module _ (l : Lead) (w : Word) (β : Sig) where
           below = lesser (sig_times u l.signature v) (omega (arith, degree_at u v (sym e), less)) },
         h)
 
-  pub first_of_all : (n : ℕ) → n ≡ word_weight w → Less ≡ nat_cmp (n + l.signature.degree)
-      (β.degree + word_weight l.word) → (a : Option ℕ) → IsPlaceFrom l.word w 0 a
-      → IsFirstPlace l w β a
+  pub first_of_all : (n : ℕ) → n ≡ word_weight w
+      → Less ≡ nat_cmp (n + l.signature.degree) (β.degree + word_weight l.word) → (a : Option ℕ)
+      → IsPlaceFrom l.word w 0 a → IsFirstPlace l w β a
   first_of_all n weight less a found = go a found
     where
       lighter : word_weight w + l.signature.degree < β.degree + word_weight l.word
@@ -64,8 +64,9 @@ module _ (l : Lead) (w : Word) (β : Sig) where
           (all_regular lighter q found.1, λ r h. found.2 r (omega arith) (regular_occurs r h))
 
   -- where it is greater, none will
-  pub none_regular : (n : ℕ) → n ≡ word_weight w → Greater ≡ nat_cmp (n + l.signature.degree)
-      (β.degree + word_weight l.word) → IsFirstPlace l w β None
+  pub none_regular : (n : ℕ) → n ≡ word_weight w
+      → Greater ≡ nat_cmp (n + l.signature.degree) (β.degree + word_weight l.word)
+      → IsFirstPlace l w β None
   none_regular n weight more q (u, v, r, h) =
       let heavier : β.degree + word_weight l.word < n + l.signature.degree =
           ranked (n + l.signature.degree) (β.degree + word_weight l.word) Greater more in

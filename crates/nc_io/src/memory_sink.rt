@@ -70,18 +70,18 @@ impl Sink for MemorySink {
         ensures cause { HasCause self.old.faults self.new.faults result }
 
         // When it fails, and how much it puts otherwise.
-        ensures fails { IsTrue (is_err result) ↔ IsFailingPut self.old.failing.items self.old.calls
-              self.old.faults self.old.spare }
+        ensures fails { IsTrue (is_err result)
+              ↔ IsFailingPut self.old.failing.items self.old.calls self.old.faults self.old.spare }
         ensures count { IfOk result (λ n. n ≡ put_count self.old.step self.old.spare
                 (length piece.now)) }
 
         // What becomes of each field.
         ensures kept { MatchResult result
-              (λ _. self.new.bytes.items ≡ self.old.bytes.items ++ take
-                (kept_count self.old.step self.old.spare (length piece.now)) piece.now)
+              (λ _. self.new.bytes.items ≡ self.old.bytes.items
+                ++ take (kept_count self.old.step self.old.spare (length piece.now)) piece.now)
               (λ _. self.new.bytes.items ≡ self.old.bytes.items) }
-        ensures room { self.new.spare + vec_len self.new.bytes ≡ self.old.spare + vec_len
-              self.old.bytes }
+        ensures room { self.new.spare + vec_len self.new.bytes ≡ self.old.spare
+              + vec_len self.old.bytes }
         ensures calls { self.new.calls ≡ call_number self.old.calls }
         ensures faults { MatchResult result (λ _. self.new.faults ≡ self.old.faults)
               (λ _. self.new.faults ≡ self.old.faults + 1) }

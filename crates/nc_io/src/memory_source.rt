@@ -40,8 +40,8 @@ impl Source for MemorySource {
         ensures cause { HasCause self.old.faults self.new.faults result }
 
         // When it fails, and how much it gives otherwise.
-        ensures fails { IsTrue (is_err result) ↔ IsFailing self.old.failing.items self.old.calls
-              self.old.faults }
+        ensures fails { IsTrue (is_err result)
+              ↔ IsFailing self.old.failing.items self.old.calls self.old.faults }
         ensures count { IfOk result (λ n. n ≡ given_count self.old.step (length buf.old)
                 (vec_len self.old.bytes - self.old.at)) }
         ensures rest { MatchResult result (λ n. drop n buf.new ≡ drop n buf.old)

@@ -39,8 +39,9 @@ impl<R: Read> Source for StdSource<R> {
         // The count and the reader.
         ensures counted { MatchResult result (λ _. self.new.faults ≡ self.old.faults)
               (λ _. self.new.faults ≡ self.old.faults + 1) }
-        ensures passed { self.old.faults < 2 ^ 64 - 1 → ReadConsumes (R.remaining self.old.reader)
-              (R.remaining self.new.reader) result buf.new }
+        ensures passed { self.old.faults < 2 ^ 64 - 1
+              → ReadConsumes (R.remaining self.old.reader) (R.remaining self.new.reader) result
+              buf.new }
         ensures spent { self.old.faults ≡ 2 ^ 64 - 1 → (result ≡ Ok 0) × (self.new ≡ self.old) }
     {
         if self.faults == u64::MAX {

@@ -32,8 +32,8 @@ use Rattle.std.proofs.Common.{List, [], ap, arith, subst, sym, ℕ, ◌%◌, ◌
 
 -- a reduction by the entries of the state is one by those of the run
 pub rest_at : (P : Problem) (n : ℕ) (state : State) → IsRunOf P n state
-    → (f rest : Polynomial) (steps : List Step) → Reduction P.setting state.entries (IsWithin P) f
-    rest steps → IsRestOf P n f rest steps
+    → (f rest : Polynomial) (steps : List Step)
+    → Reduction P.setting state.entries (IsWithin P) f rest steps → IsRestOf P n f rest steps
 rest_at P n state is f rest steps r =
     record { run = is.run; last = is.last;
       runs = is.runs; reduces = moved_reduction P.setting state.entries is.run.entries
@@ -73,8 +73,8 @@ module _ (P : NamedProblem) (is : IsProblem P) (n : ℕ) (f : Polynomial) (steps
 
       law : IsIn P.problem.setting whole (IsWithin P.problem)
           × ((y : Word) → coefficient f y % P.problem.setting.prime
-            ≡ (coefficient (evaluation P.problem.setting whole) y + coefficient []
-              y) % P.problem.setting.prime)
+            ≡ (coefficient (evaluation P.problem.setting whole) y + coefficient [] y)
+            % P.problem.setting.prime)
       law = represents P.problem.setting field r.run (invariant P.problem field r.runs).sound
           (IsWithin P.problem) (within_down P.problem)
           (labels_of P.problem.setting.prime r.run.entries)

@@ -41,8 +41,8 @@ subtracted_named P entries steps (f, rest, r) =
 -- ---- ascending numbers within a limit
 
 raised : (x low bound : ℕ) (xs : List ℕ) → AllByRecursion (λ y. x < y) xs
-    → AllByRecursion (λ y. (low < y) × (y ≤ bound)) xs → AllByRecursion (λ y. (x < y) × (y ≤ bound))
-    xs
+    → AllByRecursion (λ y. (low < y) × (y ≤ bound)) xs
+    → AllByRecursion (λ y. (x < y) × (y ≤ bound)) xs
 raised x low bound [] a h = tt
 raised x low bound (y ∷ xs) a h = ((a.0, h.0.1), raised x low bound xs a.1 h.1)
 
@@ -66,8 +66,9 @@ module _ (P : NamedProblem) (is : IsProblem P) (n : ℕ) (few : n ≤ P.problem.
       go (e, some, at, i) =
           (omega (arith, some), omega (arith, slice_get_within h.run.entries (x.0 - 1) e at, some))
 
-  residues : (list : List (ℕ × Trace)) → AllByRecursion (λ x. IsTraceIn h.run (EntryOf x.0) x.1)
-      list → AllByRecursion (λ x. HasResidues P.problem.setting.prime x.1) list
+  residues : (list : List (ℕ × Trace))
+      → AllByRecursion (λ x. IsTraceIn h.run (EntryOf x.0) x.1) list
+      → AllByRecursion (λ x. HasResidues P.problem.setting.prime x.1) list
   residues [] a = tt
   residues (x ∷ list) a =
       let g : IsSigned P.problem h.run (EntryOf x.0) x.1 =

@@ -117,7 +117,7 @@ rises xs h i j d low within = go (order i j low)
     go : (i < j) ⊎ (i ≡ j) → get_or xs i d ≤ get_or xs j d
     go (inl l) =
         let less : get_or xs i d < get_or xs j d =
-        AllPairs-from_increasing xs h i j d l within in omega (arith, less)
+            AllPairs-from_increasing xs h i j d l within in omega (arith, less)
     go (inr e) =
         let same : get_or xs i d ≡ get_or xs j d = ap (λ k. get_or xs k d) e in omega (arith, same)
 

@@ -97,8 +97,8 @@ module _ (s : Setting) (entries : List Entry) (needed done : List ℕ) (values :
       → IsReached s entries needed (reaches ++ reach ∷ []) k
   more_reached k (inl c) =
       let old : IsReached s entries needed reaches k = behind.reached k c in
-      record { some = old.some; within = omega
-            (arith, old.within, length-append reaches (reach ∷ []));
+      record { some = old.some; within = omega (arith, old.within,
+              length-append reaches (reach ∷ []));
             short = λ e at. omega (arith, item_before 0 reaches reach (line_of needed k) old.within,
               old.short e at) }
   more_reached k (inr i) =
@@ -227,8 +227,8 @@ module _ (P : NamedProblem) (is : IsProblem P) (prime : IsPrime P.problem.settin
     low = omega (arith, degree_within P.problem.setting P.problem.bound e.signature
           ((invariant P.problem field runs).within e listed).1, is.limited)
 
-    first_at : (x : Entry) (c : Contains again.first x) → slice_get run.entries (c.0 + 1 - 1) ≡ Some
-        x
+    first_at : (x : Entry) (c : Contains again.first x)
+        → slice_get run.entries (c.0 + 1 - 1) ≡ Some x
     first_at x c =
         let within : c.0 < length (again.first ++ again.rest) =
             omega (arith, c.1, length-append again.first again.rest) in
@@ -420,13 +420,12 @@ module _ (P : NamedProblem) (is : IsProblem P) (prime : IsPrime P.problem.settin
           reach = line_reach P.problem.setting reaches line
 
           go : ((more : List Polynomial) (far before : List ℕ)
-                → needed ≡ before ++ map (λ y. y.0) rest → IsBehind P.problem.setting run.entries
-                needed before more far → IsDone more far
-                (entry_lines rest ++ (line_of_claim needed steps ∷ []))
+                → needed ≡ before ++ map (λ y. y.0) rest
+                → IsBehind P.problem.setting run.entries needed before more far
+                → IsDone more far (entry_lines rest ++ (line_of_claim needed steps ∷ []))
                 (length more + (length rest + 1))) → IsTraceIn run (EntryOf x.0) x.1
-              → IsDone values reaches (line ∷ (entry_lines
-                  rest ++ (line_of_claim needed steps ∷ [])))
-              (length values + (length (x ∷ rest) + 1))
+              → IsDone values reaches (line ∷ (entry_lines rest
+                  ++ (line_of_claim needed steps ∷ []))) (length values + (length (x ∷ rest) + 1))
           go others (entry, some, at, i) =
               record { value = later.value; keeps = (All-from_recursion
                   (IsPart (setting_of P) reaches) line
@@ -447,9 +446,8 @@ module _ (P : NamedProblem) (is : IsProblem P) (prime : IsPrime P.problem.settin
                     (subst Ascends e (ascends needed lists.ascending))) value reach
                   (λ y there. subst (λ (z : Entry). SamePolynomial P.problem.setting value
                           z.polynomial) (one_entry y there) own.value)
-                  (λ y there. subst (λ (z : Entry). reach ≤ degree P.problem.setting
-                          z.signature + 255) (one_entry y there)
-                        (line_short P.problem.setting reaches
+                  (λ y there. subst (λ (z : Entry). reach ≤ degree P.problem.setting z.signature
+                          + 255) (one_entry y there) (line_short P.problem.setting reaches
                           (degree P.problem.setting entry.signature + 255) line
                           (parts_short (setting_of P) reaches
                             (degree P.problem.setting entry.signature + 255) line own.parts)))

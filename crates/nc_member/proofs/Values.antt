@@ -60,9 +60,9 @@ module _ (s : Setting) (positive : 0 < s.prime) (entries : List Entry) (needed :
 
   -- one part more
   more_value : (part : Part) (line : Line) (y : Word)
-      → coefficient (line_value s values (part ∷ line)) y ≡ part.coefficient * coefficient
-      (polynomial_times part.left (factor_value s values part.of) part.right) y + coefficient
-      (line_value s values line) y
+      → coefficient (line_value s values (part ∷ line)) y ≡ part.coefficient
+      * coefficient (polynomial_times part.left (factor_value s values part.of) part.right) y
+      + coefficient (line_value s values line) y
   unfolding line_value
   more_value part line y =
       linear_sum-append (is_at same_word y) (part_value s values part) (line_value s values line)
@@ -76,8 +76,8 @@ module _ (s : Setting) (positive : 0 < s.prime) (entries : List Entry) (needed :
 
   -- the negated multiples cancel the multiples
   cancels : (steps : List Step) → AllByRecursion (λ step. step.coefficient < s.prime) steps
-      → (y : Word) → IsZero s.prime (coefficient (line_value s values (against steps))
-        y + coefficient (line_value s values (line_of_claim needed steps)) y)
+      → (y : Word) → IsZero s.prime (coefficient (line_value s values (against steps)) y
+        + coefficient (line_value s values (line_of_claim needed steps)) y)
   cancels [] a y =
       subst (IsZero s.prime) (sym (ap₂ (λ m n. m + n) (no_value y) (no_value y)))
       (zero_number s.prime)
@@ -102,8 +102,8 @@ module _ (s : Setting) (positive : 0 < s.prime) (entries : List Entry) (needed :
       regroup a b c d = omega arith
 
   -- a generator as a part
-  generator_value : (i : ℕ) (y : Word) → coefficient (polynomial_times [] (generator s i) [])
-      y ≡ coefficient (generator s i) y
+  generator_value : (i : ℕ) (y : Word) → coefficient (polynomial_times [] (generator s i) []) y
+      ≡ coefficient (generator s i) y
   generator_value i y =
       linear_sum-map_keys (is_at same_word y) (λ w. [] ++ (w ++ [])) (generator s i)
       ∙ linear_sum-ext (λ w. is_at same_word y ([] ++ (w ++ []))) (is_at same_word y)
@@ -123,8 +123,8 @@ module _ (s : Setting) (positive : 0 < s.prime) (entries : List Entry) (needed :
           rest) a y =
         put_back s.prime (coefficient f y) c (coefficient (multiple_at s first w d) y) m positive
             (sym same)
-        ∙ (sum_mod s.prime (coefficient f y + (s.prime - 1) * c * coefficient
-                (multiple_at s first w d) y) (n + coefficient kept y) (c * m) (c * m)
+        ∙ (sum_mod s.prime (coefficient f y + (s.prime - 1) * c
+                * coefficient (multiple_at s first w d) y) (n + coefficient kept y) (c * m) (c * m)
               (ap (λ k. k % s.prime) (sym (coefficient_polynomial_minus s f c
                     (multiple_at s first w d) y)) ∙ claim_value set rest a.1 y) refl
         ∙ ap (λ k. k % s.prime) (swap n (coefficient kept y) (c * m)
@@ -164,10 +164,10 @@ module _ (s : Setting) (positive : 0 < s.prime) (entries : List Entry) (needed :
     -- the value of what a trace begins with
     start_value : (τ : Monomial) → {f : Polynomial} {start : Start} → Starts s first τ f start
         → IsStartValued s entries needed values start → (y : Word)
-        → (start_part needed start).coefficient * coefficient
-        (polynomial_times (start_part needed start).left
-          (factor_value s values (start_part needed start).of) (start_part needed start).right)
-        y % s.prime ≡ coefficient f y % s.prime
+        → (start_part needed start).coefficient
+        * coefficient (polynomial_times (start_part needed start).left
+          (factor_value s values (start_part needed start).of) (start_part needed start).right) y
+        % s.prime ≡ coefficient f y % s.prime
     start_value τ (Starts.at_generator i e) a y =
         ap (λ n. n % s.prime) (one (coefficient (polynomial_times [] (generator s i) []) y)
           ∙ generator_value i y)
@@ -195,15 +195,15 @@ module _ (s : Setting) (positive : 0 < s.prime) (entries : List Entry) (needed :
       where
         value : (y : Word) → coefficient
             (line_value s values (trace_line s.prime needed
-                (record { start = start; steps = steps }))) y % s.prime ≡ coefficient kept
-            y % s.prime
+                (record { start = start; steps = steps }))) y % s.prime ≡ coefficient kept y
+            % s.prime
         value y =
             let n : ℕ = coefficient (line_value s values (against steps)) y in
             let o : ℕ = coefficient (line_value s values (line_of_claim needed steps)) y in
             let k : ℕ = coefficient kept y in
             let m : ℕ =
-                (start_part needed start).coefficient * coefficient
-                (polynomial_times (start_part needed start).left
+                (start_part needed start).coefficient
+                * coefficient (polynomial_times (start_part needed start).left
                   (factor_value s values (start_part needed start).of)
                   (start_part needed start).right) y in
             ap (λ i. i % s.prime) (more_value (start_part needed start) (against steps) y)

@@ -39,9 +39,9 @@ module _ (P : Problem) (field : IsField P.setting.prime) {n : ℕ} {run : State}
             ≡ (coefficient (evaluation P.setting α) y + coefficient [] y) % P.setting.prime)
           → HasRepresentation P.setting (IsWithin P) f
       go (α, lies, value) =
-          (α, lies, record { at = λ y. sym
-              (value y ∙ ap (λ m. m % P.setting.prime)
-                (no_more (coefficient (evaluation P.setting α) y))) })
+          (α, lies, record { at = λ y. sym (value y
+                ∙ ap (λ m. m % P.setting.prime) (no_more (coefficient (evaluation P.setting α) y)))
+              })
         where
           no_more : (m : ℕ) → m + 0 ≡ m
           no_more m = omega arith

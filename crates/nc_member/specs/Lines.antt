@@ -45,5 +45,5 @@ line_of_claim needed steps = map (λ step. step_part needed step.coefficient ste
 abbrev pub proof_lines : ℕ → List (ℕ × Trace) → List Step → List Line
 proof_lines p needed [] = []
 proof_lines p needed (step ∷ steps) =
-    map (λ x. trace_line p (map (λ y. y.0) needed) x.1)
-    needed ++ (line_of_claim (map (λ y. y.0) needed) (step ∷ steps) ∷ [])
+    map (λ x. trace_line p (map (λ y. y.0) needed) x.1) needed
+    ++ (line_of_claim (map (λ y. y.0) needed) (step ∷ steps) ∷ [])

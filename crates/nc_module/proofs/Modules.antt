@@ -36,8 +36,8 @@ module _ {K : Type 0} (m start : List (Term K)) (items new : List (K × ℕ)) (i
       → listed new ≡ start ++ take (i + 1) m
   copies_more so_far key coefficient =
       listed_more start (take i m) items new t e so_far pushed key coefficient
-      ∙ ap (λ (l : List (Term K)). start ++ l)
-          (ap (λ (s : Term K). take i m ++ s ∷ []) at ∙ sym (take_more m i t within))
+      ∙ ap (λ (l : List (Term K)). start ++ l) (ap (λ (s : Term K). take i m ++ s ∷ []) at
+            ∙ sym (take_more m i t within))
 
   -- one more multiple
   pub moved_more : (p c : ℕ) (φ : K → K) → listed items ≡ start ++ moved_by p c φ (take i m)
@@ -60,8 +60,8 @@ negative_twice p c y small =
     ap (λ n. n % p) (regroup (p - 1) ((p - c) % p))
     ∙ (mul-mod_first (p - c) ((p - 1) * y) p
     ∙ (sym (add-mul-mod_self_left ((p - c) * ((p - 1) * y)) p (c * y))
-    ∙ (ap (λ n. n % p) (form (p - 1) (p - c) (omega arith) (omega arith)) ∙ add-mul-mod_self_left
-          (c * y) p ((p - 1) * y))))
+    ∙ (ap (λ n. n % p) (form (p - 1) (p - c) (omega arith) (omega arith))
+          ∙ add-mul-mod_self_left (c * y) p ((p - 1) * y))))
   where
     regroup : (q k : ℕ) → q * k * y ≡ k * (q * y)
     regroup q k = omega arith
@@ -127,8 +127,8 @@ module _ (s : Setting) where
       let now : Polynomial = evaluation s (element_of (take i m)) ++ value_of s t in
       let is : evaluation s (element_of (take (i + 1) m)) ≡ now =
       ap (λ l. evaluation s (element_of l))
-          (take_more m i t within ∙ ap (λ u. take i m ++ u ∷ []) (sym at)) ∙ value-push (take i m)
-          t in
+          (take_more m i t within ∙ ap (λ u. take i m ++ u ∷ []) (sym at))
+          ∙ value-push (take i m) t in
       record {
         same = subst (λ (g : Polynomial). SameSum same_word s.prime new g) (sym is)
             (same-trans same_word s.prime new (old ++ value_of s t) now e
@@ -149,8 +149,8 @@ pub term_short : (s : Setting) (a : Alphabet) (t : Term Sig) (f : Polynomial) (u
     → HasDegree s t.key → t.key.degree ≤ 100000 → IsTextGenerator a s.prime f → u ≡ t.key.left
     → v ≡ t.key.right → All (λ x. length u + length x.key + length v ≤ 200000) f
 term_short s a t f u v has few text left right k d within =
-    let degree : t.key.degree ≡ word_weight t.key.left + generator_weight s
-        t.key.generator + word_weight t.key.right = ap (λ σ. σ.degree) has in
+    let degree : t.key.degree ≡ word_weight t.key.left + generator_weight s t.key.generator
+        + word_weight t.key.right = ap (λ σ. σ.degree) has in
     omega (arith, degree, (text.polynomial.words k d within).short, length_at_most t.key.left,
           length_at_most t.key.right, ap length left, ap length right, few)
 
@@ -159,8 +159,9 @@ term_short s a t f u v has few text left right k d within =
 -- what the pairs list
 pub pairs_are : (p : ℕ) (u v : Word) (old m : List (Term Sig)) (empty copies pairs : List (Sig × ℕ))
     (k n : ℕ) (from by : List (Term Sig)) → empty ≡ [] → from ≡ old → by ≡ m → k ≡ n
-    → listed copies ≡ listed empty ++ from → listed pairs ≡ listed copies ++ module_multiples p k u
-        by v → listed pairs ≡ old ++ module_multiples p n u m v
+    → listed copies ≡ listed empty ++ from
+        → listed pairs ≡ listed copies ++ module_multiples p k u by v
+        → listed pairs ≡ old ++ module_multiples p n u m v
 pairs_are p u v old m empty copies pairs k n from by none is_old is_m negative copied listed_is =
     listed_is ∙ (ap (λ (l : List (Term Sig)). l ++ module_multiples p k u by v)
           (copied ∙ ap₂ (λ (e : List (Sig × ℕ)) (l : List (Term Sig)). listed e ++ l) none is_old)
@@ -176,8 +177,9 @@ pairs_small p u v old m k l some a is =
 pub module_subtracted : (p c : ℕ) (u v : Word) (old m new : List (Term Sig))
     (empty copies pairs : List (Sig × ℕ)) (k : ℕ) (from by : List (Term Sig)) → c < p → empty ≡ []
     → from ≡ old → by ≡ m → k ≡ (p - c) % p
-    → listed copies ≡ listed empty ++ from → listed pairs ≡ listed copies ++ module_multiples p k u
-        by v → SameSum same_sig p new (listed pairs)
+    → listed copies ≡ listed empty ++ from
+        → listed pairs ≡ listed copies ++ module_multiples p k u by v
+        → SameSum same_sig p new (listed pairs)
         → SameSum same_sig p new (minus p old c (module_times u m v))
 module_subtracted p c u v old m new empty copies pairs k from by small none is_old is_m negative
     copied listed_is e =

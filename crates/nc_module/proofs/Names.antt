@@ -48,7 +48,7 @@ module _ (names : List (List ℕ)) (x : List ℕ) (some : 1 ≤ length names)
       by_names [] h e d = absurd (omega (arith, h))
       by_names (y ∷ ns) h e d =
           let whole : take (length (y ∷ ns) - 1) ns ≡ ns =
-          take_all (length (y ∷ ns) - 1) ns (omega arith) in
+              take_all (length (y ∷ ns) - 1) ns (omega arith) in
           subst (λ (rest : List (List ℕ)). (¬ Among x rest) × IsDistinct rest) (sym whole)
               (subst (λ (z : List ℕ). ¬ Among z ns) (sym e) d.0, d.1)
 
@@ -61,7 +61,7 @@ module _ (names : List (List ℕ)) (x : List ℕ) (some : 1 ≤ length names)
       by_names [] h e n d = absurd (omega (arith, h))
       by_names (y ∷ ns) h e n d =
           let whole : take (length (y ∷ ns) - 1) ns ≡ ns =
-          take_all (length (y ∷ ns) - 1) ns (omega arith) in
+              take_all (length (y ∷ ns) - 1) ns (omega arith) in
           (subst (λ (z : List ℕ). ¬ Among z ns) e
                 (subst (λ (rest : List (List ℕ)). ¬ Among x rest) whole n),
                 subst IsDistinct whole d)

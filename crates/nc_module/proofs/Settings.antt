@@ -33,8 +33,8 @@ pub weight_first : (s : NamedSetting) (i : ℕ) (t : Term Word) (f : Polynomial)
     → IsTextGenerator s.alphabet s.setting.prime (generator s.setting i)
     → generator s.setting i ≡ t ∷ f → generator_weight s.setting i ≡ word_weight t.key
 weight_first s i t f h e =
-    ap word_weight (ap (leading s.setting.prime) e ∙ leading-normal s.setting.prime t f
-      (subst (IsNormal s.setting.prime) e h.polynomial.normal))
+    ap word_weight (ap (leading s.setting.prime) e
+      ∙ leading-normal s.setting.prime t f (subst (IsNormal s.setting.prime) e h.polynomial.normal))
 
 pub first_is_short : (s : NamedSetting) (i : ℕ) (t : Term Word) (f : Polynomial) → IsSetting s
     → IsTextGenerator s.alphabet s.setting.prime (generator s.setting i)

@@ -58,8 +58,7 @@ not_distinct (u ∷ us) n v more has d =
     go : (b : Bool) → bytes_eq u.0 n ≡ b → (b || has_name n us) ≡ true → (has_name n us ≡ true → ⊥)
         → ⊥
     go true is h rec =
-        both_ways _ (not-true _ (and_parts _ _ d).0)
-        (has_append u.0 us ((n, v) ∷ more)
+        both_ways _ (not-true _ (and_parts _ _ d).0) (has_append u.0 us ((n, v) ∷ more)
           ∙ or_right _ _ (ap (λ b. b || has_name u.0 more) (same_sym n u.0 ∙ is)))
     go false is h rec = rec h
 
@@ -100,8 +99,8 @@ at_most_one n (u ∷ us) d =
     go true e rec =
         let same : u.0 ≡ n = (bytes_eq-Decides u.0 n).0 e in
         let none : has_name n us ≡ false =
-            ap (λ x. has_name x us) (sym same) ∙ not-true (has_name u.0 us)
-            (and_parts (not (has_name u.0 us)) (is_distinct us) d).0 in
+            ap (λ x. has_name x us) (sym same)
+            ∙ not-true (has_name u.0 us) (and_parts (not (has_name u.0 us)) (is_distinct us) d).0 in
         let zero : uses_named n us ≡ 0 = none_named n us none in
         omega arith
 

@@ -22,8 +22,8 @@ stray_splits : (number : Bool) (wanted : Option Text) (next : Option Text → Op
 stray_splits number None next = refl
 stray_splits number (Some n) next = refl
 
-rest_splits : (number : Bool) (wanted : Option Text) (p : Piece)
-    (next : Option Text → Option (List Use)) → ((w : Option Text) → next w ≡ None)
+rest_splits : (number : Bool) (wanted : Option Text) (p : Piece) (next : Option Text
+      → Option (List Use)) → ((w : Option Text) → next w ≡ None)
     → split_piece number wanted p next ≡ None
 rest_splits number None (joined n v) next none = ap (with_use n v) (none None)
 rest_splits number None (named n) next none = none (Some n)
@@ -119,8 +119,8 @@ counted names number n (word ∷ rest) wanted more e =
         → split_piece num w p (split names number rest) ≡ Some more
         → ((v : Option Text) (m : List Use) → split names number rest v ≡ Some m
               → wanted_count n v + count_by (names_option n) rest ≤ uses_named n m)
-        → wanted_count n w + (one_if (names_option n word) + count_by (names_option n)
-              rest) ≤ uses_named n more
+        → wanted_count n w + (one_if (names_option n word) + count_by (names_option n) rest)
+            ≤ uses_named n more
     go None (joined m v) num is f rec =
         let one : one_if (names_option n word) ≡ one_if (bytes_eq m n) = ap one_if is in
         let all =

@@ -6,8 +6,8 @@ use Rattle.nc_options.specs.Pieces.{Text}
 use Rattle.nc_options.specs.Commands.{args_for, command_for, option_arg, number_arg}
 use Rattle.clap.specs.Simple.{with_rule, new_shape}
 
-option_joins : (ns : List Text) (n : Text) → args_for ns false ++ option_arg n ∷ [] ≡ args_for
-    (ns ++ n ∷ []) false
+option_joins : (ns : List Text) (n : Text)
+    → args_for ns false ++ option_arg n ∷ [] ≡ args_for (ns ++ n ∷ []) false
 option_joins [] n = refl
 option_joins (m ∷ ms) n = ap (λ rs. option_arg m ∷ rs) (option_joins ms n)
 

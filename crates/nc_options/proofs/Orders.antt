@@ -64,14 +64,14 @@ of_use name value (u ∷ us) d e =
     other : bytes_eq u.0 name ≡ true → list_any (is_use name value) us ≡ true → ⊥
     other is f =
         true≢false (sym (ap (λ n. has_name n us) ((bytes_eq-Decides u.0 name).0 is)
-                ∙ use_has_name name value us f) ∙ not-true (has_name u.0 us)
-              (and_parts (not (has_name u.0 us)) (is_distinct us) d).0)
+                ∙ use_has_name name value us f)
+              ∙ not-true (has_name u.0 us) (and_parts (not (has_name u.0 us)) (is_distinct us) d).0)
 
     go : (a b : Bool) → bytes_eq u.0 name ≡ a → bytes_eq u.1 value ≡ b
         → ((a && b) || list_any (is_use name value) us) ≡ true
         → (list_any (is_use name value) us ≡ true → value_of name us ≡ Some value)
-        → option_map (λ (v : Use). v.1) (cond a (Some u) (find (λ v. bytes_eq v.0 name) us)) ≡ Some
-            value
+        → option_map (λ (v : Use). v.1) (cond a (Some u) (find (λ v. bytes_eq v.0 name) us))
+            ≡ Some value
     go true true is same f rec = ap Some ((bytes_eq-Decides u.1 value).0 same)
     go true false is differs f rec = absurd (other is f)
     go false b is same f rec = rec f

@@ -21,8 +21,8 @@ use Rattle.clap.specs.Faults.{settle_fault, walk_fault, defaults_fault, default_
 
 -- ---- the command as it is built
 
-filled_args : (names : List Text) (number : Bool) → filled_from 1 (args_for names number) ≡ table
-    names number
+filled_args : (names : List Text) (number : Bool)
+    → filled_from 1 (args_for names number) ≡ table names number
 filled_args [] true = refl
 filled_args [] false = refl
 filled_args (n ∷ ns) number = ap (λ rs. option_rule n ∷ rs) (filled_args ns number)
@@ -158,8 +158,8 @@ level_passes name names number words e =
             (end_of names number (walk_at [] nothing 1) words).held))))
 
 level_refuses : (name : Text) (names : List Text) (number : Bool) (words : List Text)
-    → level name names number words ≡ [] → rest_fault name names number (walk_at [] nothing 1)
-    words ≡ []
+    → level name names number words ≡ [] → rest_fault name names number (walk_at [] nothing 1) words
+    ≡ []
 level_refuses name names number words e =
     let walk_part = walk_fault (shape_for name names number) [] (walk_at [] nothing 1) words in
     let end_part =
@@ -216,8 +216,8 @@ decided name names number command words empty none fit =
     uses = f.more;
     is = ap (option_and_then if_distinct) f.is ∙ ap (λ b. if b then Some f.more else None)
         f.distinct;
-    fault = fault_is name names number command words ∙ level_passes name names number words
-        f.passes;
+    fault = fault_is name names number command words
+        ∙ level_passes name names number words f.passes;
     found = matches_are name names number command words ∙ f.rows;
   })
   | inr f ↦ inr (record {

@@ -34,8 +34,8 @@ not_dashes b c x xs =
     ap (λ y. (b == 45) && y) (and_right (c == 45) false refl) ∙ and_right (b == 45) false refl
 
 long_here : (b c x : ℕ) (xs : Text) → (b == 45) ≡ true → (c == 45) ≡ true
-    → long_of (b ∷ c ∷ x ∷ xs) ≡ Some
-        (name_in (x ∷ xs), if has_equals (x ∷ xs) then Some (value_in (x ∷ xs)) else None)
+    → long_of (b ∷ c ∷ x ∷ xs) ≡ Some (name_in (x ∷ xs),
+          if has_equals (x ∷ xs) then Some (value_in (x ∷ xs)) else None)
 long_here b c x xs e f =
     ap (λ y. option_and_then long_of_rest
           (option_and_then (strip_byte 45) (if y then Some (c ∷ x ∷ xs) else None))) e

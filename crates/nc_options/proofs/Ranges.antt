@@ -64,8 +64,9 @@ member_parts : (w x l : Option ℕ) (f : Option Form) (o : MemberOptions)
     → member_with w x l f ≡ Some o → (w ≡ Some o.workers) × (x ≡ Some o.window) × (l ≡ Some o.limit)
 member_parts (Some w) (Some x) (Some l) (Some f) o e =
     let same : record { workers = w; window = x; limit = l; form = f } ≡ o = cc in
-    (ap (λ (p : MemberOptions). Some p.workers) same, ap (λ (p : MemberOptions). Some p.window)
-          same, ap (λ (p : MemberOptions). Some p.limit) same)
+    (ap (λ (p : MemberOptions). Some p.workers) same,
+          ap (λ (p : MemberOptions). Some p.window) same,
+          ap (λ (p : MemberOptions). Some p.limit) same)
 member_parts (Some w) (Some x) (Some l) None o e = absurd (none_of_some o e)
 member_parts (Some w) (Some x) None f o e = absurd (none_of_some o e)
 member_parts (Some w) None l f o e = absurd (none_of_some o e)
@@ -124,8 +125,8 @@ demo_in given o e =
       window_in given o.window parts.3,
     )
   where
-    number_in_range : (text : Option Text) → option_and_then (number_in 0 65536) text ≡ Some
-        o.number → IsInRange 0 65536 o.number
+    number_in_range : (text : Option Text)
+        → option_and_then (number_in 0 65536) text ≡ Some o.number → IsInRange 0 65536 o.number
     number_in_range None f = absurd (none_of_some o.number f)
     number_in_range (Some text) f = in_range 0 65536 text o.number f
 

@@ -120,8 +120,8 @@ pub spelled_splits : (names : List Text) (takes_number : Bool) (uses : List Use)
     → AreSpelled names takes_number uses words → split names takes_number words None ≡ Some uses
 spelled_splits names takes_number [] words good s = ap (λ ws. split names takes_number ws None) s
 spelled_splits names takes_number (u ∷ uses) words good s =
-    ap (λ ws. split names takes_number ws None) s.2 ∙ one s.0 s.1 s.3 ∙ ap (with_use u.0 u.1)
-        (spelled_splits names takes_number uses s.1 good s.4)
+    ap (λ ws. split names takes_number ws None) s.2 ∙ one s.0 s.1 s.3
+        ∙ ap (with_use u.0 u.1) (spelled_splits names takes_number uses s.1 good s.4)
   where
     one : (first rest : List Text) → IsSpelled names takes_number u first
         → split names takes_number (first ++ rest) None ≡ with_use u.0 u.1
@@ -205,8 +205,8 @@ one_more names takes_number name value first rest None uses one more e =
     absurd (none_of_some uses e)
 one_more names takes_number name value first rest (Some l) uses one more e =
     let same : (name, value) ∷ l ≡ uses = cc in
-    subst (λ us. AreSpelled names takes_number us (first ++ rest)) same
-        (first, rest, refl, one, more l refl)
+    subst (λ us. AreSpelled names takes_number us (first ++ rest)) same (first, rest, refl, one,
+          more l refl)
 
 pub split_spelled : (names : List Text) (takes_number : Bool) (words : List Text)
     (wanted : Option Text) (uses : List Use) → IsOption names wanted
@@ -221,8 +221,8 @@ split_spelled names takes_number (word ∷ rest) wanted uses known e =
         (λ w us k f. split_spelled names takes_number rest w us k f)
   where
     alone : (w : Text) (z : Bool) → takes_number ≡ z → word ≡ w → IsPlain w
-        → (if z then with_use number_id w (split names takes_number rest None) else None) ≡ Some
-        uses
+        → (if z then with_use number_id w (split names takes_number rest None) else None)
+        ≡ Some uses
         → ((us : List Use) → split names takes_number rest None ≡ Some us
               → AreSpelled names takes_number us rest)
             → AreSpelled names takes_number uses (word ∷ rest)

@@ -52,8 +52,8 @@ long_found (m ∷ ms) number n e = go (bytes_eq m n) refl e (long_found ms numbe
   where
     go : (b : Bool) → bytes_eq m n ≡ b → (b || is_among ms n) ≡ true
         → (is_among ms n ≡ true → arg_by_long (table ms number) n ≡ Some (option_rule n))
-        → cond (b || false) (Some (option_rule m)) (arg_by_long (table ms number) n) ≡ Some
-            (option_rule n)
+        → cond (b || false) (Some (option_rule m)) (arg_by_long (table ms number) n)
+            ≡ Some (option_rule n)
     go true is e rec = ap (λ x. Some (option_rule x)) ((bytes_eq-Decides m n).0 is)
     go false is e rec = rec e
 

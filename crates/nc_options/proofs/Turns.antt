@@ -199,8 +199,8 @@ walked_to names number us hold pos word h v met =
 -- what `--name=value` is, while no option wants a value
 pub joined_met : (names : List Text) (number : Bool) (pos : ℕ) (word n v : Text) (h : Held)
     → Reads names word (joined n v)
-    → word_met (table names number) [] false idle pos word
-        h ≡ (reacted (table names number) (option_rule n) (v ∷ []) h, next idle)
+    → word_met (table names number) [] false idle pos word h
+        ≡ (reacted (table names number) (option_rule n) (v ∷ []) h, next idle)
 joined_met names number pos word n v h r =
     ap (λ b. if b then (h, trailing pos) else long_or_other (table names number) idle word
           (long_of word) h) r.0
@@ -229,8 +229,8 @@ long_refused name names number Rattle.clap.specs.Walk.positional word n o h off 
 
 pub named_met : (names : List Text) (number : Bool) (pos : ℕ) (word n : Text) (h : Held)
     → Reads names word (named n)
-    → word_met (table names number) [] false idle pos word
-        h ≡ (record (settled (table names number) h) { pending = Some (n, []) }, next (option n))
+    → word_met (table names number) [] false idle pos word h
+        ≡ (record (settled (table names number) h) { pending = Some (n, []) }, next (option n))
 named_met names number pos word n h r =
     ap (λ b. if b then (h, trailing pos) else long_or_other (table names number) idle word
           (long_of word) h) r.0
@@ -305,8 +305,8 @@ settles names number us nothing free known d =
 settles names number us (wants n) free known d = absurd free
 settles names number us (kept id v) free known d = go (has_name id us) refl
   where
-    used_fault : (l : Option Text) (i : Option ℕ) → arg_by_id (table names number) id ≡ Some
-        (usual_rule id l i)
+    used_fault : (l : Option Text) (i : Option ℕ)
+        → arg_by_id (table names number) id ≡ Some (usual_rule id l i)
         → settle_fault (table names number) false (held_for us (kept id v)) ≡ use_fault false
             (usual_rule id l i) (v ∷ []) (rows_for us)
     used_fault l i e =

@@ -133,8 +133,9 @@ module _ (P : Problem) where
           go (inr m) = inr (subst (λ j. kind j ρ) m h)
 
   -- a place with no room behind it has no signature within the bound
-  room : (e f : Entry) (n k : ℕ) (ρ : Monomial) → bound_degree P.setting P.bound < n + degree
-      P.setting f.signature → IsWithin P ρ → MeetAt P.setting e f k ρ → k < n
+  room : (e f : Entry) (n k : ℕ) (ρ : Monomial)
+      → bound_degree P.setting P.bound < n + degree P.setting f.signature → IsWithin P ρ
+      → MeetAt P.setting e f k ρ → k < n
   room e f n k ρ past w m =
       omega (arith, past, m.around.2, degree_within P.setting P.bound ρ w.1,
         length_at_most m.before, degree-times (generator_weight P.setting) m.before m.behind_second
@@ -145,8 +146,8 @@ module _ (P : Problem) where
           → degree P.setting (times m.before f.signature m.behind_second) ≤ degree P.setting ρ
       at_least (inl g) =
           let same : degree P.setting ρ ≡ degree P.setting
-          (times m.before f.signature m.behind_second) =
-          ap (degree P.setting) g.1 in omega (arith, same)
+              (times m.before f.signature m.behind_second) =
+              ap (degree P.setting) g.1 in omega (arith, same)
       at_least (inr g) =
           let same : degree P.setting ρ ≡ degree P.setting (times [] e.signature m.behind_first) =
               ap (degree P.setting) g.1 in

@@ -82,8 +82,8 @@ module _ {X : Type 0} (value : X → Sig) (xs ys zs : List X) (moved : IsPermuta
       ↔ Contains (map monomial_of (map value xs)) ρ
   same_left ρ = (from, to)
     where
-      from : Contains (map monomial_of (map value zs)) ρ → Contains (map monomial_of (map value xs))
-          ρ
+      from : Contains (map monomial_of (map value zs)) ρ
+          → Contains (map monomial_of (map value xs)) ρ
       from c =
           let a = preimage monomial_of (map value zs) ρ c in
           let b = preimage value zs a.0 a.1 in

@@ -33,8 +33,8 @@ multiple_fits P u v σ is h w =
     let whole : word_weight u + σ.degree + word_weight v ≤ 80000 =
         omega (arith, is.limited, multiple_weighs P.problem.setting u v σ h,
           degree_within P.problem.setting P.problem.bound (times u (monomial_of σ) v) w.1) in
-    let parts : σ.degree ≡ word_weight σ.left + generator_weight P.problem.setting
-        σ.generator + word_weight σ.right = ap (λ (z : Sig). z.degree) h in
+    let parts : σ.degree ≡ word_weight σ.left + generator_weight P.problem.setting σ.generator
+        + word_weight σ.right = ap (λ (z : Sig). z.degree) h in
     (whole, omega (arith, whole, parts, length_at_most u, length_at_most σ.left),
           omega (arith, whole, parts, length_at_most v, length_at_most σ.right))
 

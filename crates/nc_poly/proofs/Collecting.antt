@@ -48,8 +48,8 @@ carried_up_to p w t (u ∷ f) h a =
 
 -- the sum stays
 pair_same : (p : ℕ) (t u : Term Word) (s : ℕ) (x : Word)
-    → ((left_of t u).coefficient * is_at same_word x
-      (left_of t u).key + ((gained p t u).coefficient * is_at same_word x (gained p t u).key + s))
+    → ((left_of t u).coefficient * is_at same_word x (left_of t u).key
+      + ((gained p t u).coefficient * is_at same_word x (gained p t u).key + s))
     % p ≡ (t.coefficient * is_at same_word x t.key + (u.coefficient * is_at same_word x u.key + s))
     % p
 pair_same p t u s x = go (same_word t.key u.key) refl
@@ -59,12 +59,12 @@ pair_same p t u s x = go (same_word t.key u.key) refl
 
     go : (b : Bool) → same_word t.key u.key ≡ b
         → ((cond b (record { coefficient = 0; key = t.key }) t).coefficient * is_at same_word x
-          (cond b (record { coefficient = 0; key = t.key })
-            t).key + ((cond b (record { coefficient = (t.coefficient + u.coefficient) % p;
-                key = u.key }) u).coefficient * is_at same_word x
+          (cond b (record { coefficient = 0; key = t.key }) t).key
+          + ((cond b (record { coefficient = (t.coefficient + u.coefficient) % p; key = u.key })
+              u).coefficient * is_at same_word x
             (cond b (record { coefficient = (t.coefficient + u.coefficient) % p; key = u.key })
-              u).key + s)) % p ≡ (t.coefficient * is_at same_word x
-          t.key + (u.coefficient * is_at same_word x u.key + s)) % p
+              u).key + s)) % p ≡ (t.coefficient * is_at same_word x t.key
+          + (u.coefficient * is_at same_word x u.key + s)) % p
     go false e = refl
     go true e =
         let keys : is_at same_word x t.key ≡ is_at same_word x u.key =
@@ -102,8 +102,8 @@ gained_residue p t u h k = go (same_word t.key u.key)
     go false = k
 
 carried_residues : (p : ℕ) (t : Term Word) (f : Polynomial) → t.coefficient < p
-    → AllByRecursion (λ u. u.coefficient < p) f → AllByRecursion (λ u. u.coefficient < p)
-    (carried_behind p t f)
+    → AllByRecursion (λ u. u.coefficient < p) f
+    → AllByRecursion (λ u. u.coefficient < p) (carried_behind p t f)
 carried_residues p t [] h a = (h, tt)
 carried_residues p t (u ∷ f) h a =
     (left_residue p t u h, carried_residues p (gained p t u) f (gained_residue p t u h a.0) a.1)
@@ -114,13 +114,13 @@ filter_at : (f : Polynomial) (x : Word) → coefficient (filter has_coefficient 
 filter_at [] x = refl
 filter_at (t ∷ f) x = go (nat_eq t.coefficient 0) refl (filter_at f x)
   where
-    go : (b : Bool) → nat_eq t.coefficient 0 ≡ b → coefficient (filter has_coefficient f)
-        x ≡ coefficient f x → coefficient
-        (cond (not b) (t ∷ filter has_coefficient f) (filter has_coefficient f)) x ≡ coefficient
-        (t ∷ f) x
+    go : (b : Bool) → nat_eq t.coefficient 0 ≡ b
+        → coefficient (filter has_coefficient f) x ≡ coefficient f x
+        → coefficient (cond (not b) (t ∷ filter has_coefficient f) (filter has_coefficient f)) x
+        ≡ coefficient (t ∷ f) x
     go true e h =
         let z : t.coefficient ≡ 0 =
-        eqb-true t.coefficient 0 e in omega (arith, h, ap (λ n. n * is_at same_word x t.key) z)
+            eqb-true t.coefficient 0 e in omega (arith, h, ap (λ n. n * is_at same_word x t.key) z)
     go false e h = omega (arith, h)
 
 filter_less : (w v : Word) (f : Polynomial) → IsWordLess w v → AllUpTo w f
@@ -173,13 +173,13 @@ descends p t (u ∷ f) h =
 
 -- ---- collecting
 
-collected_at : (p : ℕ) (f : Polynomial) (x : Word) → coefficient (collected p f) x % p ≡ coefficient
-    f x % p
+collected_at : (p : ℕ) (f : Polynomial) (x : Word)
+    → coefficient (collected p f) x % p ≡ coefficient f x % p
 collected_at p [] x = refl
 collected_at p (t ∷ f) x = ap (λ n. n % p) (filter_at (carried_behind p t f) x) ∙ carried_at p t f x
 
-collected_normal : (p : ℕ) (f : Polynomial) → IsFalling f → AllByRecursion (λ t. t.coefficient < p)
-    f → IsNormal p (collected p f)
+collected_normal : (p : ℕ) (f : Polynomial) → IsFalling f
+    → AllByRecursion (λ t. t.coefficient < p) f → IsNormal p (collected p f)
 collected_normal p [] h a = (tt, All-from_recursion (λ t. t.coefficient < p) [] tt)
 collected_normal p (t ∷ f) h a =
     (descends p t f h, All-filter has_coefficient (λ t. t.coefficient < p) (carried_behind p t f)

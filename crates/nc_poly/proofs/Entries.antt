@@ -54,8 +54,8 @@ pub shown_some : {K : Type 0} (c : ℕ) (k : K) → 0 < c
 shown_some {K} c k h = go (nat_eq c 0) refl
   where
     go : (b : Bool) → nat_eq c 0 ≡ b
-        → cond {A = List (Term K)} b [] (record { coefficient = c; key = k } ∷ []) ≡ record
-        { coefficient = c; key = k } ∷ []
+        → cond {A = List (Term K)} b [] (record { coefficient = c; key = k } ∷ [])
+        ≡ record { coefficient = c; key = k } ∷ []
     go true e = let z : c ≡ 0 = eqb-true c 0 e in absurd (omega arith)
     go false e = refl
 
@@ -70,8 +70,8 @@ linear_shown {K} F c k = go (nat_eq c 0) refl
 
 module _ {K S : Type 0} (φ : S → ℕ) where
   -- one more entry stands first among the terms
-  pub terms_push : (es : List (K × S)) (e : K × S) → terms_by φ (es ++ e ∷ []) ≡ shown (φ e.1)
-      e.0 ++ terms_by φ es
+  pub terms_push : (es : List (K × S)) (e : K × S)
+      → terms_by φ (es ++ e ∷ []) ≡ shown (φ e.1) e.0 ++ terms_by φ es
   terms_push [] e = sym (append-nil (shown (φ e.1) e.0))
   terms_push (d ∷ es) e =
       ap (λ (l : List (Term K)). l ++ shown (φ d.1) d.0) (terms_push es e)
@@ -85,15 +85,16 @@ module _ {K S : Type 0} (φ : S → ℕ) where
 
 -- the coefficients of the terms are residues just where those of the entries are
 module _ {K S : Type 0} (φ : S → ℕ) (p : ℕ) where
-  entries_small : 0 < p → (es : List (K × S)) → AllByRecursion (λ t. t.coefficient < p)
-      (terms_by φ es) → AllByRecursion (λ e. φ e.1 < p) es
+  entries_small : 0 < p → (es : List (K × S))
+      → AllByRecursion (λ t. t.coefficient < p) (terms_by φ es) → AllByRecursion (λ e. φ e.1 < p) es
   entries_small some [] a = tt
   entries_small some (e ∷ es) a =
       (go (nat_eq (φ e.1) 0) refl (back_all (λ t. t.coefficient < p) (terms_by φ es)
           (shown (φ e.1) e.0) a), entries_small some es
         (front_all (λ t. t.coefficient < p) (terms_by φ es) (shown (φ e.1) e.0) a))
     where
-      go : (b : Bool) → nat_eq (φ e.1) 0 ≡ b → AllByRecursion (λ t. t.coefficient < p)
+      go : (b : Bool) → nat_eq (φ e.1) 0 ≡ b
+          → AllByRecursion (λ t. t.coefficient < p)
           (cond {A = List (Term K)} b [] (record { coefficient = φ e.1; key = e.0 } ∷ []))
           → φ e.1 < p
       go true d a = let z : φ e.1 ≡ 0 = eqb-true (φ e.1) 0 d in omega arith
@@ -143,20 +144,18 @@ module _ {K S : Type 0} {cmp : K → K → Ordering} (o : IsTotalOrder cmp) (φ 
       (lookup-none (tree.is_at (cmp k)) es (none_below_head o k e es s less).1)
 
   pub inserted_weighs : (F : K → ℕ) → ((x : K) → cmp k x ≡ Equal → F x ≡ F k) → (es : List (K × S))
-      → IsStrictlySortedBy cmp (keys_of es)
-      → linear_sum F (terms_by φ (insert_entry cmp es k w)) + found_at es * F k ≡ linear_sum F
-      (terms_by φ es) + φ w * F k
+      → IsStrictlySortedBy cmp (keys_of es) → linear_sum F (terms_by φ (insert_entry cmp es k w))
+      + found_at es * F k ≡ linear_sum F (terms_by φ es) + φ w * F k
   inserted_weighs F same [] s = omega (arith, linear_terms φ F (k, w) [])
   inserted_weighs F same (e ∷ es) s =
       go (cmp k e.0) refl (inserted_weighs F same es (sorted_tail cmp e.0 (keys_of es) s))
     where
-      go : (r : Ordering) → cmp k e.0 ≡ r
-          → linear_sum F (terms_by φ (insert_entry cmp es k w)) + found_at es * F k ≡ linear_sum F
-          (terms_by φ es) + φ w * F k → linear_sum F
-          (terms_by φ (match_ordering r ((k, w) ∷ e ∷ es) ((e.0, w) ∷ es)
-              (e ∷ insert_entry cmp es k w))) + unwrap_or
-          (option_map φ (cond (is_eq r) (Some e.1) (lookup (tree.is_at (cmp k)) es))) 0 * F
-          k ≡ linear_sum F (terms_by φ (e ∷ es)) + φ w * F k
+      go : (r : Ordering) → cmp k e.0 ≡ r → linear_sum F (terms_by φ (insert_entry cmp es k w))
+          + found_at es * F k ≡ linear_sum F (terms_by φ es) + φ w * F k
+          → linear_sum F (terms_by φ (match_ordering r ((k, w) ∷ e ∷ es) ((e.0, w) ∷ es)
+              (e ∷ insert_entry cmp es k w)))
+          + unwrap_or (option_map φ (cond (is_eq r) (Some e.1) (lookup (tree.is_at (cmp k)) es))) 0
+          * F k ≡ linear_sum F (terms_by φ (e ∷ es)) + φ w * F k
       go Less d h =
           omega (arith, linear_terms φ F (k, w) (e ∷ es), ap (λ n. n * F k) (absent e es s d))
       go Equal d h =
@@ -219,8 +218,8 @@ mod_add_left p a b c e = add-mod a b p ∙ (ap (λ n. (a % p + n) % p) e ∙ sym
 
 module _ {K : Type 0} {cmp : K → K → Ordering} (o : IsTotalOrder cmp) where
   -- equal keys are at the same keys
-  at_same : (x k y : K) → cmp k y ≡ Equal → sums.is_at (eq_by_cmp cmp) x y ≡ sums.is_at
-      (eq_by_cmp cmp) x k
+  at_same : (x k y : K) → cmp k y ≡ Equal
+      → sums.is_at (eq_by_cmp cmp) x y ≡ sums.is_at (eq_by_cmp cmp) x k
   at_same x k y e =
       ap (λ r. cond (is_eq r) 1 0) (o.antisymm x y
         ∙ (ap ordering_reverse (sym (o.congr k y x e)) ∙ sym (o.antisymm x k)))

@@ -25,8 +25,8 @@ term_decides t u =
     join : (nat_eq t.coefficient u.coefficient ≡ true) × (same_word t.key u.key ≡ true) → t ≡ u
     join (a, b) =
         let i : t.coefficient ≡ u.coefficient =
-        eqb-true t.coefficient u.coefficient a in let j : t.key ≡ u.key =
-        word_laws.same_eq t.key u.key b in λ k. record { coefficient = i k; key = j k }
+            eqb-true t.coefficient u.coefficient a in let j : t.key ≡ u.key =
+            word_laws.same_eq t.key u.key b in λ k. record { coefficient = i k; key = j k }
 
 -- what `==` answers at their lists
 pub terms_decide : (f g : Polynomial) → Decides (pointwise same_term f g) (f ≡ g)

@@ -66,8 +66,8 @@ heap_subtracted p c u v old new g product small falls residues same is =
           (same_subtracted p c u v old g small))))
 
 -- pairs whose terms have residues
-listed_small : {K : Type 0} (p : ℕ) (es : List (K × ℕ)) → AllByRecursion (λ t. t.coefficient < p)
-    (listed es) → AllByRecursion (λ e. e.1 < p) es
+listed_small : {K : Type 0} (p : ℕ) (es : List (K × ℕ))
+    → AllByRecursion (λ t. t.coefficient < p) (listed es) → AllByRecursion (λ e. e.1 < p) es
 listed_small p [] a = tt
 listed_small p (e ∷ es) a = (a.0, listed_small p es a.1)
 
@@ -103,8 +103,8 @@ listed_more {K} start front items new t e so_far is key coefficient =
     let same : term ≡ t =
         ap₂ (λ n k. let r : Term K = record { coefficient = n; key = k } in r) coefficient key in
     ap listed is ∙ (listed_push items e
-          ∙ (ap₂ (λ (l : List (Term K)) (s : Term K). l ++ s ∷ []) so_far same ∙ append_assoc start
-            front (t ∷ [])))
+          ∙ (ap₂ (λ (l : List (Term K)) (s : Term K). l ++ s ∷ []) so_far same
+            ∙ append_assoc start front (t ∷ [])))
 
 pub pairs_more : (p c : ℕ) (u v : Word) (g start : Polynomial) (items new : List (Word × ℕ)) (i : ℕ)
     (t : Term Word) (e : Word × ℕ) → i < length g → t ≡ get_or g i t

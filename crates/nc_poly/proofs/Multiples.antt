@@ -19,8 +19,9 @@ use Rattle.std.specs.List.{AllByRecursion}
 
 module _ {K : Type 0} (same : K → K → Bool) (p c : ℕ) (φ : K → K) where
   -- what the multiples add to a coefficient
-  moved_at : (g : List (Term K)) (x : K) → coefficient_by same (moved_by p c φ g)
-      x % p ≡ (c * coefficient_by same (map_keys φ g) x) % p
+  moved_at : (g : List (Term K)) (x : K)
+      → coefficient_by same (moved_by p c φ g) x % p ≡ (c * coefficient_by same (map_keys φ g) x)
+      % p
   moved_at [] x = ap (λ n. n % p) (omega arith)
   moved_at (t ∷ g) x =
       let a = is_at same x (φ t.key) in
@@ -31,8 +32,8 @@ module _ {K : Type 0} (same : K → K → Bool) (p c : ℕ) (φ : K → K) where
       ∙ (sym (add-mod ((c * t.coefficient) * is_at same x (φ t.key))
               (c * coefficient_by same (map_keys φ g) x) p) ∙ ap (λ n. n % p) (omega arith)))
 
-  moved_residues : (g : List (Term K)) → 0 < p → AllByRecursion (λ t. t.coefficient < p)
-      (moved_by p c φ g)
+  moved_residues : (g : List (Term K)) → 0 < p
+      → AllByRecursion (λ t. t.coefficient < p) (moved_by p c φ g)
   moved_residues [] some = tt
   moved_residues (t ∷ g) some = (mod-lt (c * t.coefficient) some, moved_residues g some)
 
@@ -58,15 +59,15 @@ pub same_moved : {K : Type 0} (same : K → K → Bool) (p c : ℕ) (φ : K → 
     → c < p → SameSum same p (old ++ moved_by p ((p - c) % p) φ g) (minus p old c (map_keys φ g))
 same_moved {K} same p c φ old g small = record { at = each }
   where
-    sums : (x : K) → coefficient_by same (moved_by p ((p - c) % p) φ g)
-        x % p ≡ ((p - 1) * c * coefficient_by same (map_keys φ g) x) % p
+    sums : (x : K) → coefficient_by same (moved_by p ((p - c) % p) φ g) x
+        % p ≡ ((p - 1) * c * coefficient_by same (map_keys φ g) x) % p
     sums x =
         moved_at same p ((p - c) % p) φ g x
         ∙ (ap (λ n. (n * coefficient_by same (map_keys φ g) x) % p) (negative_same p c small)
           ∙ mul-mod_first ((p - 1) * c) (coefficient_by same (map_keys φ g) x) p)
 
-    each : (x : K) → coefficient_by same (old ++ moved_by p ((p - c) % p) φ g)
-        x % p ≡ coefficient_by same (minus p old c (map_keys φ g)) x % p
+    each : (x : K) → coefficient_by same (old ++ moved_by p ((p - c) % p) φ g) x
+        % p ≡ coefficient_by same (minus p old c (map_keys φ g)) x % p
     each x =
         ap (λ n. n % p) (linear_sum-append (is_at same x) old (moved_by p ((p - c) % p) φ g))
         ∙ (add-mod (coefficient_by same old x)

@@ -121,8 +121,8 @@ module _ {K : Type 0} {cmp : K → K → Ordering} (o : IsTotalOrder cmp) (p pas
       F : K → K → ℕ
       F x = sums.is_at (eq_by_cmp cmp) x
 
-      each : (x : K) → coefficient_by (eq_by_cmp cmp) (listed left ++ terms_by now_of new)
-          x % p ≡ coefficient_by (eq_by_cmp cmp) (listed terms ++ terms_by now_of start) x % p
+      each : (x : K) → coefficient_by (eq_by_cmp cmp) (listed left ++ terms_by now_of new) x
+          % p ≡ coefficient_by (eq_by_cmp cmp) (listed terms ++ terms_by now_of start) x % p
       each x =
           let lists : listed rest ≡ listed left ++ record { coefficient = c; key = k } ∷ [] =
               ap listed parts ∙ listed_push left (k, c) in
@@ -141,8 +141,8 @@ module _ {K : Type 0} {cmp : K → K → Ordering} (o : IsTotalOrder cmp) (p pas
 
 -- ---- undoing a pass, and forgetting its number
 
-module _ {F K : Type 0} (T : F → K → Slot → Bool → Slot → F → Type 0) (I : F → Type 0)
-    (φ : Slot → ℕ) where
+module _ {F K : Type 0} (T : F → K → Slot → Bool → Slot → F → Type 0) (I : F → Type 0) (φ : Slot
+      → ℕ) where
   -- each call writes what φ reads, and drops nothing but zeros
   abbrev pub Rewrites : Type 0
   Rewrites =
@@ -164,8 +164,8 @@ module _ {F K : Type 0} (T : F → K → Slot → Bool → Slot → F → Type 0
           q ∙ sym (ap (λ (l : List (Term K)). terms_by φ es ++ l)
             (shown_zero (φ e.1) e.0 (sym d ∙ z refl)) ∙ append-nil (terms_by φ es))
 
-module _ {F K : Type 0} (T : F → K → Slot → Bool → Slot → F → Type 0) (I : F → Type 0)
-    (P Q : Slot → Type 0) where
+module _ {F K : Type 0} (T : F → K → Slot → Bool → Slot → F → Type 0) (I : F → Type 0) (P Q : Slot
+      → Type 0) where
   pub retained_all : ((f : F) (k : K) (v : Slot) (b : Bool) (w : Slot) (f' : F) → I f
         → T f k v b w f' → (P v → Q w) × I f') → (f : F) (es kept : List (K × Slot)) → I f
       → RetainsPairs T f es kept → AllByRecursion (λ e. P e.1) es → AllByRecursion (λ e. Q e.1) kept

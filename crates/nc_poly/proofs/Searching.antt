@@ -30,8 +30,8 @@ module _ (w : Word) where
   greater : (v : Word) → IsWordLess v w → compare_words w v ≡ Greater
   greater v l = compare_greater compare_words IsWordLess words_compare word_irrefl word_trans w v l
 
-  rises_pair : (x y : Word) → IsWordLess y x → ordering_index (compare_words w x) ≤ ordering_index
-      (compare_words w y)
+  rises_pair : (x y : Word) → IsWordLess y x
+      → ordering_index (compare_words w x) ≤ ordering_index (compare_words w y)
   rises_pair x y l = go (compare_words w x) (words_compare w x)
     where
       go : (o : Ordering) → MatchOrdering o (IsWordLess w x) (w ≡ x) (IsWordLess x w)
@@ -43,8 +43,8 @@ module _ (w : Word) where
   rises : (f : Polynomial) → IsDescending f → IsNonDecreasingBy (λ t. ordering_index (beside w t)) f
   rises f h i j d l m = go (nat_order i j)
     where
-      go : (i < j) ⊎ ((i ≡ j) ⊎ (j < i)) → ordering_index (beside w (get_or f i d)) ≤ ordering_index
-          (beside w (get_or f j d))
+      go : (i < j) ⊎ ((i ≡ j) ⊎ (j < i))
+          → ordering_index (beside w (get_or f i d)) ≤ ordering_index (beside w (get_or f j d))
       go (inl k) = rises_pair (get_or f i d).key (get_or f j d).key (descends_at f h i j d k m)
       go (inr (inl e)) = omega (arith, ap (λ k. ordering_index (beside w (get_or f k d))) e)
       go (inr (inr k)) = absurd (omega arith)

@@ -68,8 +68,8 @@ seam items front y ys i e parts place is =
 written : {X : Type 0} (items front : List X) (y : X) (ys : List X) (i : ℕ) (z : X)
     → items ≡ front ++ y ∷ ys → i ≡ length front → set items i z ≡ front ++ z ∷ ys
 written items front y ys i z parts place =
-    ap (λ l. set l i z) parts ∙ (ap (λ k. set (front ++ y ∷ ys) k z) place ∙ set-append_seam front y
-      ys z)
+    ap (λ l. set l i z) parts ∙ (ap (λ k. set (front ++ y ∷ ys) k z) place
+      ∙ set-append_seam front y ys z)
 
 further : {X : Type 0} (front : List X) (t : X) (rest : List X)
     → front ++ t ∷ rest ≡ (front ++ t ∷ []) ++ rest
@@ -141,8 +141,8 @@ carried_step p start now new at within pair h = go h.rest refl
           front = h.front ++ left_of h.last u ∷ [];
           last = gained p h.last u;
           rest = f;
-          parts = pair h.front f h.last u split h.place ∙ further h.front (left_of h.last u)
-              (gained p h.last u ∷ f);
+          parts = pair h.front f h.last u split h.place
+              ∙ further h.front (left_of h.last u) (gained p h.last u ∷ f);
           place = omega (arith, length-append h.front (left_of h.last u ∷ []), h.place);
           done = h.done ∙ (ap (λ (r : Polynomial). h.front ++ carried_behind p h.last r) e
                 ∙ further h.front (left_of h.last u) (carried_behind p (gained p h.last u) f));

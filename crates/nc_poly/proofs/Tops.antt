@@ -21,8 +21,8 @@ use Rattle.std.specs.Ordering.{match_ordering, ordering_reverse}
 module _ {K : Type 0} where
   -- an entry with a coefficient behind the others gives the first term
   pub first_term : (old new : List (K × Slot)) (k : K) (s : Slot) → old ≡ new ++ (k, s) ∷ []
-      → 0 < s.now → terms_by now_of old ≡ record { coefficient = s.now; key = k } ∷ terms_by now_of
-      new
+      → 0 < s.now → terms_by now_of old ≡ record { coefficient = s.now;
+        key = k } ∷ terms_by now_of new
   first_term old new k s is some =
       ap (terms_by now_of) is ∙ (terms_push now_of new (k, s)
         ∙ ap (λ (l : List (Term K)). l ++ terms_by now_of new) (shown_some s.now k some))
@@ -39,7 +39,7 @@ module _ {K : Type 0} where
       × (terms_by now_of es ≡ record { coefficient = s.now; key = k } ∷ others)
   top_shown es k s top h =
       let parts : (front : List (K × Slot)) × (es ≡ front ++ (k, s) ∷ []) =
-      split_last es (k, s) h in (terms_by now_of parts.0, taken es parts.0 k s top parts.1)
+          split_last es (k, s) h in (terms_by now_of parts.0, taken es parts.0 k s top parts.1)
 
   pub topped_push : (old new : List (K × Slot)) (k : K) (s : Slot) → new ≡ old ++ (k, s) ∷ []
       → 0 < s.now → IsTopped new
@@ -78,8 +78,8 @@ module _ {K S : Type 0} (cmp : K → K → Ordering) (φ : S → ℕ) where
         go false = (l, tt)
     below_push w (t ∷ f) l a = (a.0, below_push w f l a.1)
 
-    descends_push : (f : List (Term K)) → Descends cmp f → AllByRecursion (λ t. cmp k t.key ≡ Less)
-        f → Descends cmp (f ++ shown c k)
+    descends_push : (f : List (Term K)) → Descends cmp f
+        → AllByRecursion (λ t. cmp k t.key ≡ Less) f → Descends cmp (f ++ shown c k)
     descends_push [] d a = go (nat_eq c 0) refl
       where
         go : (b : Bool) → nat_eq c 0 ≡ b

@@ -22,9 +22,8 @@ ended_more : {X : Type 0} (line : X → List ℕ) (xs : List X) (i : ℕ) (x : X
     → x ≡ get_or xs i x
     → ended (map line (take i xs)) ++ (line x ++ 10 ∷ []) ≡ ended (map line (take (i + 1) xs))
 ended_more line xs i x within is =
-    sym (ap (λ (ls : List (List ℕ)). ended ls)
-          (ap (map line) (take_more xs i x within) ∙ map-append line (take i xs)
-            (get_or xs i x ∷ []))
+    sym (ap (λ (ls : List (List ℕ)). ended ls) (ap (map line) (take_more xs i x within)
+            ∙ map-append line (take i xs) (get_or xs i x ∷ []))
     ∙ flat_map-append (λ (l : List ℕ). l ++ 10 ∷ []) (map line (take i xs))
         (line (get_or xs i x) ∷ [])
     ∙ ap (λ (l : List ℕ). ended (map line (take i xs)) ++ l)
@@ -112,7 +111,8 @@ bare_texts names (t ∷ terms) =
 -- all texts
 pub bare_texts_end : (names : List (List ℕ)) (terms : List (Term Sig)) (i : ℕ) (old new : List ℕ)
     → length terms ≤ i → new ≡ old ++ flat_map (λ y. codes " + " ++ y)
-    (map (bare_text names) (take i terms)) → new ≡ old ++ flat_map (λ y. codes " + " ++ y)
+    (map (bare_text names) (take i terms))
+    → new ≡ old ++ flat_map (λ y. codes " + " ++ y)
     (map (module_term_text names) (element_of terms))
 bare_texts_end names terms i old new long is =
     is ∙ ap (λ (ls : List (List ℕ)). old ++ flat_map (λ y. codes " + " ++ y) ls)
@@ -142,8 +142,8 @@ written_in_a_row s f lines items c names old headed set claimed listed is same_n
         same_names in
     let listed_is : listed ≡ claimed ++ ended (flat_map (printed_line s.alphabet.names) lines) =
     lists ∙ ap (λ (ns : List (List ℕ)). claimed ++ ended (flat_map (printed_line ns) items))
-        same_names ∙ ap (λ (ls : List Line). claimed ++ ended
-          (flat_map (printed_line s.alphabet.names) ls)) same in
+        same_names ∙ ap (λ (ls : List Line). claimed
+          ++ ended (flat_map (printed_line s.alphabet.names) ls)) same in
     let row =
         in_a_row old (codes "certificate 2") (codes "claim " ++ poly_text s.alphabet.names f)
         (codes "end") (printed_setting s) (flat_map (printed_line s.alphabet.names) lines) in
@@ -169,11 +169,11 @@ terms_in_a_row s f terms items names old headed set claimed listed same_names sa
     let claimed_is : claimed ≡ set ++ (codes "claim " ++ poly_text s.alphabet.names f ++ 10 ∷ []) =
         claims ∙ ap (λ (ns : List (List ℕ)). set ++ (codes "claim " ++ poly_text ns f ++ 10 ∷ []))
         same_names in
-    let listed_is : listed ≡ claimed ++ ended
-        (map (term_line s.alphabet.names) (element_of terms)) =
+    let listed_is : listed ≡ claimed
+        ++ ended (map (term_line s.alphabet.names) (element_of terms)) =
     lists ∙ ap (λ (ns : List (List ℕ)). claimed ++ ended (map (term_line ns) (element_of items)))
-        same_names ∙ ap (λ (ts : List (Term Sig)). claimed ++ ended
-          (map (term_line s.alphabet.names) (element_of ts))) same in
+        same_names ∙ ap (λ (ts : List (Term Sig)). claimed
+          ++ ended (map (term_line s.alphabet.names) (element_of ts))) same in
     let row =
         in_a_row old (codes "certificate 1") (codes "claim " ++ poly_text s.alphabet.names f)
         (codes "end") (printed_setting s) (map (term_line s.alphabet.names) (element_of terms)) in

@@ -48,8 +48,8 @@ fn write_part(out: &mut Vec<u8>, names: &[Name], part: &Part) -> Result<(), Allo
 fn write_parts(out: &mut Vec<u8>, names: &[Name], parts: &[Part]) -> Result<(), AllocError>
     requires left { All (λ part. All (λ x. x.index < length names.now) part.left) parts.now }
     requires right { All (λ part. All (λ x. x.index < length names.now) part.right) parts.now }
-    ensures { OnOk result (out.new.items ≡ out.old.items ++ ended
-            (map (part_line names.now) parts.now)) }
+    ensures { OnOk result (out.new.items ≡ out.old.items
+            ++ ended (map (part_line names.now) parts.now)) }
 {
     for part in parts {
         write_part(out, names, part)?;
@@ -74,8 +74,8 @@ pub fn write_lines(out: &mut Vec<u8>, names: &[Name], lines: &[Line]) -> Result<
           lines.now }
     requires right { All (λ line. All (λ part. All (λ x. x.index < length names.now) part.right)
             line) lines.now }
-    ensures { OnOk result (out.new.items ≡ out.old.items ++ ended
-            (flat_map (printed_line names.now) lines.now)) }
+    ensures { OnOk result (out.new.items ≡ out.old.items
+            ++ ended (flat_map (printed_line names.now) lines.now)) }
 {
     for line in lines {
         write_line(out, names, line)?;

@@ -44,8 +44,8 @@ fn write_generators(
     generators: &[Poly],
 ) -> Result<(), AllocError>
     requires { All (λ f. All (λ t. All (λ x. x.index < length names.now) t.key) f) generators.now }
-    ensures { OnOk result (out.new.items ≡ out.old.items ++ ended
-            (map (generator_line names.now) generators.now)) }
+    ensures { OnOk result (out.new.items ≡ out.old.items
+            ++ ended (map (generator_line names.now) generators.now)) }
 {
     for f in generators {
         write_poly_line(out, b"generator ", names, f)?;

@@ -31,8 +31,8 @@ fn write_term(out: &mut Vec<u8>, names: &[Name], t: &ModuleTerm) -> Result<(), A
 fn write_each(out: &mut Vec<u8>, names: &[Name], terms: &[ModuleTerm]) -> Result<(), AllocError>
     requires left { All (λ t. All (λ x. x.index < length names.now) t.key.left) terms.now }
     requires right { All (λ t. All (λ x. x.index < length names.now) t.key.right) terms.now }
-    ensures { OnOk result (out.new.items ≡ out.old.items ++ ended
-            (map (term_line names.now) (element_of terms.now))) }
+    ensures { OnOk result (out.new.items ≡ out.old.items
+            ++ ended (map (term_line names.now) (element_of terms.now))) }
 {
     for t in terms {
         write_term(out, names, t)?;

@@ -96,12 +96,14 @@ module _ {K : Type 0} {R : K → K → Ordering} (o : IsTotalOrder R) (exact : C
 
   -- ---- what is there after one came or went
 
-  pub with_one : (k q : K) (old new : List K) → list_any (is_at (R q)) new ≡ cond (is_at (R k) q)
-      true (list_any (is_at (R q)) old) → Contains new q ↔ (Contains old q ⊎ (q ≡ k))
+  pub with_one : (k q : K) (old new : List K)
+      → list_any (is_at (R q)) new ≡ cond (is_at (R k) q) true (list_any (is_at (R q)) old)
+      → Contains new q ↔ (Contains old q ⊎ (q ≡ k))
   with_one k q old new h = go (is_eq (R k q)) refl h (found old q) (found new q)
     where
-      go : (b : Bool) → is_eq (R k q) ≡ b → list_any (is_at (R q)) new ≡ cond b true
-          (list_any (is_at (R q)) old) → IsTrue (list_any (is_at (R q)) old) ↔ Contains old q
+      go : (b : Bool) → is_eq (R k q) ≡ b
+          → list_any (is_at (R q)) new ≡ cond b true (list_any (is_at (R q)) old)
+          → IsTrue (list_any (is_at (R q)) old) ↔ Contains old q
           → IsTrue (list_any (is_at (R q)) new) ↔ Contains new q → Contains new q
           ↔ (Contains old q ⊎ (q ≡ k))
       go true e d f g = (λ c. inr (same_key k q e), λ c. g.0 d)
@@ -109,12 +111,14 @@ module _ {K : Type 0} {R : K → K → Ordering} (o : IsTotalOrder R) (exact : C
           (λ c. inl (f.0 (sym d ∙ g.1 c)),
             λ c. elim c [ inl t ↦ g.0 (d ∙ f.1 t) | inr i ↦ absurd (other_key k q e i) ])
 
-  pub without_one : (k q : K) (old new : List K) → list_any (is_at (R q)) new ≡ cond (is_at (R k) q)
-      false (list_any (is_at (R q)) old) → Contains new q ↔ (Contains old q × ¬ Contains (k ∷ []) q)
+  pub without_one : (k q : K) (old new : List K)
+      → list_any (is_at (R q)) new ≡ cond (is_at (R k) q) false (list_any (is_at (R q)) old)
+      → Contains new q ↔ (Contains old q × ¬ Contains (k ∷ []) q)
   without_one k q old new h = go (is_eq (R k q)) refl h (found old q) (found new q)
     where
-      go : (b : Bool) → is_eq (R k q) ≡ b → list_any (is_at (R q)) new ≡ cond b false
-          (list_any (is_at (R q)) old) → IsTrue (list_any (is_at (R q)) old) ↔ Contains old q
+      go : (b : Bool) → is_eq (R k q) ≡ b
+          → list_any (is_at (R q)) new ≡ cond b false (list_any (is_at (R q)) old)
+          → IsTrue (list_any (is_at (R q)) old) ↔ Contains old q
           → IsTrue (list_any (is_at (R q)) new) ↔ Contains new q → Contains new q
           ↔ (Contains old q × ¬ Contains (k ∷ []) q)
       go true e d f g =

@@ -11,8 +11,8 @@ module _ {A : Type 0} (f : A → Sig) where
       → Contains (map f (take (i + 1) xs)) σ ↔ (Contains (map f (take i xs)) σ ⊎ (σ ≡ f x))
   more_of xs i x l e σ =
       (λ c. go (Contains-push_cases (map f (take i xs)) (f x) σ
-          (subst (λ ys. Contains ys σ) grown c)), λ c. subst (λ ys. Contains ys σ) (sym grown)
-        (back c))
+          (subst (λ ys. Contains ys σ) grown c)),
+        λ c. subst (λ ys. Contains ys σ) (sym grown) (back c))
     where
       grown : map f (take (i + 1) xs) ≡ map f (take i xs) ++ f x ∷ []
       grown = map_more f xs i x l ∙ ap (λ y. map f (take i xs) ++ f y ∷ []) (sym e)

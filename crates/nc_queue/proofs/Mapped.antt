@@ -5,19 +5,19 @@ use Rattle.std.specs.List.Sorted.{IsStrictlySortedBy}
 use Rattle.std.specs.Prelude.{map}
 
 module _ {A K : Type 0} (f : A → K) where
-  pub map_filter : (test : K → Bool) (ks : List A) → map f (filter (λ x. test (f x)) ks) ≡ filter
-      test (map f ks)
+  pub map_filter : (test : K → Bool) (ks : List A)
+      → map f (filter (λ x. test (f x)) ks) ≡ filter test (map f ks)
   map_filter test [] = refl
   map_filter test (x ∷ xs) = go (test (f x)) (map_filter test xs)
     where
       go : (b : Bool) → map f (filter (λ y. test (f y)) xs) ≡ filter test (map f xs)
-          → map f (cond b (x ∷ filter (λ y. test (f y)) xs) (filter (λ y. test (f y)) xs)) ≡ cond b
-          (f x ∷ filter test (map f xs)) (filter test (map f xs))
+          → map f (cond b (x ∷ filter (λ y. test (f y)) xs) (filter (λ y. test (f y)) xs))
+          ≡ cond b (f x ∷ filter test (map f xs)) (filter test (map f xs))
       go true e = ap (λ ys. f x ∷ ys) e
       go false e = e
 
-  pub any_map : (test : K → Bool) (ks : List A) → list_any (λ x. test (f x)) ks ≡ list_any test
-      (map f ks)
+  pub any_map : (test : K → Bool) (ks : List A)
+      → list_any (λ x. test (f x)) ks ≡ list_any test (map f ks)
   any_map test [] = refl
   any_map test (x ∷ xs) = ap (λ b. test (f x) || b) (any_map test xs)
 
@@ -26,8 +26,8 @@ module _ {A K : Type 0} (f : A → K) where
   all_map P [] a = tt
   all_map P (x ∷ xs) a = (a.0, all_map P xs a.1)
 
-  pub sorted_map : (R : K → K → Ordering) (ks : List A) → IsStrictlySortedBy (λ x y. R (f x) (f y))
-      ks → IsStrictlySortedBy R (map f ks)
+  pub sorted_map : (R : K → K → Ordering) (ks : List A)
+      → IsStrictlySortedBy (λ x y. R (f x) (f y)) ks → IsStrictlySortedBy R (map f ks)
   unfolding IsStrictlySortedBy
   sorted_map R [] s = tt
   sorted_map R (x ∷ xs) s = (all_map (λ k. R (f x) k ≡ Less) xs s.0, sorted_map R xs s.1)

@@ -44,8 +44,9 @@ module _ (P : Problem) where
 
   -- ---- one generator
 
-  pub unit_added : (i : ℕ) (τ : Sig) (old new : List Sig) → τ ≡ sig_of (generator_weight P.setting)
-      (unit_monomial i) → IsWithin P (unit_monomial i) → IsWith old τ new → IsWithUnit P i old new
+  pub unit_added : (i : ℕ) (τ : Sig) (old new : List Sig)
+      → τ ≡ sig_of (generator_weight P.setting) (unit_monomial i) → IsWithin P (unit_monomial i)
+      → IsWith old τ new → IsWithUnit P i old new
   unit_added i τ old new e b w = λ σ. (λ c. there σ ((w σ).0 c), λ c. (w σ).1 (back σ c))
     where
       there : (σ : Sig) → Contains old σ ⊎ (σ ≡ τ) → Contains old σ ⊎ IsUnitAt P i σ
@@ -59,8 +60,8 @@ module _ (P : Problem) where
   pub unit_sig : (weight i : ℕ) (u v : Word) (τ : Sig)
       → τ ≡ record { degree = word_weight u + weight + word_weight v;
         generator = i; left = u; right = v } → u ≡ [] → v ≡ []
-      → weight ≡ generator_weight P.setting i → τ ≡ sig_of (generator_weight P.setting)
-      (unit_monomial i)
+      → weight ≡ generator_weight P.setting i
+      → τ ≡ sig_of (generator_weight P.setting) (unit_monomial i)
   unit_sig weight i u v τ e l r w =
       e ∙ (λ x. record { degree = word_weight (l x) + w x + word_weight (r x);
           generator = i; left = l x; right = r x })

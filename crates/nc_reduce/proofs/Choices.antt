@@ -22,8 +22,8 @@ module _ (s : Setting) (entries : List Entry) (β : Sig) (w : Word) (h : Hit)
   module _ (e : Entry) (at : slice_get entries (h.number - 1) ≡ Some e) where
     entry_is : found.0.entry ≡ e
     entry_is =
-        listed_same entries found.0.entry e found.0.listed
-        (h.number - 1, slice_get_within entries (h.number - 1) e at,
+        listed_same entries found.0.entry e found.0.listed (h.number - 1,
+          slice_get_within entries (h.number - 1) e at,
           get_or_from_slice_get entries (h.number - 1) e e at) (omega (arith, found.2))
 
     spells : found.0.left ++ (leading s.prime e.polynomial ++ found.0.right) ≡ w
@@ -35,7 +35,8 @@ module _ (s : Setting) (entries : List Entry) (β : Sig) (w : Word) (h : Hit)
     hit_stands = (found.0.left, found.0.right, sym spells, found.3)
 
     pub hit_choice : (u : Word) (n : ℕ) (v : Word) → u ++ (leading s.prime e.polynomial ++ v) ≡ w
-        → length u ≡ h.place → n ≡ h.number → IsChoiceOf s entries (IsBelowSig s β) w
+        → length u ≡ h.place → n ≡ h.number
+        → IsChoiceOf s entries (IsBelowSig s β) w
         (Some (record { left = u; number = n; right = v }))
     hit_choice u n v stands place number =
         let around : (found.0.left ≡ u) × (found.0.right ≡ v) =

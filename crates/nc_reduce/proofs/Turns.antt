@@ -36,8 +36,8 @@ use Rattle.std.specs.List.{All, slice_get}
 rest_is : (p : ℕ) (t : Term Word) (f : Polynomial) → IsNormal p (t ∷ f)
     → f ≡ normal_form p (minus p (t ∷ f) 1 (t ∷ []))
 rest_is p t f n =
-    normal_form_only p (minus p (t ∷ f) 1 (t ∷ [])) f some
-    (n.0.2, All-from_recursion (λ u. u.coefficient < p) f
+    normal_form_only p (minus p (t ∷ f) 1 (t ∷ [])) f some (n.0.2,
+      All-from_recursion (λ u. u.coefficient < p) f
       (recursion_from_All (λ u. u.coefficient < p) (t ∷ f) n.1).1) (record { at = same })
   where
     some : 0 < p
@@ -131,8 +131,8 @@ module _ (law : LeadsLaw) (s : Setting) (entries : List Entry) (usable : All (Is
         pub hit_turn : (new : Polynomial) → step.coefficient < p
             → step.coefficient * coefficient f (leading p f) % p ≡ t.coefficient
             → new ≡ normal_form p (minus p old step.coefficient
-              (polynomial_times step.left f step.right)) → IsSubtracted s entries (IsBelowSig s β)
-            old new step
+              (polynomial_times step.left f step.right))
+            → IsSubtracted s entries (IsBelowSig s β) old new step
         hit_turn new small cancels rest =
             subtracted_turn s entries usable (IsBelowSig s β) old t others parts normal t.key refl
                 choice is_choice e read f of_entry new step.coefficient step.left step.right
@@ -147,8 +147,8 @@ module _ (law : LeadsLaw) (s : Setting) (entries : List Entry) (usable : All (Is
 module _ (s : Setting) (field : IsField s.prime) (entries : List Entry)
     (usable : All (IsUsable s) entries) (β : Sig) where
   pub turn_leaves : (old new : Polynomial) (turn : Turn) → IsTurn s entries β old new turn
-      → IsNormal s.prime old → HasSmallWords s old → IsLeft s field entries usable (IsBelowSig s β)
-      old new
+      → IsNormal s.prime old → HasSmallWords s old
+      → IsLeft s field entries usable (IsBelowSig s β) old new
   turn_leaves old new (Kept x) t n k =
       kept_leaves s field entries usable (IsBelowSig s β) old new x t n k
   turn_leaves old new (Subtracted step) t n k =

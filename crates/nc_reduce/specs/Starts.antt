@@ -29,5 +29,5 @@ IsStartAt s entries τ (Start.a_multiple u j v) =
 abbrev pub IsReadable : Setting → List Entry → Start → Type 0
 IsReadable s entries (Start.a_generator i) = IsGenerator s i
 IsReadable s entries (Start.a_multiple u j v) =
-    (1 ≤ j) × (j ≤ length entries) × All (λ t. length u + length t.key + length v ≤ 200000)
-    (polynomial_of entries j)
+    (1 ≤ j) × (j ≤ length entries)
+    × All (λ t. length u + length t.key + length v ≤ 200000) (polynomial_of entries j)

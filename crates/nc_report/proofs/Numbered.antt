@@ -9,12 +9,11 @@ use Rattle.std.proofs.lemmas.Option.{get_or_from_slice_get, slice_get_cases}
 use Rattle.std.specs.Result.{OnOk}
 
 module _ {X : Type 0} (lines : ℕ → X → List (List ℕ)) where
-  numbered-append : (k : ℕ) (xs ys : List X) → numbered lines k (xs ++ ys) ≡ numbered lines k
-      xs ++ numbered lines (k + length xs) ys
+  numbered-append : (k : ℕ) (xs ys : List X) → numbered lines k (xs ++ ys) ≡ numbered lines k xs
+      ++ numbered lines (k + length xs) ys
   numbered-append k [] ys = ap (λ (m : ℕ). numbered lines m ys) (omega arith)
   numbered-append k (x ∷ xs) ys =
-      ap (λ (ls : List (List ℕ)). lines k x ++ ls)
-          (numbered-append (k + 1) xs ys
+      ap (λ (ls : List (List ℕ)). lines k x ++ ls) (numbered-append (k + 1) xs ys
             ∙ ap (λ (m : ℕ). numbered lines (k + 1) xs ++ numbered lines m ys) (omega arith))
       ∙ sym (append_assoc (lines k x) (numbered lines (k + 1) xs)
             (numbered lines (k + length (x ∷ xs)) ys))
@@ -24,8 +23,8 @@ module _ {X : Type 0} (lines : ℕ → X → List (List ℕ)) where
     here : slice_get xs i ≡ Some x
     here = subst (λ (j : ℕ). slice_get xs j ≡ Some x) (omega arith) at
 
-    numbered_more : numbered lines 1 (take (i + 1) xs) ≡ numbered lines 1 (take i xs) ++ lines
-        (i + 1) x
+    numbered_more : numbered lines 1 (take (i + 1) xs) ≡ numbered lines 1 (take i xs)
+        ++ lines (i + 1) x
     numbered_more =
         ap (numbered lines 1) (take_more xs i x within)
         ∙ (numbered-append 1 (take i xs) (get_or xs i x ∷ [])
@@ -60,7 +59,7 @@ module _ {X : Type 0} (lines : ℕ → X → List (List ℕ)) where
           → after ≡ old ++ ended (numbered lines 1 (take (i + 1) xs))
       go (inl (x, here, at, same)) =
           let place : slice_get xs (i + 1 - 1) ≡ Some x =
-          subst (λ (j : ℕ). slice_get xs j ≡ Some x) (omega arith) at in
+              subst (λ (j : ℕ). slice_get xs j ≡ Some x) (omega arith) at in
           written_more xs i x within place old before after so_far (more x place)
       go (inr (past, none)) = absurd (omega (arith, past, within))
 

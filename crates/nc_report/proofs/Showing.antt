@@ -164,8 +164,8 @@ module _ (s : Snapshot) (h : IsSnapshot s) where
 
     pub syzygies_count : length s.state.syzygies ≡ length run.syzygies
     syzygies_count =
-        ap (λ (t : State). length t.syzygies) (stands run a) ∙ length-map run.syzygies
-        untraced_syzygy
+        ap (λ (t : State). length t.syzygies) (stands run a)
+        ∙ length-map run.syzygies untraced_syzygy
 
     pub counts_same : counts_line s.handled s.state ≡ counts_line s.handled run
     counts_same =
@@ -178,8 +178,8 @@ pub behind : (old middle new line : List ℕ) (lines : List (List ℕ))
     → middle ≡ old ++ (line ++ 10 ∷ []) → new ≡ middle ++ ended lines
     → new ≡ old ++ ended (line ∷ lines)
 behind old middle new line lines one two =
-    two ∙ (ap (λ (l : List ℕ). l ++ ended lines) one ∙ append_assoc old (line ++ 10 ∷ [])
-      (ended lines))
+    two ∙ (ap (λ (l : List ℕ). l ++ ended lines) one
+      ∙ append_assoc old (line ++ 10 ∷ []) (ended lines))
 
 -- the pieces of a report in a row
 pub in_a_row : (old first second third last ending counts : List ℕ) (es hs : List (List ℕ))

@@ -31,8 +31,9 @@ fn write_entry_lines(
     requires some { 1 ≤ n }
     requires within { n ≤ length snapshot.now.state.entries }
     ensures { OnOk result ((run : State) (e : EntryOf) → IsRunAt snapshot.now run
-            → slice_get run.entries (n - 1) ≡ Some e → out.new.items ≡ out.old.items ++ ended
-            (entry_lines (kind_of shown.now) snapshot.now.problem.alphabet.names
+            → slice_get run.entries (n - 1) ≡ Some e
+            → out.new.items ≡ out.old.items
+            ++ ended (entry_lines (kind_of shown.now) snapshot.now.problem.alphabet.names
               (labels_in shown.now) n e)) }
 {
     snapshot.recall_rule();
@@ -55,8 +56,9 @@ fn write_syzygy_lines(
     requires some { 1 ≤ n }
     requires within { n ≤ length snapshot.now.state.syzygies }
     ensures { OnOk result ((run : State) (h : SyzygyOf) → IsRunAt snapshot.now run
-            → slice_get run.syzygies (n - 1) ≡ Some h → out.new.items ≡ out.old.items ++ ended
-            (syzygy_lines (kind_of shown.now) snapshot.now.problem.alphabet.names
+            → slice_get run.syzygies (n - 1) ≡ Some h
+            → out.new.items ≡ out.old.items
+            ++ ended (syzygy_lines (kind_of shown.now) snapshot.now.problem.alphabet.names
               (labels_in shown.now) n h)) }
 {
     snapshot.recall_rule();
@@ -76,8 +78,8 @@ fn write_entries(
     requires leads { LeadsOf snapshot.now leads.now }
     requires shown { IsShownOf snapshot.now shown.now }
     ensures { OnOk result ((run : State) → IsRunAt snapshot.now run
-            → out.new.items ≡ out.old.items ++ ended
-            (numbered (entry_lines (kind_of shown.now) snapshot.now.problem.alphabet.names
+            → out.new.items ≡ out.old.items
+            ++ ended (numbered (entry_lines (kind_of shown.now) snapshot.now.problem.alphabet.names
                 (labels_in shown.now)) 1 run.entries)) }
 {
     snapshot.recall_rule();
@@ -98,8 +100,8 @@ fn write_syzygies(
     requires leads { LeadsOf snapshot.now leads.now }
     requires shown { IsShownOf snapshot.now shown.now }
     ensures { OnOk result ((run : State) → IsRunAt snapshot.now run
-            → out.new.items ≡ out.old.items ++ ended
-            (numbered (syzygy_lines (kind_of shown.now) snapshot.now.problem.alphabet.names
+            → out.new.items ≡ out.old.items
+            ++ ended (numbered (syzygy_lines (kind_of shown.now) snapshot.now.problem.alphabet.names
                 (labels_in shown.now)) 1 run.syzygies)) }
 {
     snapshot.recall_rule();

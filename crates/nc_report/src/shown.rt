@@ -62,8 +62,8 @@ fn write_trace_line(
     requires leads { LeadsOf snapshot.now leads.now }
     requires listed { IsListed snapshot.now.state listed }
     ensures { OnOk result ((run : State) (t : Proof) (label : Element) → IsRunAt snapshot.now run
-            → IsTraceIn run listed t → out.new.items ≡ out.old.items ++ ended
-            (cofactor_lines TraceOf snapshot.now.problem.alphabet.names t label)) }
+            → IsTraceIn run listed t → out.new.items ≡ out.old.items
+            ++ ended (cofactor_lines TraceOf snapshot.now.problem.alphabet.names t label)) }
 {
     let trace = named_trace(alloc, snapshot, leads, listed)?;
     out.extend_from_slice(b"trace ")?;
@@ -75,8 +75,9 @@ fn write_trace_line(
 fn write_label_line(out: &mut Vec<u8>, names: &[Name], label: &Module) -> Result<(), AllocError>
     requires left { All (λ t. All (λ x. x.index < length names.now) t.key.left) label.now }
     requires right { All (λ t. All (λ x. x.index < length names.now) t.key.right) label.now }
-    ensures { OnOk result ((t : Proof) → out.new.items ≡ out.old.items ++ ended
-            (cofactor_lines Full names.now t (element_of label.now))) }
+    ensures { OnOk result ((t : Proof)
+            → out.new.items ≡ out.old.items
+            ++ ended (cofactor_lines Full names.now t (element_of label.now))) }
 {
     out.extend_from_slice(b"label ")?;
     write_module(out, names, label)?;
@@ -119,8 +120,8 @@ pub(crate) fn write_shown(
     requires shown { IsShownOf snapshot.now shown.now }
     requires listed { IsListed snapshot.now.state listed }
     ensures { OnOk result ((run : State) (t : Proof) → IsRunAt snapshot.now run
-            → IsTraceIn run listed t → out.new.items ≡ out.old.items ++ ended
-            (cofactor_lines (kind_of shown.now) snapshot.now.problem.alphabet.names t
+            → IsTraceIn run listed t → out.new.items ≡ out.old.items
+            ++ ended (cofactor_lines (kind_of shown.now) snapshot.now.problem.alphabet.names t
               (labels_in shown.now listed))) }
 {
     match shown {

@@ -31,8 +31,8 @@ impl Model for Sig {
     ghost Value = { Sig };
 
     ghost view =
-        { λ s. record { degree = s.degree; generator = s.generator; left = s.left; right = s.right }
-          };
+        { λ s. record { degree = s.degree;
+            generator = s.generator; left = s.left; right = s.right } };
 
     ghost invariant = { λ s. word_weight s.left + word_weight s.right ≤ s.degree };
 

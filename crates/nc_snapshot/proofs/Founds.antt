@@ -41,7 +41,8 @@ state_made : {a a' : List Item} {b b' : List ZeroItem} (c d : ℕ) → a ≡ a' 
 state_made c d e h = ap₂ (λ x y. the_state x y c d) e h
 
 -- what is found after an outcome is the state after it, without traces
-pub found_state : (f : Found) (σ : Sig) (o : Outcome) → state_of (found_after f σ o) ≡ untraced
+pub found_state : (f : Found) (σ : Sig) (o : Outcome)
+    → state_of (found_after f σ o) ≡ untraced
     (state_after (state_of f) (monomial_of σ) (outcome_of o))
 found_state f σ Covered =
     state_made (f.covered + 1) f.settled (sym (untraced_entries f.entries))

@@ -8,8 +8,9 @@ use Rattle.std.proofs.Common.{ap, arith, length, ◌+◌, ◌∙◌, ◌≡◌, 
 use Rattle.std.proofs.lemmas.List.{length-map}
 
 -- each handled signature is counted once, and a problem has at most 1,000,000,000 steps
-pub snapshot_counts : (s : Snapshot) → IsSnapshot s → s.state.covered + s.state.settled + length
-    s.state.entries + length s.state.syzygies ≤ 1000000000
+pub snapshot_counts : (s : Snapshot) → IsSnapshot s
+    → s.state.covered + s.state.settled + length s.state.entries + length s.state.syzygies
+    ≤ 1000000000
 snapshot_counts s h =
     let c : s.state.covered ≡ h.run.run.covered = ap (λ x. x.covered) h.run.stands in
     let d : s.state.settled ≡ h.run.run.settled = ap (λ x. x.settled) h.run.stands in

@@ -40,8 +40,9 @@ module _ (s : Snapshot) (h : IsSnapshot s) where
   snapshot_canonical = canonical s.problem.problem snapshot_prime s.handled s.state h.run
 
   -- what the outcome of the next signature brings is greater
-  pub snapshot_ascends : (τ : Monomial) (o : Outcome) → IsNextOfRun s.problem.problem s.handled
-      s.state τ → Handles s.problem.problem.setting s.state τ o → (ρ : Monomial)
+  pub snapshot_ascends : (τ : Monomial) (o : Outcome)
+      → IsNextOfRun s.problem.problem s.handled s.state τ
+      → Handles s.problem.problem.setting s.state τ o → (ρ : Monomial)
       → BringsAmbiguity s.problem.problem.setting s.state τ o ρ
       → IsLess s.problem.problem.setting τ ρ
   snapshot_ascends τ o next handles =

@@ -36,8 +36,8 @@ impl Model for Snapshot {
     ghost Value = { Snapshot };
 
     ghost view =
-        { λ s. record { problem = s.problem.value; handled = s.handled; state = state_of s.found }
-          };
+        { λ s. record { problem = s.problem.value;
+            handled = s.handled; state = state_of s.found } };
 
     ghost invariant =
         { λ s. IsSnapshot (record { problem = s.problem.value;

@@ -65,8 +65,8 @@ printed : terms_text difference claim terms ≡ text
 unfolding digits
 printed = refl
 
-read : reads_certificate text ≡ Ok
-    (record { setting = difference; claim = claim; lines = element_lines terms })
+read : reads_certificate text ≡ Ok (record { setting = difference;
+        claim = claim; lines = element_lines terms })
 unfolding certificate_at claim_line end_line field_line form_line generator_lines letters_line
     weights_line alphabet_lines setting_lines term_lines terms_line lines a_line the_end the_line
     written end_at exponent_at factor_at factors_at literal_at name_at poly_at sign_at term_at
@@ -88,8 +88,9 @@ commutator weights =
             key = y a ++ x a } ∷ record { coefficient = 1; key = x a ++ y a } ∷ [];
       lines =
           (record { coefficient = 1; left = one; of = Factor.a_generator 1; right = one } ∷ [])
-          ∷ (record { coefficient = 1; left = x a; of = Factor.a_line 1; right = one } ∷ record
-                { coefficient = 100; left = one; of = Factor.a_line 1; right = x a } ∷ [])
+          ∷ (record { coefficient = 1; left = x a;
+                  of = Factor.a_line 1; right = one } ∷ record { coefficient = 100;
+                  left = one; of = Factor.a_line 1; right = x a } ∷ [])
           ∷ (record { coefficient = 100; left = one; of = Factor.a_line 2; right = one } ∷ [])
           ∷ [];
     }
@@ -196,10 +197,11 @@ weight_lists = (refl, refl, refl, refl, refl)
 abbrev generator_of : List ℕ → Result Polynomial Kind
 generator_of bytes = generator_at 101 plain 1000 (tokens bytes)
 
-generators : (generator_of (codes "102*x^1*y^0") ≡ Ok
-      (record { coefficient = 1; key = x plain } ∷ []))
-    × (generator_of (codes "-100+x") ≡ Ok
-          (record { coefficient = 1; key = x plain } ∷ record { coefficient = 1; key = one } ∷ []))
+generators : (generator_of (codes "102*x^1*y^0")
+      ≡ Ok (record { coefficient = 1; key = x plain } ∷ []))
+    × (generator_of (codes "-100+x")
+          ≡ Ok (record { coefficient = 1; key = x plain } ∷ record { coefficient = 1; key = one }
+            ∷ []))
     × (generator_of (codes "x-x") ≡ Err ZeroGenerator)
     × (generator_of (codes "x-x $") ≡ Err Syntax)
     × (generator_of (codes "x^255*z") ≡ Err UnknownName)
@@ -215,8 +217,8 @@ abbrev bound : List ℕ → Result Bound Kind
 bound bytes = bound_at plain 1 (tokens bytes)
 
 bounds : (bound (codes "degree 1000") ≡ Ok (Bound.to_degree 1000))
-    × (bound (codes "below x [1] x") ≡ Ok
-          (Bound.under (record { left = x plain; generator = 1; right = x plain })))
+    × (bound (codes "below x [1] x")
+          ≡ Ok (Bound.under (record { left = x plain; generator = 1; right = x plain })))
     × (bound (codes "degree 1001 x") ≡ Err OutOfRange)
     × (bound (codes "degree4") ≡ Err Syntax)
     × (bound (codes "below x [2] x") ≡ Err OutOfRange)

@@ -30,8 +30,8 @@ no_more p a room (End n) e = refl
 no_more p a room (Line n clean ts after) e =
     passed_by (codes "generator") n clean ts after _ (Ok ([], Line n clean ts after)) e
 
-pub are_lines : (p : ℕ) (a : Alphabet) → AreLines (codes "generator") (generator_at p a)
-    (generator_lines p a)
+pub are_lines : (p : ℕ) (a : Alphabet)
+    → AreLines (codes "generator") (generator_at p a) (generator_lines p a)
 are_lines p a = record { more = one_more p a; none = no_more p a }
 
 abbrev setting_of : ℕ → Alphabet → List Polynomial → NamedSetting

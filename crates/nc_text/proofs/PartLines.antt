@@ -30,7 +30,8 @@ module _ (s : NamedSetting) where
 
   pub line_next : (reaches : List ℕ) (parts : List Part) (w : Written) (r : Row)
       → a_line (codes "part") w ≡ None → a_line (codes "line") w ≡ Some r
-      → part_lines s reaches parts w ≡ (at_line r.number (end_at r.tokens) >>= λ _. with_first
+      → part_lines s reaches parts w
+          ≡ (at_line r.number (end_at r.tokens) >>= λ _. with_first
             (part_lines s (reaches ++ line_reach s.setting reaches parts ∷ []) [] r.after) parts)
   unfolding a_line part_lines
   line_next reaches parts (End n) r d e = absurd cc
@@ -62,11 +63,10 @@ module _ (s : NamedSetting) where
       (whole : Read certificates.Line) (r : Row) where
     pub part_goes_on : (part : Part) → a_line (codes "part") w ≡ Some r
         → at_line r.number (part_at s reaches r.tokens) ≡ Ok part
-        → IsOnTheWay lines reaches parts w whole → IsOnTheWay lines reaches (parts ++ part ∷ [])
-        r.after whole
+        → IsOnTheWay lines reaches parts w whole
+        → IsOnTheWay lines reaches (parts ++ part ∷ []) r.after whole
     part_goes_on part e k h =
-        record { same = sym (ap (with_front lines)
-            (part_next reaches parts w r e
+        record { same = sym (ap (with_front lines) (part_next reaches parts w r e
               ∙ ap (λ (q : Result Part TextFault). q >>= λ part. part_lines s reaches
                 (parts ++ part ∷ []) r.after) k)) ∙ h.same }
 

@@ -101,8 +101,8 @@ pub ends : (p : ℕ) (a : Alphabet) (front : Polynomial) (negative : Bool) (ts :
 ends p a front negative ts whole t us e end h =
     let b = behind_term p a front negative ts whole (t, us) e h in
     sym b.same ∙ ap (λ (l : List Token). with_front (front ++ t ∷ [])
-          (after_term (terms_at b.budget p a) l)) end ∙ ap (λ (l : Polynomial). Ok l)
-        (append-nil (front ++ t ∷ []))
+          (after_term (terms_at b.budget p a) l)) end
+        ∙ ap (λ (l : Polynomial). Ok l) (append-nil (front ++ t ∷ []))
 
 wrong : (further : Bool → List Token → Read) (token : shown.Token) (rest : List Token)
     → (token ≡ code.End → ⊥) → (token ≡ code.Plus → ⊥) → (token ≡ code.Minus → ⊥)
@@ -131,7 +131,8 @@ is_wrong p a front negative ts whole t us rest token f e is not_end not_plus not
     let b = behind_term p a front negative ts whole (t, us) e h in
     let k : whole ≡ Err (misplaced (before token rest)) =
         sym b.same ∙ ap (λ (l : List Token). with_front (front ++ t ∷ [])
-          (after_term (terms_at b.budget p a) l)) is ∙ ap (with_front (front ++ t ∷ []))
+          (after_term (terms_at b.budget p a) l)) is
+        ∙ ap (with_front (front ++ t ∷ []))
         (wrong (terms_at b.budget p a) token rest not_end not_plus not_minus) in
     rw (wrong_here rest) k
 

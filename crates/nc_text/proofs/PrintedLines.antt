@@ -23,8 +23,8 @@ all_printed (x ∷ xs) ys h k = (h.0, all_printed xs ys h.1 k)
 
 -- the next line is found by its keyword, and not by another one
 pub found : (keyword line : List ℕ) (ts : List Token) (n : ℕ) (ls : List (List ℕ))
-    → IsLineOf keyword ts line → a_line keyword (written n (line ∷ ls)) ≡ Some
-    (row n ts (written (n + 1) ls))
+    → IsLineOf keyword ts line → a_line keyword (written n (line ∷ ls))
+    ≡ Some (row n ts (written (n + 1) ls))
 unfolding a_line
 found keyword line ts n ls h =
     let begun : begins keyword (Name keyword ∷ ts) ≡ true = bytes_same keyword in

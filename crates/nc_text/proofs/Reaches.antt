@@ -17,8 +17,8 @@ use Rattle.std.specs.List.{All, AllByRecursion}
 
 -- ---- the longest word
 
-longest-push : (f : Polynomial) (t : Term Word) → longest (f ++ t ∷ []) ≡ max (length t.key)
-    (longest f)
+longest-push : (f : Polynomial) (t : Term Word)
+    → longest (f ++ t ∷ []) ≡ max (length t.key) (longest f)
 longest-push [] t = refl
 longest-push (u ∷ f) t = ap (max (length u.key)) (longest-push f t) ∙ omega arith
 
@@ -40,8 +40,8 @@ pub longest_list_more : (fs : List Polynomial) (i : ℕ) (f : Polynomial) (all n
 longest_list_more fs i f all now within is so_far pushed =
     pushed ∙ ap (λ (l : List ℕ). l ++ longest f ∷ []) so_far
         ∙ sym (ap (map longest) (take_more fs i f within
-            ∙ ap (λ (g : Polynomial). take i fs ++ g ∷ []) (sym is)) ∙ map-append longest
-          (take i fs) (f ∷ []))
+            ∙ ap (λ (g : Polynomial). take i fs ++ g ∷ []) (sym is))
+          ∙ map-append longest (take i fs) (f ∷ []))
 
 -- ---- parts
 

@@ -91,8 +91,8 @@ generator_lines_read p a room (Line n clean ts after) some =
             (generator_reads p a room (behind ts) some)) (λ first is.
     on_bind _ _ (generator_lines p a (room - 1) after) _
         (generator_lines_read p a (room - 1) after some) (λ others are.
-    ((let r = is.0 in let k = are.0 in omega arith), All-cons (IsTextGenerator a p) first others.0
-          is.1 are.1))))
+    ((let r = is.0 in let k = are.0 in omega arith),
+          All-cons (IsTextGenerator a p) first others.0 is.1 are.1))))
     (λ other. (omega arith, All-nil (IsTextGenerator a p)))
 
 pub setting_lines_read : (w : Written) → IfOk (setting_lines w) (λ x. IsSetting x.0)

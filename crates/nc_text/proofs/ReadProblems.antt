@@ -95,8 +95,8 @@ steps_line_reads w = steps_in_read w (a_line (codes "steps") w)
 
 -- what the lines give is a problem
 pub is_problem : (s : NamedSetting) (b : Bound) (n : ℕ) (w one two three : Written)
-    → setting_lines w ≡ Ok (s, one) → bound_line s.alphabet (length s.setting.generators) one ≡ Ok
-    (b, two) → steps_line two ≡ Ok (n, three)
+    → setting_lines w ≡ Ok (s, one) → bound_line s.alphabet (length s.setting.generators) one
+    ≡ Ok (b, two) → steps_line two ≡ Ok (n, three)
     → IsProblem (record { problem = record { setting = s.setting; bound = b; steps = n };
             alphabet = s.alphabet })
 is_problem s b n w one two three e f g =

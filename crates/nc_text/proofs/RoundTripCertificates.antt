@@ -44,8 +44,8 @@ forms_read : (form_at (tokens (codes "1")) ≡ Ok 1) × (form_at (tokens (codes 
 unfolding tokens pieces form_at literal_at end_at
 forms_read = (refl, refl)
 
-first_again : (n : ℕ) (ls : List (List ℕ)) → form_line (written n (codes "certificate 1" ∷ ls)) ≡ Ok
-    (1, written (n + 1) ls)
+first_again : (n : ℕ) (ls : List (List ℕ)) → form_line (written n (codes "certificate 1" ∷ ls))
+    ≡ Ok (1, written (n + 1) ls)
 unfolding form_line
 first_again n ls =
     rw (taken (codes "certificate") (codes "certificate 1") (tokens (codes "1")) n ls first_is,
@@ -71,15 +71,15 @@ module _ (s : NamedSetting) (is : IsSetting s) (claim : Polynomial) (text : IsTe
 
   -- a form that is read, and lines behind the claim
   again : (form : ℕ) (first : List ℕ) (body : List (List ℕ)) (lines : List certificates.Line)
-      → ((n : ℕ) (ls : List (List ℕ)) → form_line (written n (first ∷ ls)) ≡ Ok
-        (form, written (n + 1) ls))
-      → ((n : ℕ) → body_lines form s (written n (body ++ the_last)) ≡ Ok
-            (lines, written (n + length body) the_last))
-      → certificate_at (written 1 (first ∷ with_body body)) ≡ Ok
-          (record { setting = s; claim = claim; lines = lines })
+      → ((n : ℕ) (ls : List (List ℕ))
+        → form_line (written n (first ∷ ls)) ≡ Ok (form, written (n + 1) ls))
+      → ((n : ℕ) → body_lines form s (written n (body ++ the_last))
+            ≡ Ok (lines, written (n + length body) the_last))
+      → certificate_at (written 1 (first ∷ with_body body))
+          ≡ Ok (record { setting = s; claim = claim; lines = lines })
   again form first body lines form_again body_again =
-      let m = 1 + 1 + 1 + length (printing.alphabet_lines s.alphabet) + length
-          s.setting.generators in
+      let m = 1 + 1 + 1 + length (printing.alphabet_lines s.alphabet)
+          + length s.setting.generators in
       certificate_is (written 1 (first ∷ with_body body)) (written (1 + 1) (with_body body))
           (written m (claim_text s is claim ∷ (body ++ the_last)))
           (written (m + 1) (body ++ the_last)) (written (m + 1 + length body) the_last) form s claim
@@ -102,33 +102,32 @@ module _ (s : NamedSetting) (is : IsSetting s) (claim : Polynomial) (text : IsTe
   certificate_again lines few all =
       let body = printed s is lines in
       ap (λ (ls : List (List ℕ)). certificate_at (written 1 ls))
-          (lines_ended (codes "certificate 2" ∷ with_body body)
-            (second_is.printed, all_are_printed body
-              (lines_printed s is [] lines (omega arith) all)))
+          (lines_ended (codes "certificate 2" ∷ with_body body) (second_is.printed,
+              all_are_printed body (lines_printed s is [] lines (omega arith) all)))
       ∙ again 2 (codes "certificate 2") body lines second_again
           (λ n. line_lines_again s is n lines few all)
 
   pub terms_again : (α : Element) → AreRead s is [] (element_lines α)
-      → reads_certificate (terms_text s claim α) ≡ Ok
-      (record { setting = s; claim = claim; lines = element_lines α })
+      → reads_certificate (terms_text s claim α)
+      ≡ Ok (record { setting = s; claim = claim; lines = element_lines α })
   terms_again α all =
       let body = map (term_line s.alphabet.names) α in
       let terms = are_terms s is α all in
       ap (λ (ls : List (List ℕ)). certificate_at (written 1 ls))
-          (lines_ended (codes "certificate 1" ∷ with_body body)
-            (first_is.printed, all_are_printed body (terms_printed s is α terms)))
+          (lines_ended (codes "certificate 1" ∷ with_body body) (first_is.printed,
+              all_are_printed body (terms_printed s is α terms)))
       ∙ again 1 (codes "certificate 1") body (element_lines α) first_again body_counted
     where
       body_counted : (n : ℕ) → body_lines 1 s
-          (written n (map (term_line s.alphabet.names) α ++ the_last)) ≡ Ok
-          (element_lines α, written (n + length (map (term_line s.alphabet.names) α)) the_last)
+          (written n (map (term_line s.alphabet.names) α ++ the_last)) ≡ Ok (element_lines α,
+            written (n + length (map (term_line s.alphabet.names) α)) the_last)
       body_counted n =
           terms_line_again s is n α (are_terms s is α all)
           ∙ ap (λ (m : ℕ). Ok (element_lines α, written (n + m) the_last))
           (sym (length-map α (term_line s.alphabet.names)))
 
-lines_are : (c : Certificate) (h : IsTextCertificate c) → AreRead c.setting h.certificate.setting []
-    c.lines
+lines_are : (c : Certificate) (h : IsTextCertificate c)
+    → AreRead c.setting h.certificate.setting [] c.lines
 lines_are c h =
     are_read c.setting h.certificate.setting [] c.lines h.certificate.lines
     (recursion_from_All (λ line. All (HasTextWords c.setting) line) c.lines h.words)

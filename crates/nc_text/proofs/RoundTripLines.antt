@@ -89,8 +89,8 @@ module _ (s : NamedSetting) (is : IsSetting s) where
           reaches (front ++ parts) (written (n + length parts) ls)
   parts_again n reaches front [] ls few all =
       let e : n ≡ n + 0 =
-      omega arith in ap₂ (λ (q : List Part) (m : ℕ). part_lines s reaches q (written m ls))
-      (sym (append-nil front)) e
+          omega arith in ap₂ (λ (q : List Part) (m : ℕ). part_lines s reaches q (written m ls))
+          (sym (append-nil front)) e
   parts_again n reaches front (part ∷ parts) ls few all =
       let rest = map (part_line names) parts ++ ls in
       let read =
@@ -112,8 +112,8 @@ module _ (s : NamedSetting) (is : IsSetting s) where
   printed lines = flat_map (printing.line_lines names) lines
 
   regrouped : (line : List Part) (lines : List certificates.Line)
-      → printed (line ∷ lines) ++ the_last ≡ codes
-      "line" ∷ (map (part_line names) line ++ (printed lines ++ the_last))
+      → printed (line ∷ lines) ++ the_last ≡ codes "line"
+      ∷ (map (part_line names) line ++ (printed lines ++ the_last))
   regrouped line lines =
       ap (λ (l : List (List ℕ)). codes "line" ∷ l)
       (append_assoc (map (part_line names) line) (printed lines) the_last)
@@ -127,8 +127,8 @@ module _ (s : NamedSetting) (is : IsSetting s) where
   lines_again : (n : ℕ) (reaches : List ℕ) (parts : List Part) (lines : List certificates.Line)
       → length reaches + 1 + length lines ≤ 4000000000
       → AreRead (reaches ++ line_reach s.setting reaches parts ∷ []) lines
-      → part_lines s reaches parts (written n (printed lines ++ the_last)) ≡ Ok
-          (parts ∷ lines, written (n + length (printed lines)) the_last)
+      → part_lines s reaches parts (written n (printed lines ++ the_last)) ≡ Ok (parts ∷ lines,
+            written (n + length (printed lines)) the_last)
   lines_again n reaches parts [] few all =
       let e : n ≡ n + 0 = omega arith in
       other_next s reaches parts (written n the_last)
@@ -152,8 +152,8 @@ module _ (s : NamedSetting) (is : IsSetting s) where
           (ap (λ (m : ℕ). Ok (parts ∷ line ∷ lines, written m the_last)) (counted n line lines))
 
   pub line_lines_again : (n : ℕ) (lines : List certificates.Line) → length lines ≤ 4000000000
-      → AreRead [] lines → line_lines s (written n (printed lines ++ the_last)) ≡ Ok
-      (lines, written (n + length (printed lines)) the_last)
+      → AreRead [] lines → line_lines s (written n (printed lines ++ the_last))
+      ≡ Ok (lines, written (n + length (printed lines)) the_last)
   unfolding line_lines
   line_lines_again n [] few all =
       let e : n ≡ n + 0 = omega arith in
@@ -186,8 +186,8 @@ module _ (s : NamedSetting) (is : IsSetting s) where
         line_is.printed,
         all_printed (map (part_line names) line) (printed lines)
             (parts_printed reaches line (omega arith) all.0)
-            (lines_printed further lines (omega
-                    (arith, length-append reaches (line_reach s.setting reaches line ∷ []))) all.1),
+            (lines_printed further lines (omega (arith,
+                      length-append reaches (line_reach s.setting reaches line ∷ []))) all.1),
       )
 
   -- ---- form 1
@@ -213,8 +213,8 @@ module _ (s : NamedSetting) (is : IsSetting s) where
 
   terms_again : (n : ℕ) (α : Element) → AreTerms α
       → term_lines s.setting.prime s.alphabet (length s.setting.generators)
-          (written n (map (term_line names) α ++ the_last)) ≡ Ok
-          (map term_part α, written (n + length α) the_last)
+          (written n (map (term_line names) α ++ the_last)) ≡ Ok (map term_part α,
+            written (n + length α) the_last)
   terms_again n [] all =
       let e : n ≡ n + 0 = omega arith in
       (are_lines s.setting.prime s.alphabet (length s.setting.generators)).none 0
@@ -240,8 +240,8 @@ module _ (s : NamedSetting) (is : IsSetting s) where
   in_one_line (t ∷ α) = refl
 
   pub terms_line_again : (n : ℕ) (α : Element) → AreTerms α
-      → terms_line s (written n (map (term_line names) α ++ the_last)) ≡ Ok
-      (element_lines α, written (n + length α) the_last)
+      → terms_line s (written n (map (term_line names) α ++ the_last)) ≡ Ok (element_lines α,
+        written (n + length α) the_last)
   unfolding terms_line
   terms_line_again n α all =
       rw (terms_again n α all) (ap (λ (l : List certificates.Line). Ok

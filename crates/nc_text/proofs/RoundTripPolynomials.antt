@@ -101,8 +101,8 @@ exponent_before names (x ∷ w) rest h = refl
 
 one_factor : (a : Alphabet) (v : Word) (x : Letter) (w : Word) (rest : List Token) → AreNames a
     → IsLetterIn a x → length v + 1 ≤ 255 → Ends rest
-    → factor_at a v (Name (name_of a.names x) ∷ word_rest a.names w rest) ≡ Ok
-        (v ++ x ∷ [], word_rest a.names w rest)
+    → factor_at a v (Name (name_of a.names x) ∷ word_rest a.names w rest) ≡ Ok (v ++ x ∷ [],
+          word_rest a.names w rest)
 unfolding factor_at name_at
 one_factor a v x w rest ns below short h =
     let few : ltb 255 (length v + 1) ≡ false = le-ltb _ _ short in
@@ -112,8 +112,8 @@ one_factor a v x w rest ns below short h =
 factors_again : (n : ℕ) (a : Alphabet) (v : Word) (x : Letter) (w : Word) (rest : List Token)
     → length w < n → AreNames a → IsLetterIn a x → AreLetters a w
     → length v + 1 + length w ≤ 255 → Ends rest
-        → factors_at n a v (Name (name_of a.names x) ∷ word_rest a.names w rest) ≡ Ok
-        (v ++ x ∷ w, rest)
+        → factors_at n a v (Name (name_of a.names x) ∷ word_rest a.names w rest) ≡ Ok (v ++ x ∷ w,
+          rest)
 unfolding factors_at
 factors_again zero a v x w rest enough ns below all short h = absurd (omega arith)
 factors_again (suc n) a v x [] rest enough ns below all short h =
@@ -150,12 +150,12 @@ term_again p a c (x ∷ w) rest ns some small short all h =
     by_one : (b : Bool) → eqb c 1 ≡ b
         → word_at a (Name (name_of a.names x) ∷ word_rest a.names w rest) ≡ Ok (x ∷ w, rest)
         → term_at p a false (cond b (Name (name_of a.names x) ∷ word_rest a.names w rest)
-              (Literal c ∷ Times ∷ Name (name_of a.names x) ∷ word_rest a.names w rest)) ≡ Ok
-            (record { coefficient = c; key = x ∷ w }, rest)
+              (Literal c ∷ Times ∷ Name (name_of a.names x) ∷ word_rest a.names w rest))
+            ≡ Ok (record { coefficient = c; key = x ∷ w }, rest)
     by_one true e word =
         let one : c ≡ 1 =
-        eqb-true c 1 e in let k : 1 % p ≡ c =
-        (let low : 1 < p = omega arith in mod-eq_of_lt low ∙ sym one) in
+            eqb-true c 1 e in let k : 1 % p ≡ c =
+            (let low : 1 < p = omega arith in mod-eq_of_lt low ∙ sym one) in
         ap (λ (r : Result (Word × List Token) Kind). r >>= λ word. Ok
               (record { coefficient = 1 % p; key = word.0 }, word.1)) word
             ∙ ap (λ (n : ℕ). Ok (record { coefficient = n; key = x ∷ w }, rest)) k
@@ -167,8 +167,8 @@ term_again p a c (x ∷ w) rest ns some small short all h =
 
 terms_again : (n p : ℕ) (a : Alphabet) (t : Term Word) (f : Polynomial) → length f < n → AreNames a
     → IsPrinted p a t → ArePrinted p a f
-    → terms_at n p a false (term_tokens a.names t.coefficient t.key (terms_rest a.names f)) ≡ Ok
-        (t ∷ f)
+    → terms_at n p a false (term_tokens a.names t.coefficient t.key (terms_rest a.names f))
+        ≡ Ok (t ∷ f)
 unfolding terms_at
 terms_again zero p a t f enough ns first all = absurd (omega arith)
 terms_again (suc n) p a t [] enough ns first all =
@@ -201,8 +201,8 @@ longer : (names : List (List ℕ)) (c : ℕ) (w : Word) (rest : List Token)
 longer names c [] rest = omega arith
 longer names c (x ∷ w) rest = by_one (eqb c 1)
   where
-    by_one : (b : Bool) → length rest < length
-        (cond b (Name (name_of names x) ∷ word_rest names w rest)
+    by_one : (b : Bool) → length rest
+        < length (cond b (Name (name_of names x) ∷ word_rest names w rest)
           (Literal c ∷ Times ∷ Name (name_of names x) ∷ word_rest names w rest))
     by_one true = omega (arith, length_rest names w rest)
     by_one false = omega (arith, length_rest names w rest)
@@ -228,8 +228,8 @@ tail_tokens a [] bytes ns all h = refl
 tail_tokens a (x ∷ w) bytes ns all h =
     let rest = tail_text a.names w ++ bytes in
     let regrouped : tail_text a.names (x ∷ w) ++ bytes ≡ 42 ∷ (name_of a.names x ++ rest) =
-        ap (λ (l : List ℕ). 42 ∷ l) (append_assoc (name_of a.names x) (tail_text a.names w)
-          bytes) in
+        ap (λ (l : List ℕ). 42 ∷ l) (append_assoc (name_of a.names x) (tail_text a.names w) bytes)
+        in
     ap tokens regrouped ∙ times_token (name_of a.names x ++ rest)
         ∙ ap (λ (ts : List Token). Times ∷ ts)
         (name_token (name_of a.names x) rest (ns.each x all.0) (tail_breaks a.names w bytes h))
@@ -255,13 +255,13 @@ text_tokens a c (x ∷ w) bytes small ns all h = by_one (eqb c 1) (word_tokens a
   where
     by_one : (b : Bool) → tokens (word_text a.names (x ∷ w) ++ bytes) ≡ Name (name_of a.names x)
         ∷ word_rest a.names w (tokens bytes)
-        → tokens ((cond b [] (decimal c ++ 42 ∷ []) ++ word_text a.names (x ∷ w)) ++ bytes) ≡ cond b
-            (Name (name_of a.names x) ∷ word_rest a.names w (tokens bytes))
+        → tokens ((cond b [] (decimal c ++ 42 ∷ []) ++ word_text a.names (x ∷ w)) ++ bytes)
+            ≡ cond b (Name (name_of a.names x) ∷ word_rest a.names w (tokens bytes))
             (Literal c ∷ Times ∷ Name (name_of a.names x) ∷ word_rest a.names w (tokens bytes))
     by_one true word = word
     by_one false word =
-        let regrouped : ((decimal c ++ 42 ∷ []) ++ word_text a.names (x ∷ w)) ++ bytes ≡ decimal
-            c ++ (42 ∷ (word_text a.names (x ∷ w) ++ bytes)) =
+        let regrouped : ((decimal c ++ 42 ∷ []) ++ word_text a.names (x ∷ w)) ++ bytes ≡ decimal c
+            ++ (42 ∷ (word_text a.names (x ∷ w) ++ bytes)) =
             append_assoc (decimal c ++ 42 ∷ []) (word_text a.names (x ∷ w)) bytes
             ∙ append_assoc (decimal c) (42 ∷ []) (word_text a.names (x ∷ w) ++ bytes) in
         ap tokens regrouped ∙ literal_token (decimal c) (42 ∷ (word_text a.names (x ∷ w) ++ bytes))
@@ -280,9 +280,10 @@ terms_tokens : (p : ℕ) (a : Alphabet) (f : Polynomial) → p < 65536 → AreNa
     → tokens (terms_text a.names f) ≡ terms_rest a.names f
 terms_tokens p a [] small ns all = nothing
 terms_tokens p a (t ∷ f) small ns all =
-    plus_token (term_text a.names t ++ terms_text a.names f) ∙ ap (λ (ts : List Token). Plus ∷ ts)
-        (text_tokens a t.coefficient t.key (terms_text a.names f)
-          (let k = all.0.small in omega arith) ns all.0.letters (terms_break a.names f)
+    plus_token (term_text a.names t ++ terms_text a.names f)
+        ∙ ap (λ (ts : List Token). Plus ∷ ts)
+        (text_tokens a t.coefficient t.key (terms_text a.names f) (let k = all.0.small in
+            omega arith) ns all.0.letters (terms_break a.names f)
     ∙ ap (term_tokens a.names t.coefficient t.key) (terms_tokens p a f small ns all.1))
 
 sum_again : (p : ℕ) (a : Alphabet) (t : Term Word) (f : Polynomial) → p < 65536 → AreNames a
@@ -291,8 +292,8 @@ sum_again p a t f small ns all =
     let rest = terms_rest a.names f in
     let all_tokens = term_tokens a.names t.coefficient t.key rest in
     let bytes : tokens (poly_text a.names (t ∷ f)) ≡ all_tokens =
-        text_tokens a t.coefficient t.key (terms_text a.names f)
-        (let k = all.0.small in omega arith) ns all.0.letters (terms_break a.names f)
+        text_tokens a t.coefficient t.key (terms_text a.names f) (let k = all.0.small in
+          omega arith) ns all.0.letters (terms_break a.names f)
     ∙ ap (term_tokens a.names t.coefficient t.key) (terms_tokens p a f small ns all.1) in
     ap (sum_at p a) bytes ∙ ap (λ (s : Bool × List Token). terms_at (length s.1) p a s.0 s.1)
         (no_sign a.names t.coefficient t.key rest)

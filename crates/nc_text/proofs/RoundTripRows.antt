@@ -47,9 +47,9 @@ pub field_again : (p : ℕ) → p < 65536 → is_listed_prime p ≡ true
 unfolding field_at literal_at end_at
 field_again p small listed =
     let text : tokens (decimal p) ≡ Literal p ∷ [] =
-        ap tokens (sym (append-nil (decimal p))) ∙ literal_token (decimal p) [] p
-        (decimal_is p (omega (arith, small))) tt ∙ ap (λ (ts : List Token). Literal p ∷ ts)
-        nothing in
+        ap tokens (sym (append-nil (decimal p)))
+        ∙ literal_token (decimal p) [] p (decimal_is p (omega (arith, small))) tt
+        ∙ ap (λ (ts : List Token). Literal p ∷ ts) nothing in
     ap field_at text ∙ rw (listed) refl
 
 -- ---- letters
@@ -104,14 +104,14 @@ names_again front (x ∷ names) named distinct new few some =
         (still_new front x names distinct.0 new.1) (omega (arith, length-append front (x ∷ [])))
         (omega (arith, length-append front (x ∷ []))) in
     ap (λ (r : Result (List ℕ) Kind). r >>= λ further. letters_at (front ++ further ∷ [])
-          (map Name names)) next ∙ again ∙ ap (λ (l : List (List ℕ)). Ok l)
-        (append_assoc front (x ∷ []) names)
+          (map Name names)) next ∙ again
+        ∙ ap (λ (l : List (List ℕ)). Ok l) (append_assoc front (x ∷ []) names)
 
 pub letters_again : (names : List (List ℕ)) → AreEachNames names → IsDistinct names
     → 0 < length names → length names ≤ 64 → letters_at [] (tokens (names_text names)) ≡ Ok names
 letters_again names named distinct some few =
-    ap (letters_at []) (names_tokens names named) ∙ names_again [] names named distinct
-    (nothing_in_front names) (omega arith) (omega arith)
+    ap (letters_at []) (names_tokens names named)
+    ∙ names_again [] names named distinct (nothing_in_front names) (omega arith) (omega arith)
 
 -- ---- weights
 
@@ -130,9 +130,9 @@ weights_tokens : (weights : List ℕ) → AreWeights weights
     → tokens (weights_text weights) ≡ map Literal weights
 weights_tokens [] are = nothing
 weights_tokens (m ∷ weights) are =
-    space_token (decimal m ++ weights_text weights) ∙ literal_token (decimal m)
-        (weights_text weights) m (decimal_is m (let k = are.0.1 in omega arith))
-        (weights_break weights)
+    space_token (decimal m ++ weights_text weights)
+        ∙ literal_token (decimal m) (weights_text weights) m
+        (decimal_is m (let k = are.0.1 in omega arith)) (weights_break weights)
     ∙ ap (λ (ts : List Token). Literal m ∷ ts) (weights_tokens weights are.1)
 
 counted_again : (most n : ℕ) → 1 ≤ n → n ≤ most → counted most n ≡ Ok n
@@ -318,8 +318,8 @@ term_row_again s t small ns few h =
     literal_token (decimal t.coefficient) (32 ∷ sig_text s.alphabet.names t.key) t.coefficient
         (decimal_is t.coefficient (let k = h.rule.residue in omega arith)) (refl, refl)
     ∙ ap (λ (ts : List Token). Literal t.coefficient ∷ ts)
-        (space_token (sig_text s.alphabet.names t.key) ∙ mono_text s.alphabet
-          (length s.setting.generators) t.key ns few σ) in
+        (space_token (sig_text s.alphabet.names t.key)
+          ∙ mono_text s.alphabet (length s.setting.generators) t.key ns few σ) in
     ap (term_row_at s.setting.prime s.alphabet (length s.setting.generators)) text
         ∙ rw (mono_again s.alphabet (length s.setting.generators) t.key ns σ,
           mod-eq_of_lt h.rule.residue) refl
@@ -351,9 +351,8 @@ part_text_is s reaches part small ns few h =
         (space_token (word_text names part.left ++ factor)
     ∙ side_text s.alphabet part.left factor ns (are_letters s.alphabet part.left h.words.left)
         (factor_breaks part.of right)
-    ∙ ap (side_tokens names part.left)
-        (factor_tokens_are part.of right few ∙ ap (factor_tokens part.of)
-          (last_side_text s.alphabet part.right ns
+    ∙ ap (side_tokens names part.left) (factor_tokens_are part.of right few
+          ∙ ap (factor_tokens part.of) (last_side_text s.alphabet part.right ns
             (are_letters s.alphabet part.right h.words.right))))
 
 pub part_again : (s : NamedSetting) (reaches : List ℕ) (part : Part) → s.setting.prime < 65536

@@ -95,8 +95,8 @@ module _ (s : NamedSetting) (is : IsSetting s) where
       (record { name = refl; begun = λ rest. refl })
       (poly_plain p a f small names_are (text_is_printed p a f text))
 
-  pub claim_is : (f : Polynomial) → IsText f → IsLineOf (codes "claim") (tokens (poly_text names f))
-      (claim_text f)
+  pub claim_is : (f : Polynomial) → IsText f
+      → IsLineOf (codes "claim") (tokens (poly_text names f)) (claim_text f)
   claim_is f text =
       spaced_line (codes "claim") (poly_text names f) (record { name = refl; begun = λ rest. refl })
       (poly_plain p a f small names_are (text_is_printed p a f text))
@@ -118,8 +118,8 @@ module _ (s : NamedSetting) (is : IsSetting s) where
         letters_again names each_name is.alphabet.apart is.alphabet.some is.alphabet.few) refl
 
   weights_again_line : (n : ℕ) (ls : List (List ℕ))
-      → weights_line (length names) (written n (printing.weights_line a.weights ∷ ls)) ≡ Ok
-      (a.weights, written (n + 1) ls)
+      → weights_line (length names) (written n (printing.weights_line a.weights ∷ ls))
+      ≡ Ok (a.weights, written (n + 1) ls)
   unfolding weights_line
   weights_again_line n ls =
       ap (weights_in (length names) (written n (printing.weights_line a.weights ∷ ls)))
@@ -128,8 +128,8 @@ module _ (s : NamedSetting) (is : IsSetting s) where
       ∙ rw (← is.alphabet.each, weights_again a.weights each_weight) refl
 
   ones_again : (n : ℕ) (ls : List (List ℕ)) → a_line (codes "weights") (written n ls) ≡ None
-      → list_all (λ m. eqb m 1) a.weights ≡ true → weights_line (length names) (written n ls) ≡ Ok
-      (a.weights, written n ls)
+      → list_all (λ m. eqb m 1) a.weights ≡ true
+      → weights_line (length names) (written n ls) ≡ Ok (a.weights, written n ls)
   unfolding weights_line
   ones_again n ls none all =
       ap (weights_in (length names) (written n ls)) none
@@ -139,14 +139,14 @@ module _ (s : NamedSetting) (is : IsSetting s) where
   -- the lines `letters` and `weights`, which no line `weights` follows
   alphabet_again : (n : ℕ) (ls : List (List ℕ))
       → a_line (codes "weights") (written (n + 1) ls) ≡ None
-      → alphabet_lines (written n (printing.alphabet_lines a ++ ls)) ≡ Ok
-      (a, written (n + length (printing.alphabet_lines a)) ls)
+      → alphabet_lines (written n (printing.alphabet_lines a ++ ls))
+      ≡ Ok (a, written (n + length (printing.alphabet_lines a)) ls)
   alphabet_again n ls none = by_test (list_all (λ m. eqb m 1) a.weights) refl
     where
       by_test : (b : Bool) → list_all (λ m. eqb m 1) a.weights ≡ b
           → alphabet_lines (written n ((names_line names ∷ cond b []
-                    (printing.weights_line a.weights ∷ [])) ++ ls)) ≡ Ok
-              (a, written (n + length (names_line names ∷ cond b []
+                    (printing.weights_line a.weights ∷ [])) ++ ls))
+              ≡ Ok (a, written (n + length (names_line names ∷ cond b []
                     (printing.weights_line a.weights ∷ []))) ls)
       by_test true e =
           alphabet_is names a.weights (written n (names_line names ∷ ls)) (written (n + 1) ls)
@@ -162,12 +162,12 @@ module _ (s : NamedSetting) (is : IsSetting s) where
 
   generators_again : (room n : ℕ) (fs : List Polynomial) (ls : List (List ℕ)) → AreGenerators fs
       → length fs ≤ room → ((m : ℕ) → a_line (codes "generator") (written m ls) ≡ None)
-      → generator_lines p a room (written n (map (generator_line names) fs ++ ls)) ≡ Ok
-          (fs, written (n + length fs) ls)
+      → generator_lines p a room (written n (map (generator_line names) fs ++ ls))
+          ≡ Ok (fs, written (n + length fs) ls)
   generators_again room n [] ls all few stops =
       let e : n ≡ n + 0 =
-      omega arith in (are_lines p a).none room (written n ls) (stops n)
-      ∙ ap (λ (m : ℕ). Ok ([], written m ls)) e
+          omega arith in (are_lines p a).none room (written n ls) (stops n)
+          ∙ ap (λ (m : ℕ). Ok ([], written m ls)) e
   generators_again room n (f ∷ fs) ls all few stops =
       let rest = map (generator_line names) fs ++ ls in
       let next =
@@ -203,9 +203,9 @@ module _ (s : NamedSetting) (is : IsSetting s) where
 
   -- the lines of the setting, before a line `claim`
   pub setting_again : (n : ℕ) (claim : Polynomial) (ls : List (List ℕ)) → IsText claim
-      → setting_lines (written n (printing.setting_lines s ++ claim_text claim ∷ ls)) ≡ Ok
-          (s, written (n + 1 + length (printing.alphabet_lines a) + length s.setting.generators)
-            (claim_text claim ∷ ls))
+      → setting_lines (written n (printing.setting_lines s ++ claim_text claim ∷ ls))
+          ≡ Ok (s, written (n + 1 + length (printing.alphabet_lines a)
+              + length s.setting.generators) (claim_text claim ∷ ls))
   setting_again n claim ls text =
       let behind = claim_text claim ∷ ls in
       let generators = map (generator_line names) s.setting.generators in

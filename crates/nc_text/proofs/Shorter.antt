@@ -64,7 +64,7 @@ pub factor_shorter : (a : Alphabet) (w : Word) (ts : List Token) (x : Word × Li
 factor_shorter a w ts x e =
     of_ok (λ x. behind x < length ts) (factor_at a w ts) x e (factor_takes a w ts)
 
-pub term_shorter : (p : ℕ) (a : Alphabet) (negative : Bool) (ts : List Token)
-    (x : Term Word × List Token) → term_at p a negative ts ≡ Ok x → length x.1 < length ts
+pub term_shorter : (p : ℕ) (a : Alphabet) (negative : Bool) (ts : List Token) (x : Term Word
+      × List Token) → term_at p a negative ts ≡ Ok x → length x.1 < length ts
 term_shorter p a negative ts x e =
     of_ok (λ x. behind x < length ts) (term_at p a negative ts) x e (term_takes p a negative ts)

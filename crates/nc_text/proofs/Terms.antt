@@ -46,8 +46,8 @@ module _ (w one two three four : Written) (form : ℕ) (s : NamedSetting) (claim
   pub certificate_is : form_line w ≡ Ok (form, one) → setting_lines one ≡ Ok (s, two)
       → claim_line s.setting.prime s.alphabet two ≡ Ok (claim, three)
       → body_lines form s three ≡ Ok (lines, four)
-      → end_line four ≡ Ok tt → certificate_at w ≡ Ok
-          (record { setting = s; claim = claim; lines = lines })
+      → end_line four ≡ Ok tt → certificate_at w
+          ≡ Ok (record { setting = s; claim = claim; lines = lines })
   unfolding certificate_at
   certificate_is a b c d e = rw a (rw b (rw c (rw d (rw e refl))))
 

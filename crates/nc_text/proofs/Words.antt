@@ -40,8 +40,8 @@ unfolding factors_at factor_at name_at
 first_fails f a [] h = h
 first_fails f a (t ∷ ts) h = bind_fails f (factor_at a [] (t ∷ ts)) _ h
 
-pub next_factor : (a : Alphabet) (w : Word) (ts rest : List Token) (whole : Read)
-    (x : Word × List Token) → IsTakenToken Times ts rest true → factor_at a w rest ≡ Ok x
+pub next_factor : (a : Alphabet) (w : Word) (ts rest : List Token) (whole : Read) (x : Word
+      × List Token) → IsTakenToken Times ts rest true → factor_at a w rest ≡ Ok x
     → IsOnTheWay a w ts whole → IsOnTheWay a x.0 x.1 whole
 unfolding factors_at
 next_factor a w ts rest whole x taken e h = by_budget h.budget h.enough h.same
@@ -77,5 +77,5 @@ not_times further w ts h = refl
 pub last_factor : (a : Alphabet) (w : Word) (ts rest : List Token) (whole : Read)
     → IsTakenToken Times ts rest false → IsOnTheWay a w ts whole → whole ≡ Ok (w, rest)
 last_factor a w ts rest whole taken h =
-    sym h.same ∙ not_times (factors_at h.budget a) w ts taken.1 ∙ ap (λ (l : List Token). Ok (w, l))
-    (sym taken.0)
+    sym h.same ∙ not_times (factors_at h.budget a) w ts taken.1
+    ∙ ap (λ (l : List Token). Ok (w, l)) (sym taken.0)

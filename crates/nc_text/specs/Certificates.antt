@@ -53,8 +53,8 @@ one_line [] = []
 one_line (part ∷ parts) = (part ∷ parts) ∷ []
 
 -- the terms of form 1 as one line
-unfoldable pub terms_line : NamedSetting → Written → Result (List certificates.Line × Written)
-    TextFault
+unfoldable pub terms_line : NamedSetting → Written
+    → Result (List certificates.Line × Written) TextFault
 terms_line s w = do
   parts ← term_lines s.setting.prime s.alphabet (length s.setting.generators) w
   Ok (one_line parts.0, parts.1)
@@ -83,15 +83,15 @@ line_lines_in s w (Some line) =
     at_line line.number (end_at line.tokens) >>= λ _. part_lines s [] [] line.after
 
 -- the lines `line` with the lines `part` behind each
-unfoldable pub line_lines : NamedSetting → Written → Result (List certificates.Line × Written)
-    TextFault
+unfoldable pub line_lines : NamedSetting → Written
+    → Result (List certificates.Line × Written) TextFault
 line_lines s w = line_lines_in s w (a_line (codes "line") w)
 
 -- ---- the whole
 
 -- the lines of a certificate in its form
-abbrev pub body_lines : ℕ → NamedSetting → Written → Result (List certificates.Line × Written)
-    TextFault
+abbrev pub body_lines : ℕ → NamedSetting → Written
+    → Result (List certificates.Line × Written) TextFault
 body_lines form s w = if form == 1 then terms_line s w else line_lines s w
 
 -- the line `end`, with nothing behind its keyword, and no line after it

@@ -37,14 +37,15 @@ abbrev pub ReadsTerms : Type 0
 ReadsTerms =
     (s : NamedSetting) (claim : Polynomial) (terms : Element)
     → IsTextCertificate (record { setting = s; claim = claim; lines = element_lines terms })
-    → reads_certificate (terms_text s claim terms) ≡ Ok
-        (record { setting = s; claim = claim; lines = element_lines terms })
+    → reads_certificate (terms_text s claim terms)
+        ≡ Ok (record { setting = s; claim = claim; lines = element_lines terms })
 
 -- So is what is printed of a polynomial, and of a monomial.
 abbrev pub ReadsPolynomials : Type 0
 ReadsPolynomials =
-    (s : NamedSetting) (f : Polynomial) → IsSetting s → IsTextPolynomial s.alphabet s.setting.prime
-    f → poly_at s.setting.prime s.alphabet (tokens (poly_text s.alphabet.names f)) ≡ Ok f
+    (s : NamedSetting) (f : Polynomial) → IsSetting s
+    → IsTextPolynomial s.alphabet s.setting.prime f
+    → poly_at s.setting.prime s.alphabet (tokens (poly_text s.alphabet.names f)) ≡ Ok f
 
 -- What is printed of a monomial is read as that monomial.
 abbrev pub ReadsMonomials : Type 0
@@ -73,5 +74,5 @@ ReadsProblems =
 -- A word read by patterns on its tokens is one read factor after factor.
 abbrev pub SameWords : Type 0
 SameWords =
-    (a : Alphabet) (w : Word) (ts : List Token) → word_by_patterns a w ts ≡ factors_at (length ts) a
-    w ts
+    (a : Alphabet) (w : Word) (ts : List Token)
+    → word_by_patterns a w ts ≡ factors_at (length ts) a w ts

@@ -152,8 +152,8 @@ part_at s reaches ts = do
   of ← multiplied_at (length s.setting.generators) (length reaches) left.1
   right ← side_at s.alphabet of.1
   _ ← end_at right.1
-  within_reach s.setting reaches
-      (record { coefficient = c.0 % s.setting.prime; left = left.0; of = of.0; right = right.0 })
+  within_reach s.setting reaches (record { coefficient = c.0 % s.setting.prime;
+          left = left.0; of = of.0; right = right.0 })
 
 -- behind `degree`: a literal of at most 1,000
 unfoldable pub degree_at : List Token → Result Bound Kind

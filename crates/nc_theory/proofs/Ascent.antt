@@ -26,8 +26,8 @@ module _ (P : Problem) (field : IsField P.setting.prime) {n : ℕ} {state : Stat
   from_reached ρ n = elim (reached_or_left P (Some τ) ρ) [ inl r ↦ absurd (n r) | inr l ↦ l ]
 
   ascends : {f kept : Polynomial} {t : Term Word} {start : Start} {steps : List Step}
-      → Starts P.setting state.entries τ f start → ReductionAt P.setting state.entries τ f
-      (t ∷ kept) steps → (ρ : Monomial)
+      → Starts P.setting state.entries τ f start
+      → ReductionAt P.setting state.entries τ f (t ∷ kept) steps → (ρ : Monomial)
       → NewAmbiguity P.setting state.entries
       (record { signature = τ; polynomial = t ∷ kept;
           trace = record { start = start; steps = steps } }) ρ → IsLess P.setting τ ρ

@@ -24,12 +24,12 @@ pub record Carries (s : Setting) (τ : Monomial) (f : Polynomial) (kept : Word �
   pub lies : IsIn s α (HasGenerator s)
   pub leads : IsSignatureOf s α τ
   pub one : coefficient_by same_monomial α τ % s.prime ≡ 1
-  pub value : (y : Word) → coefficient (evaluation s α) y % s.prime
-      ≡ (coefficient f y + kept y) % s.prime
+  pub value : (y : Word) → coefficient (evaluation s α) y % s.prime ≡ (coefficient f y + kept y)
+      % s.prime
 
-module _ (s : Setting) (field : IsField s.prime) (entries : List Entry)
-    (labels : (e : Entry) → Contains entries e → (α : Element)
-      × IsLabelled s e.signature e.polynomial α) (τ : Monomial) where
+module _ (s : Setting) (field : IsField s.prime) (entries : List Entry) (labels : (e : Entry)
+      → Contains entries e → (α : Element) × IsLabelled s e.signature e.polynomial α) (τ : Monomial)
+    where
   positive : 0 < s.prime
   positive = omega (arith, field.above_one)
 
@@ -68,8 +68,9 @@ module _ (s : Setting) (field : IsField s.prime) (entries : List Entry)
             (coefficient (multiple_at s entries w v) y)
             ((evaluation_times s v.left β v.entry.polynomial v.right positive label.evaluates).at
               y)) ∙ ap (λ n. n % s.prime) (swap_last (coefficient f y) (kept y)
-            ((s.prime - 1) * c * coefficient (multiple_at s entries w v) y) ∙ ap (λ n. n + kept y)
-            (sym (coefficient_polynomial_minus s f c (multiple_at s entries w v) y))));
+            ((s.prime - 1) * c * coefficient (multiple_at s entries w v) y)
+            ∙ ap (λ n. n + kept y) (sym (coefficient_polynomial_minus s f c
+                (multiple_at s entries w v) y))));
   }
     where
       δ_leads : IsSignatureOf s (element_times v.left β v.right) (signature_at s entries w v)
@@ -88,15 +89,14 @@ module _ (s : Setting) (field : IsField s.prime) (entries : List Entry)
           (n y ∙ sym (zero_number s.prime)) refl })
   carry (Reduction.subtract {f = f} w d v chosen c small q rest) old α carries =
       let t : (β : Element) × IsLabelled s v.entry.signature v.entry.polynomial β =
-      labels v.entry v.listed in carry rest old
-      (minus s.prime α c (element_times v.left t.0 v.right))
-      (subtracted f old α w v c chosen.allowed carries t.0 t.1)
+          labels v.entry v.listed in carry rest old
+          (minus s.prime α c (element_times v.left t.0 v.right))
+          (subtracted f old α w v c chosen.allowed carries t.0 t.1)
   carry (Reduction.keep {f = f} {kept = kept} w d not_any c e rest) old α carries =
       join (carry rest (λ y. coefficient (record { coefficient = c; key = w } ∷ []) y + old y) α
         (record { lies = carries.lies;
             leads = carries.leads; one = carries.one;
-            value = λ y. carries.value y ∙ (sym
-              (back_and_forth s.prime (coefficient f y) (old y)
+            value = λ y. carries.value y ∙ (sym (back_and_forth s.prime (coefficient f y) (old y)
               (coefficient (record { coefficient = c; key = w } ∷ []) y) positive)
               ∙ ap (λ n. (n + (coefficient (record { coefficient = c; key = w } ∷ []) y + old y))
               % s.prime) (sym (coefficient_polynomial_minus s f 1

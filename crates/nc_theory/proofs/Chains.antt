@@ -100,8 +100,8 @@ module _ (s : Setting) (field : IsField s.prime) (entries : List Entry) (τ : Mo
   -- f is h plus c times the multiple
   abbrev IsSum : Polynomial → Polynomial → Type 0
   IsSum f h =
-      (y : Word) → coefficient f y % s.prime
-      ≡ (coefficient h y + c * coefficient multiple y) % s.prime
+      (y : Word) → coefficient f y % s.prime ≡ (coefficient h y + c * coefficient multiple y)
+      % s.prime
 
   counts : ¬ IsZero s.prime (c * coefficient multiple w)
   counts z = multiple_leads.nonzero (domain s.prime field c (coefficient multiple w) some' z)

@@ -18,9 +18,9 @@ use Rattle.std.proofs.Common.{List, None, Some, [], ap, ap₂, arith, get_or, le
 use Rattle.std.proofs.Math.Nat.{mod-eq_of_lt}
 use Rattle.std.specs.List.{All}
 
-module _ (s : Setting) (entries : List Entry) (usable : All (IsUsable s) entries)
-    (set : Monomial → Type 0) (old : Polynomial) (t : Term Word) (others : Polynomial)
-    (parts : old ≡ t ∷ others) (normal : IsNormal s.prime old) where
+module _ (s : Setting) (entries : List Entry) (usable : All (IsUsable s) entries) (set : Monomial
+      → Type 0) (old : Polynomial) (t : Term Word) (others : Polynomial) (parts : old ≡ t ∷ others)
+    (normal : IsNormal s.prime old) where
   normal_parts : IsNormal s.prime (t ∷ others)
   normal_parts = subst (IsNormal s.prime) parts normal
 

@@ -121,8 +121,8 @@ module _ (s : Setting) (field : IsField s.prime) (state : State) (sound : IsSoun
                     (coefficient (evaluation s α) y)
                     ((s.prime - 1) * c * coefficient (evaluation s δ) y) 0 refl
                     (zero_mul_left s.prime ((s.prime - 1) * c) (coefficient (evaluation s δ) y)
-                      (vanishes y) ∙ sym (zero_number s.prime)) ∙ ap (λ n. n % s.prime)
-                    (omega arith)) }
+                      (vanishes y) ∙ sym (zero_number s.prime))
+                    ∙ ap (λ n. n % s.prime) (omega arith)) }
 
             rest : (c : ℕ) → ((σ : Monomial)
                   → IsZero s.prime (coefficient_by same_monomial
@@ -136,7 +136,7 @@ module _ (s : Setting) (field : IsField s.prime) (state : State) (sound : IsSoun
                   ∙ evaluation_zero s (minus s.prime α c δ) z y)
             rest c (inr (σ, l, d)) =
                 let ok : IsIn s (minus s.prime α c δ) (HasGenerator s) =
-                in_minus s α c δ lies (in_times s k.divides.0 r.element k.divides.1 r.lies) in
+                    in_minus s α c δ lies (in_times s k.divides.0 r.element k.divides.1 r.lies) in
                 reduces_same s state.entries σ τ (inr l)
                 (before σ l (minus s.prime α c δ) ok d (down σ τ b l (ok σ d.nonzero))).0
                 (evaluation s α) (same c)
@@ -193,8 +193,9 @@ module _ (s : Setting) (field : IsField s.prime) (state : State) (sound : IsSoun
                 × (IsZeroPolynomial s (evaluation s α) → Covered s state τ)
             go (β, label) =
                 rest (strike_top s α c δ τ positive leads δ_leads
-                  (ap (λ n. n % s.prime) (sym (mul-one c)) ∙ times_mod s.prime c 1
-                    (coefficient_by same_monomial δ τ) (mod-eq_of_lt field.above_one ∙ sym δ_one)))
+                  (ap (λ n. n % s.prime) (sym (mul-one c))
+                    ∙ times_mod s.prime c 1 (coefficient_by same_monomial δ τ)
+                    (mod-eq_of_lt field.above_one ∙ sym δ_one)))
               where
                 δ : Element
                 δ = element_times t.divisor.left β t.divisor.right
@@ -218,16 +219,16 @@ module _ (s : Setting) (field : IsField s.prime) (state : State) (sound : IsSoun
 
                 is_sum : (y : Word) → coefficient (evaluation s α) y % s.prime
                     ≡ (coefficient (evaluation s (minus s.prime α c
-                          (element_times t.divisor.left β t.divisor.right))) y + c * coefficient
-                      (multiple_at s state.entries w t.divisor) y) % s.prime
+                          (element_times t.divisor.left β t.divisor.right))) y + c
+                      * coefficient (multiple_at s state.entries w t.divisor) y) % s.prime
                 is_sum y =
                     put_back s.prime (coefficient (evaluation s α) y) c
                     (coefficient (evaluation s δ) y)
                     (coefficient (multiple_at s state.entries w t.divisor) y) positive
                     ((evaluation_times s t.divisor.left β t.divisor.entry.polynomial t.divisor.right
                         positive label.evaluates).at y)
-                    ∙ ap (λ n. (n + c * coefficient (multiple_at s state.entries w t.divisor)
-                        y) % s.prime) (sym (evaluation-minus s α c δ y))
+                    ∙ ap (λ n. (n + c * coefficient (multiple_at s state.entries w t.divisor) y)
+                      % s.prime) (sym (evaluation-minus s α c δ y))
 
                 below : (σ : Monomial) → (l : IsLess s σ τ)
                     → ReducesToZero s state.entries σ
@@ -252,7 +253,7 @@ module _ (s : Setting) (field : IsField s.prime) (state : State) (sound : IsSoun
                     × (IsZeroPolynomial s (evaluation s α) → Covered s state τ)
                 rest (inl z) =
                     let none : IsZeroPolynomial s (evaluation s (minus s.prime α c δ)) =
-                    evaluation_zero s (minus s.prime α c δ) z in
+                        evaluation_zero s (minus s.prime α c δ) z in
                     (strike s field state.entries τ w t.divisor t.signed first c leads.nonzero
                       (evaluation s α) (evaluation s (minus s.prime α c δ)) is_sum (λ y o. none y)
                       (ReducesToZero.done none), λ n. absurd
@@ -261,7 +262,7 @@ module _ (s : Setting) (field : IsField s.prime) (state : State) (sound : IsSoun
                         none))
                 rest (inr (σ, l, d)) =
                     let red : ReducesToZero s state.entries σ (evaluation s (minus s.prime α c δ)) =
-                    (before σ l (minus s.prime α c δ) ok d (down σ τ b l (ok σ d.nonzero))).0 in
+                        (before σ l (minus s.prime α c δ) ok d (down σ τ b l (ok σ d.nonzero))).0 in
                     below σ l red (chain s field state.entries τ w t.divisor t.signed first c
                       leads.nonzero σ l red (evaluation s α) is_sum)
 
@@ -292,7 +293,7 @@ module _ (s : Setting) (field : IsField s.prime) (state : State) (sound : IsSoun
                     signed = ap (λ σ. times τ.left σ τ.right) i ∙ whole })
             go (inr k) =
                 let c : Covered s state τ =
-                covered_up s state (unit_monomial τ.generator) τ.left τ.right τ whole k in
+                    covered_up s state (unit_monomial τ.generator) τ.left τ.right τ whole k in
                 (by_syzygy τ before c α lies leads b, λ z. c)
 
     pub basis_below : IsBasisBelow s state bound

@@ -34,7 +34,7 @@ use Rattle.std.proofs.Math.Nat.{mod-eq_of_lt}
 pub whole_multiple : (σ : Monomial) → times [] σ [] ≡ σ
 whole_multiple σ =
     let e : σ.right ++ [] ≡ σ.right =
-    append-nil σ.right in λ i. record { left = σ.left; generator = σ.generator; right = e i }
+        append-nil σ.right in λ i. record { left = σ.left; generator = σ.generator; right = e i }
 
 -- a multiple is the monomial itself or greater
 grows : (s : Setting) (u v : Word) (σ : Monomial) → ((u ≡ []) × (v ≡ [])) ⊎ IsLess s σ (times u σ v)
@@ -55,9 +55,9 @@ unit_divisor : (u v : Word) (σ : Monomial) (i : ℕ) → times u σ v ≡ unit_
     → σ ≡ unit_monomial i
 unit_divisor u v σ i e =
     let l : σ.left ≡ [] =
-    nil_of u σ.left (ap (λ τ. τ.left) e) in let g : σ.generator ≡ i =
-    ap (λ τ. τ.generator) e in let r : σ.right ≡ [] =
-    nil_front σ.right v (ap (λ τ. τ.right) e) in
+        nil_of u σ.left (ap (λ τ. τ.left) e) in let g : σ.generator ≡ i =
+        ap (λ τ. τ.generator) e in let r : σ.right ≡ [] =
+        nil_front σ.right v (ap (λ τ. τ.right) e) in
     (λ k. record { left = l k; generator = g k; right = r k })
 
 -- σ is at most the last signature that was handled
@@ -176,8 +176,8 @@ module _ (s : Setting) where
         (unit_monomial i) n)
 
   unit_value : (i : ℕ) (y : Word)
-      → coefficient (evaluation s (record { coefficient = 1; key = unit_monomial i } ∷ []))
-      y ≡ coefficient (generator s i) y + 0
+      → coefficient (evaluation s (record { coefficient = 1; key = unit_monomial i } ∷ [])) y
+      ≡ coefficient (generator s i) y + 0
   unit_value i y =
       omega (arith, linear_sum-append (is_at same_word y)
         (scale 1 (polynomial_times [] (generator s i) [])) [],
@@ -230,12 +230,12 @@ module _ (s : Setting) where
           lies = in_times s d.left β d.right label.lies;
           leads = subst (IsSignatureOf s (element_times d.left β d.right)) best.signed
               (element_times_leads s d.left β d.right d.entry.signature label.leads);
-          one = subst (λ ρ. coefficient_by same_monomial (element_times d.left β d.right)
-                ρ % s.prime ≡ 1) best.signed (element_times_coefficient s d.left β d.right
+          one = subst (λ ρ. coefficient_by same_monomial (element_times d.left β d.right) ρ
+                % s.prime ≡ 1) best.signed (element_times_coefficient s d.left β d.right
                 d.entry.signature ∙ label.one);
           value = λ y. (evaluation_times s d.left β d.entry.polynomial d.right
-                (omega (arith, field.above_one)) label.evaluates).at y ∙ ap (λ n. n % s.prime)
-              (omega arith);
+                (omega (arith, field.above_one)) label.evaluates).at y
+              ∙ ap (λ n. n % s.prime) (omega arith);
         },
       )
 
@@ -275,17 +275,17 @@ module _ (P : Problem) (field : IsField P.setting.prime) (state : State) (last :
   generators_step : (o : Outcome)
       → ((i : ℕ) → τ ≡ unit_monomial i
         → ((e : Entry) × Contains (state_after state τ o).entries e
-          × (e.signature ≡ unit_monomial i)) ⊎ Covered P.setting (state_after state τ o)
-        (unit_monomial i)) → (i : ℕ) → IsWithin P (unit_monomial i)
-      → IsReached P.setting (Some τ) (unit_monomial i)
+          × (e.signature ≡ unit_monomial i))
+        ⊎ Covered P.setting (state_after state τ o) (unit_monomial i)) → (i : ℕ)
+      → IsWithin P (unit_monomial i) → IsReached P.setting (Some τ) (unit_monomial i)
       → ((e : Entry) × Contains (state_after state τ o).entries e × (e.signature ≡ unit_monomial i))
       ⊎ Covered P.setting (state_after state τ o) (unit_monomial i)
   generators_step o now i within r = go (reached_or_now (unit_monomial i) (within, inl (i, refl)) r)
     where
       go : IsReached P.setting last (unit_monomial i) ⊎ (unit_monomial i ≡ τ)
           → ((e : Entry) × Contains (state_after state τ o).entries e
-            × (e.signature ≡ unit_monomial i)) ⊎ Covered P.setting (state_after state τ o)
-          (unit_monomial i)
+            × (e.signature ≡ unit_monomial i))
+          ⊎ Covered P.setting (state_after state τ o) (unit_monomial i)
       go (inl q) = generator_after P.setting state τ o i (inv.generators i within q)
       go (inr e) = now i (sym e)
 
@@ -303,8 +303,9 @@ module _ (P : Problem) (field : IsField P.setting.prime) (state : State) (last :
       go (inl q) = settled_after P.setting state τ o ρ w (inv.ambiguities ρ w amb within q)
       go (inr e) =
           subst (λ κ. Covered P.setting (state_after state τ o) κ
-            ⊎ ((v : Word) × IsWordLess v w × Multiple P.setting (state_after state τ o).entries κ
-              v)) (sym e) (now w (subst (λ κ. Ambiguity P.setting state.entries κ w) e amb))
+            ⊎ ((v : Word) × IsWordLess v w
+              × Multiple P.setting (state_after state τ o).entries κ v)) (sym e)
+          (now w (subst (λ κ. Ambiguity P.setting state.entries κ w) e amb))
 
   -- the high side of an ambiguity at τ has at least the best word, and its low side is a regular
   -- divisor
@@ -331,8 +332,8 @@ module _ (P : Problem) (field : IsField P.setting.prime) (state : State) (last :
   reached_after σ r = inr (reached_less P last σ τ r next.left)
 
   -- Covered: nothing is listed
-  step_covered : Covered P.setting state τ → Invariant P (state_after state τ Outcome.covered)
-      (Some τ)
+  step_covered : Covered P.setting state τ
+      → Invariant P (state_after state τ Outcome.covered) (Some τ)
   step_covered k = record {
     below_last = λ e c. reached_after e.signature (inv.below_last e c);
     within = inv.within;
@@ -350,8 +351,8 @@ module _ (P : Problem) (field : IsField P.setting.prime) (state : State) (last :
 
   -- where it is settled, the best multiple has a lesser word than each ambiguity
   step_settled : (j : ℕ) → ((i : ℕ) → τ ≢ unit_monomial i)
-      → (b : Word) (d : Divisor P.setting state.entries b) → IsBestMultiple P.setting state.entries
-      τ b d → ¬ RegularDivisor P.setting state.entries τ b
+      → (b : Word) (d : Divisor P.setting state.entries b)
+      → IsBestMultiple P.setting state.entries τ b d → ¬ RegularDivisor P.setting state.entries τ b
       → Invariant P (state_after state τ (Outcome.settled j)) (Some τ)
   step_settled j not_unit b d best not_regular = record {
     below_last = λ e c. reached_after e.signature (inv.below_last e c);
@@ -411,7 +412,7 @@ module _ (P : Problem) (field : IsField P.setting.prime) (state : State) (last :
       carried : (α : Element) × Carries P.setting τ [] (λ y. 0) α
       carried =
           let t : (α : Element) × Carries P.setting τ f (λ y. 0) α =
-          starts_carry P.setting field state inv.sound τ module_τ starts in
+              starts_carry P.setting field state inv.sound τ module_τ starts in
           carry P.setting field state.entries inv.sound.entries τ reduction (λ y. 0) t.0 t.1
 
       label : (h : Syzygy) → Contains state.syzygies h
@@ -419,8 +420,8 @@ module _ (P : Problem) (field : IsField P.setting.prime) (state : State) (last :
           → (α : Element) × IsLabelled P.setting h.signature [] α
       label h (inl c) = inv.sound.syzygies h c
       label h (inr e) =
-          subst (λ g. (α : Element) × IsLabelled P.setting g.signature [] α) e
-          (carried.0, labelled_from P.setting τ [] carried.0 carried.1)
+          subst (λ g. (α : Element) × IsLabelled P.setting g.signature [] α) e (carried.0,
+            labelled_from P.setting τ [] carried.0 carried.1)
 
   module _ {f kept : Polynomial} {t : Term Word} {start : Start} {steps : List Step}
       (starts : Starts P.setting state.entries τ f start)
@@ -659,7 +660,7 @@ module _ (P : Problem) (field : IsField P.setting.prime) (state : State) (last :
         carried : (α : Element) × Carries P.setting τ (t ∷ kept) (λ y. 0) α
         carried =
             let b : (α : Element) × Carries P.setting τ f (λ y. 0) α =
-            starts_carry P.setting field state inv.sound τ module_τ starts in
+                starts_carry P.setting field state inv.sound τ module_τ starts in
             carry P.setting field state.entries inv.sound.entries τ reduction (λ y. 0) b.0 b.1
 
         label : (e : Entry) → Contains state.entries e ⊎ (new_entry τ (t ∷ kept) trace ≡ e)

@@ -102,15 +102,15 @@ less_dec s σ τ = go ((monomial_laws (generator_weight s)).total σ τ)
         inr (λ l. (monomial_laws (generator_weight s)).irrefl τ
           ((monomial_laws (generator_weight s)).trans τ σ τ m l))
 
-module _ (s : Setting) (field : IsField s.prime) (state : State)
-    (nonzero : (e : Entry) → Contains state.entries e → ¬ IsZeroPolynomial s e.polynomial)
-    (τ : Monomial) where
+module _ (s : Setting) (field : IsField s.prime) (state : State) (nonzero : (e : Entry)
+      → Contains state.entries e → ¬ IsZeroPolynomial s e.polynomial) (τ : Monomial) where
   pub regular_dec : (w : Word) → Decided (RegularDivisor s state.entries τ w)
   regular_dec w =
       go (choose s field state.entries nonzero (λ σ. IsLess s σ τ) (λ σ. less_dec s σ τ) w)
     where
-      go : ((d : Divisor s state.entries w) × IsChosenDivisor s state.entries (λ σ. IsLess s σ τ) w
-            d) ⊎ ((d : Divisor s state.entries w) → ¬ IsLess s (signature_at s state.entries w d) τ)
+      go : ((d : Divisor s state.entries w)
+            × IsChosenDivisor s state.entries (λ σ. IsLess s σ τ) w d)
+          ⊎ ((d : Divisor s state.entries w) → ¬ IsLess s (signature_at s state.entries w d) τ)
           → Decided (RegularDivisor s state.entries τ w)
       go (inl (d, c)) = inl (record { divisor = d; below = c.allowed })
       go (inr n) = inr (λ r. n r.divisor r.below)
@@ -150,9 +150,10 @@ module _ (s : Setting) (field : IsField s.prime) (state : State)
               listed = (n, l, get_or_default state.entries n (get_or state.entries n nobody) nobody
                 l); left = u; right = v; spells = refl }, e, refl)
       found l (inr m) =
-          inr (λ t. m (t.1.left, t.1.right, ap (λ x. times t.1.left x.signature t.1.right)
-              (listed_same state.entries (get_or state.entries n nobody) t.1.entry
-                (n, l, get_or_default state.entries n (get_or state.entries n nobody) nobody l)
+          inr (λ t. m (t.1.left, t.1.right,
+              ap (λ x. times t.1.left x.signature t.1.right)
+              (listed_same state.entries (get_or state.entries n nobody) t.1.entry (n, l,
+                  get_or_default state.entries n (get_or state.entries n nobody) nobody l)
                 t.1.listed (sym t.3)) ∙ t.2))
 
       inside : (n < length state.entries)
@@ -225,8 +226,8 @@ module _ (s : Setting) (field : IsField s.prime) (state : State)
                   inr (b ∙ one_word w' v d' e i' j (k' ∙ sym g), omega (arith, l, g))
               rest v e j (inr (inr g)) h = absurd (omega arith)
           pick (inr (inr b)) =
-              inl (w', (d', i', omega (arith, k'), λ v e j h. rest v e j (nat_order e.listed.0 n)
-                  h))
+              inl (w', (d', i', omega (arith, k'),
+                  λ v e j h. rest v e j (nat_order e.listed.0 n) h))
             where
               over : (v : Word) (e : Divisor s state.entries v) → IsWordLess w v
                   ⊎ ((w ≡ v) × (d.listed.0 + 1 ≤ e.listed.0 + 1)) → IsWordLess w' v
@@ -275,8 +276,8 @@ around l y Good good = go (least At at_dec (suc (length y)))
 
                 back : (t : At k) → l ++ t.1 ≡ b
                 back t =
-                    append_cancel_left a (l ++ t.1) b
-                    (ap (λ z. z ++ (l ++ t.1)) (sym (front t)) ∙ (t.2 ∙ sym e))
+                    append_cancel_left a (l ++ t.1) b (ap (λ z. z ++ (l ++ t.1)) (sym (front t))
+                      ∙ (t.2 ∙ sym e))
 
                 rest : Decided ((r : Word) × (l ++ r ≡ b)) → Decided (At k)
                 rest (inr m) = inr (λ t. m (t.1, back t))
@@ -347,8 +348,8 @@ module _ (s : Setting) (state : State) (τ : Monomial) where
   second_dec : (i j : Entry) → Decided (Second i j)
   second_dec i j = go (divides_dec j.signature τ)
     where
-      apart : (m u v : Word) → times u (side2 i j m) v ≡ times
-          (u ++ (leading s.prime i.polynomial ++ m)) j.signature v
+      apart : (m u v : Word) → times u (side2 i j m) v
+          ≡ times (u ++ (leading s.prime i.polynomial ++ m)) j.signature v
       apart m u v = times-times u (leading s.prime i.polynomial ++ m) [] v j.signature
 
       -- the place of the leading word in the left part, with the word after it

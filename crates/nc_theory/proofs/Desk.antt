@@ -127,8 +127,8 @@ insert_counts weight n (m ∷ ns) =
     go true e = omega arith
     go false e = omega (arith, e)
 
-work_counts : (i : ℕ) (w : Work) (window : List Node) → length (with_work i w window) ≡ length
-    window
+work_counts : (i : ℕ) (w : Work) (window : List Node)
+    → length (with_work i w window) ≡ length window
 work_counts i w [] = refl
 work_counts i w (n ∷ ns) = go (nat_eq n.index i) (work_counts i w ns)
   where

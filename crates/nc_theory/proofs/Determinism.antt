@@ -60,7 +60,7 @@ module _ (s : Setting) (field : IsField s.prime) (entries : List Entry) where
       → multiple_at s entries w d ≡ multiple_at s entries w e
   multiple_same w d e k l =
       let t : (d.entry ≡ e.entry) × (d.right ≡ e.right) =
-      parts_same w d e k l in (λ i. polynomial_times (l i) (t.0 i).polynomial (t.1 i))
+          parts_same w d e k l in (λ i. polynomial_times (l i) (t.0 i).polynomial (t.1 i))
 
   pub chosen_same : (set : Monomial → Type 0) (w : Word) (d e : Divisor s entries w)
       → IsChosenDivisor s entries set w d → IsChosenDivisor s entries set w e
@@ -172,8 +172,8 @@ module _ (s : Setting) (field : IsField s.prime) (entries : List Entry) where
       kk = residue_same (coefficient v.entry.polynomial (leading s.prime v.entry.polynomial)) k k'
           (lead_leads s.prime v.entry.polynomial (nonzero v.entry v.listed)).nonzero small small'
           (q ∙ (e.at w ∙ (ap (λ x. coefficient f' x % s.prime) ww
-                ∙ (sym q' ∙ ap (λ x. k' * coefficient x.polynomial
-                  (leading s.prime x.polynomial) % s.prime) (sym parts.0)))))
+                ∙ (sym q' ∙ ap (λ x. k' * coefficient x.polynomial (leading s.prime x.polynomial)
+                  % s.prime) (sym parts.0)))))
 
       next : SamePolynomial s (minus s.prime f k (multiple_at s entries w v))
           (minus s.prime f' k' (multiple_at s entries w' v'))
@@ -200,10 +200,11 @@ module _ (s : Setting) (field : IsField s.prime) (entries : List Entry) where
           × (d.left ≡ e.left) × (d.right ≡ e.right) × (d.entry ≡ e.entry)
       all i k =
           let entry : d.entry ≡ e.entry =
-          listed_same entries d.entry e.entry d.listed e.listed k in
+              listed_same entries d.entry e.entry d.listed e.listed k in
           (i, k, append_cancel_right d.left e.left d.entry.signature.left
-            (ap (λ σ. σ.left) (b.signed ∙ sym b'.signed) ∙ ap (λ x. e.left ++ x.signature.left)
-              (sym entry)), append_cancel_left d.entry.signature.right d.right e.right
+            (ap (λ σ. σ.left) (b.signed ∙ sym b'.signed)
+              ∙ ap (λ x. e.left ++ x.signature.left) (sym entry)),
+            append_cancel_left d.entry.signature.right d.right e.right
             (ap (λ σ. σ.right) (b.signed ∙ sym b'.signed) ∙ ap (λ x. x.signature.right ++ e.right)
               (sym entry)), entry)
 
@@ -219,7 +220,7 @@ module _ (s : Setting) (field : IsField s.prime) (entries : List Entry) where
       → {f' : Polynomial} {a' : Start} → Starts s entries τ f' a' → (f ≡ f') × (a ≡ a')
   starts_unique τ (Starts.at_generator i e) (Starts.at_generator j e') =
       let k : i ≡ j =
-      ap (λ σ. σ.generator) (sym e ∙ e') in (ap (generator s) k, ap Start.a_generator k)
+          ap (λ σ. σ.generator) (sym e ∙ e') in (ap (generator s) k, ap Start.a_generator k)
   starts_unique τ (Starts.at_generator i e) (Starts.at_multiple n w d b r) = absurd (n i e)
   starts_unique τ (Starts.at_multiple n w d b r) (Starts.at_generator i e) = absurd (n i e)
   starts_unique τ (Starts.at_multiple n w d b r) (Starts.at_multiple n' w' d' b' r') =
@@ -233,9 +234,8 @@ module _ (s : Setting) (field : IsField s.prime) (entries : List Entry) where
           (λ j. polynomial_times (l j) (x j).polynomial (r j),
             λ j. Start.a_multiple (l j) (k j + 1) (r j))
 
-module _ (s : Setting) (field : IsField s.prime) (state : State)
-    (nonzero : (e : Entry) → Contains state.entries e → ¬ IsZeroPolynomial s e.polynomial)
-    (τ : Monomial) where
+module _ (s : Setting) (field : IsField s.prime) (state : State) (nonzero : (e : Entry)
+      → Contains state.entries e → ¬ IsZeroPolynomial s e.polynomial) (τ : Monomial) where
   regular_same : (w w' : Word) → w ≡ w' → RegularDivisor s state.entries τ w
       → RegularDivisor s state.entries τ w'
   regular_same w w' e r = subst (RegularDivisor s state.entries τ) e r
@@ -270,21 +270,21 @@ module _ (s : Setting) (field : IsField s.prime) (state : State)
             (record { at = λ y. ap (λ g. coefficient g y % s.prime) t.0 })).1 i })
   handles_unique (Handles.is_syzygy n starts red) (Handles.is_entry n' starts' red') =
       let t = starts_unique s field state.entries τ starts starts' in let e =
-      (reduction_unique s field state.entries nonzero (λ σ. IsLess s σ τ) red red'
-        (record { at = λ y. ap (λ g. coefficient g y % s.prime) t.0 })).0 in let none : ⊥ =
-      cc in absurd none
+          (reduction_unique s field state.entries nonzero (λ σ. IsLess s σ τ) red red'
+            (record { at = λ y. ap (λ g. coefficient g y % s.prime) t.0 })).0 in let none : ⊥ =
+          cc in absurd none
   handles_unique (Handles.is_entry n starts red) (Handles.is_covered k) = absurd (n k)
   handles_unique (Handles.is_entry n starts red) (Handles.is_settled n' u w d b m) =
       absurd (not_settled starts u w d b m)
   handles_unique (Handles.is_entry n starts red) (Handles.is_syzygy n' starts' red') =
       let t = starts_unique s field state.entries τ starts starts' in let e =
-      (reduction_unique s field state.entries nonzero (λ σ. IsLess s σ τ) red red'
-        (record { at = λ y. ap (λ g. coefficient g y % s.prime) t.0 })).0 in let none : ⊥ =
-      cc in absurd none
+          (reduction_unique s field state.entries nonzero (λ σ. IsLess s σ τ) red red'
+            (record { at = λ y. ap (λ g. coefficient g y % s.prime) t.0 })).0 in let none : ⊥ =
+          cc in absurd none
   handles_unique (Handles.is_entry n starts red) (Handles.is_entry n' starts' red') =
       let t = starts_unique s field state.entries τ starts starts' in let r =
-      reduction_unique s field state.entries nonzero (λ σ. IsLess s σ τ) red red'
-      (record { at = λ y. ap (λ g. coefficient g y % s.prime) t.0 }) in
+          reduction_unique s field state.entries nonzero (λ σ. IsLess s σ τ) red red'
+          (record { at = λ y. ap (λ g. coefficient g y % s.prime) t.0 }) in
       λ i. Outcome.an_entry (r.0 i) (record { start = t.1 i; steps = r.1 i })
 
 pub next_unique : (P : Problem) (state : State) (last : Option Monomial) (τ τ' : Monomial)
@@ -335,8 +335,8 @@ one_multiple s entries τ w v d e i j k =
     entry = listed_same entries d.entry e.entry d.listed e.listed k
 
     left : d.left ≡ e.left
-    left = append_cancel_right d.left e.left d.entry.signature.left
-        (ap (λ σ. σ.left) (i ∙ sym j) ∙ ap (λ x. e.left ++ x.signature.left) (sym entry))
+    left = append_cancel_right d.left e.left d.entry.signature.left (ap (λ σ. σ.left) (i ∙ sym j)
+          ∙ ap (λ x. e.left ++ x.signature.left) (sym entry))
 
     right : d.right ≡ e.right
     right = append_cancel_left d.entry.signature.right d.right e.right

@@ -39,16 +39,16 @@ unit_dec τ = go (word_dec τ.left []) (word_dec τ.right [])
     go (inr n) o = inr (λ t. n (ap (λ ρ. ρ.left) t.1))
     go (inl a) (inr n) = inr (λ t. n (ap (λ ρ. ρ.right) t.1))
 
-module _ (s : Setting) (field : IsField s.prime) (state : State)
-    (nonzero : (e : Entry) → Contains state.entries e → ¬ IsZeroPolynomial s e.polynomial)
-    (τ : Monomial) where
+module _ (s : Setting) (field : IsField s.prime) (state : State) (nonzero : (e : Entry)
+      → Contains state.entries e → ¬ IsZeroPolynomial s e.polynomial) (τ : Monomial) where
   from_start : ¬ Covered s state τ → {f : Polynomial} {start : Start}
       → Starts s state.entries τ f start → (o : Outcome) × Handles s state τ o
   from_start n {f = f} {start = start} starts =
       go (reduce_exists s field state.entries nonzero (λ σ. IsLess s σ τ) (λ σ. less_dec s σ τ) f)
     where
-      go : (kept : Polynomial) × (steps : List Step) × Reduction s state.entries (λ σ. IsLess s σ τ)
-          f kept steps → (o : Outcome) × Handles s state τ o
+      go : (kept : Polynomial) × (steps : List Step)
+          × Reduction s state.entries (λ σ. IsLess s σ τ) f kept steps → (o : Outcome)
+          × Handles s state τ o
       go ([], steps, r) =
           (Outcome.a_syzygy (record { start = start; steps = steps }), Handles.is_syzygy n starts r)
       go (t ∷ kept, steps, r) =
@@ -71,8 +71,8 @@ module _ (s : Setting) (field : IsField s.prime) (state : State)
           place : Decided (RegularDivisor s state.entries τ w) → (o : Outcome) × Handles s state τ o
           place (inl r) = from_start n (Starts.at_multiple (λ i e. not_unit (i, e)) w d best r)
           place (inr m) =
-              (Outcome.settled (d.listed.0 + 1), Handles.is_settled n (λ i e. not_unit (i, e)) w d
-                best m)
+              (Outcome.settled (d.listed.0 + 1),
+                Handles.is_settled n (λ i e. not_unit (i, e)) w d best m)
       go (inr n) (inr not_unit) (inr none) = absurd (impossible source)
         where
           impossible : ((i : ℕ) × (τ ≡ unit_monomial i))
@@ -101,8 +101,8 @@ at_place u w q Good good = bounds (nat_order q (length w))
             back : (t : (x : Word) × (g : Word) × (x ++ (u ++ g) ≡ w) × Good x g × (length x ≡ q))
                 → u ++ t.1 ≡ y
             back t =
-                append_cancel_left x (u ++ t.1) y
-                (ap (λ z. z ++ (u ++ t.1)) (sym (front t)) ∙ (t.2 ∙ sym e))
+                append_cancel_left x (u ++ t.1) y (ap (λ z. z ++ (u ++ t.1)) (sym (front t))
+                  ∙ (t.2 ∙ sym e))
 
             go : Decided ((r : Word) × (u ++ r ≡ y))
                 → Decided ((x : Word) × (g : Word) × (x ++ (u ++ g) ≡ w) × Good x g
@@ -205,9 +205,9 @@ in_collect s entries Q dec make same (suc n) k l q =
             entries Q dec make n ]) x × (x.0 ≡ (make k q).0)
     go (inl p) (inl h) f =
         let t : (x : FoundAmbiguity s entries) × Contains (collect s entries Q dec make n) x
-        × (x.0 ≡ (make k q).0) =
-        f h q in (t.0, Contains-append_right (make n p ∷ []) (collect s entries Q dec make n) t.0
-          t.1, t.2)
+            × (x.0 ≡ (make k q).0) =
+            f h q in (t.0, Contains-append_right (make n p ∷ []) (collect s entries Q dec make n)
+              t.0 t.1, t.2)
     go (inr m) (inl h) f = f h q
     go (inl p) (inr (inl e)) f = (make n p, (0, omega arith, refl), at k e q)
       where
@@ -381,7 +381,7 @@ module _ (s : Setting) (entries : List Entry) (i : Entry) (c : Contains entries 
   unfolding back_within
   back_within_same q p r =
       let x : p.0 ≡ r.0 =
-      fronts_same p.0 (a ++ p.1) r.0 (a ++ r.1) (p.2 ∙ sym r.2) (p.4 ∙ sym r.4) in
+          fronts_same p.0 (a ++ p.1) r.0 (a ++ r.1) (p.2 ∙ sym r.2) (p.4 ∙ sym r.4) in
       ap₂ (λ y z. times y i.signature z) x
       (append_cancel_left a p.1 r.1 (append_cancel_left p.0 (a ++ p.1) (a ++ r.1)
           (p.2 ∙ (sym r.2 ∙ ap (λ z. z ++ (a ++ r.1)) (sym x)))))
@@ -415,14 +415,14 @@ module _ (s : Setting) (entries : List Entry) (i : Entry) (c : Contains entries 
       has_left (collect s entries FrontWithin within_dec front_within (length a))
       (collect s entries FrontPast past_dec front_past (length a)
         ++ (collect s entries BackWithin back_within_dec back_within (length b) ++ collect s entries
-          BackPast back_past_dec back_past (length b))) (times u i.signature f)
-      (t.0, t.1, t.2 ∙ ap₂ (λ y z. times y i.signature z) (sym p) (sym q))
+          BackPast back_past_dec back_past (length b))) (times u i.signature f) (t.0, t.1,
+        t.2 ∙ ap₂ (λ y z. times y i.signature z) (sym p) (sym q))
     where
       t : Has (collect s entries FrontWithin within_dec front_within (length a))
           (times [] i.signature [])
       t = in_collect s entries FrontWithin within_dec front_within (λ n y z. refl) (length a)
-          (length x) (omega (arith, k, ap length p))
-          (x, g, sym e ∙ (ap₂ (λ y z. y ++ (a ++ z)) p q ∙ append-nil a),
+          (length x) (omega (arith, k, ap length p)) (x, g,
+            sym e ∙ (ap₂ (λ y z. y ++ (a ++ z)) p q ∙ append-nil a),
             subst₂ (λ y z. IsLess s (times x j.signature g) (times y i.signature z)) p q less, refl,
             omega (arith, k, ap length p), omega (arith, h, ap length p))
   in_pair u f x g e (inl p) (inr q) h k less =
@@ -432,13 +432,12 @@ module _ (s : Setting) (entries : List Entry) (i : Entry) (c : Contains entries 
           BackPast back_past_dec back_past (length b))) (times u i.signature f)
       (has_left (collect s entries FrontPast past_dec front_past (length a))
         (collect s entries BackWithin back_within_dec back_within (length b) ++ collect s entries
-          BackPast back_past_dec back_past (length b)) (times u i.signature f)
-        (t.0, t.1, t.2 ∙ ap (λ y. times y i.signature f) (sym p)))
+          BackPast back_past_dec back_past (length b)) (times u i.signature f) (t.0, t.1,
+          t.2 ∙ ap (λ y. times y i.signature f) (sym p)))
     where
       t : Has (collect s entries FrontPast past_dec front_past (length a)) (times [] i.signature f)
       t = in_collect s entries FrontPast past_dec front_past past_same (length a) (length x)
-          (omega (arith, k, ap length p))
-          (x, f, ap (λ z. x ++ z) (sym (append-nil b))
+          (omega (arith, k, ap length p)) (x, f, ap (λ z. x ++ z) (sym (append-nil b))
             ∙ (ap (λ z. x ++ (b ++ z)) (sym q) ∙ (sym e ∙ ap (λ z. z ++ (a ++ f)) p)),
             subst₂ (λ y z. IsLess s (times x j.signature z) (times y i.signature f)) p q less, refl,
             omega (arith, k, ap length p), omega (arith, h, ap length p))
@@ -457,8 +456,8 @@ module _ (s : Setting) (entries : List Entry) (i : Entry) (c : Contains entries 
       t : Has (collect s entries BackWithin back_within_dec back_within (length b))
           (times u i.signature f)
       t = in_collect s entries BackWithin back_within_dec back_within back_within_same (length b)
-          (length u) (omega (arith, h, ap length p))
-          (u, f, e ∙ (ap₂ (λ y z. y ++ (b ++ z)) p q ∙ append-nil b),
+          (length u) (omega (arith, h, ap length p)) (u, f,
+            e ∙ (ap₂ (λ y z. y ++ (b ++ z)) p q ∙ append-nil b),
             subst₂ (λ y z. IsLess s (times y j.signature z) (times u i.signature f)) p q less, refl,
             omega (arith, h, ap length p), omega (arith, k, ap length p))
   in_pair u f x g e (inr p) (inl q) h k less =
@@ -476,8 +475,7 @@ module _ (s : Setting) (entries : List Entry) (i : Entry) (c : Contains entries 
       t : Has (collect s entries BackPast back_past_dec back_past (length b))
           (times u i.signature [])
       t = in_collect s entries BackPast back_past_dec back_past back_past_same (length b) (length u)
-          (omega (arith, h, ap length p))
-          (u, g, ap (λ z. u ++ z) (sym (append-nil a))
+          (omega (arith, h, ap length p)) (u, g, ap (λ z. u ++ z) (sym (append-nil a))
             ∙ (ap (λ z. u ++ (a ++ z)) (sym q) ∙ (e ∙ ap (λ z. z ++ (b ++ g)) p)),
             subst₂ (λ y z. IsLess s (times y j.signature g) (times u i.signature z)) p q less, refl,
             omega (arith, h, ap length p), omega (arith, k, ap length p))
@@ -501,10 +499,10 @@ in_join {X} N F Good k has (suc n) l h = go (nat_order k n) (in_join N F Good k 
         × Contains (F n l ++ join_below N F n (le_of_lt l)) x × Good x
     go (inl g) f =
         let t : (x : X) × Contains (join_below N F n (le_of_lt l)) x × Good x =
-        f g in (t.0, Contains-append_right (F n l) (join_below N F n (le_of_lt l)) t.0 t.1, t.2)
+            f g in (t.0, Contains-append_right (F n l) (join_below N F n (le_of_lt l)) t.0 t.1, t.2)
     go (inr (inl e)) f =
         let t : (x : X) × Contains (F n l) x × Good x =
-        subst (λ m. (l : m < N) → (x : X) × Contains (F m l) x × Good x) e has l in
+            subst (λ m. (l : m < N) → (x : X) × Contains (F m l) x × Good x) e has l in
         (t.0, Contains-append_left (F n l) (join_below N F n (le_of_lt l)) t.0 t.1, t.2)
     go (inr (inr g)) f = absurd (omega arith)
 
@@ -557,22 +555,23 @@ module _ (s : Setting) (entries : List Entry) where
             (entry_at amb.low.listed.0) (listed_at amb.low.listed.0 h)) x × (x.0 ≡ ρ)
       here l h =
           let t : (x : FoundAmbiguity s entries)
-          × Contains (pair s entries (entry_at amb.high.listed.0) (listed_at amb.high.listed.0 l)
-            (entry_at amb.low.listed.0) (listed_at amb.low.listed.0 h)) x
-          × (x.0 ≡ times amb.high.left (entry_at amb.high.listed.0).signature amb.high.right) =
-          in_pair s entries (entry_at amb.high.listed.0) (listed_at amb.high.listed.0 l)
-          (entry_at amb.low.listed.0) (listed_at amb.low.listed.0 h) amb.high.left amb.high.right
-          amb.low.left amb.low.right ((ap
-              (λ e. amb.high.left ++ (leading s.prime e.polynomial ++ amb.high.right)) i
-              ∙ amb.high.spells) ∙ sym (ap (λ e. amb.low.left
-                ++ (leading s.prime e.polynomial ++ amb.low.right)) j ∙ amb.low.spells))
-          amb.spans_front amb.spans_back
-          (subst (λ e. length amb.high.left < length amb.low.left + length
-              (leading s.prime e.polynomial)) (sym j) amb.high_begins)
-          (subst (λ e. length amb.low.left < length amb.high.left + length
-              (leading s.prime e.polynomial)) (sym i) amb.low_begins)
-          (subst₂ (λ e f. IsLess s (times amb.low.left e.signature amb.low.right)
-              (times amb.high.left f.signature amb.high.right)) (sym j) (sym i) amb.below) in
+              × Contains (pair s entries (entry_at amb.high.listed.0)
+                (listed_at amb.high.listed.0 l) (entry_at amb.low.listed.0)
+                (listed_at amb.low.listed.0 h)) x
+              × (x.0 ≡ times amb.high.left (entry_at amb.high.listed.0).signature amb.high.right) =
+              in_pair s entries (entry_at amb.high.listed.0) (listed_at amb.high.listed.0 l)
+              (entry_at amb.low.listed.0) (listed_at amb.low.listed.0 h) amb.high.left
+              amb.high.right amb.low.left amb.low.right
+              ((ap (λ e. amb.high.left ++ (leading s.prime e.polynomial ++ amb.high.right)) i
+                  ∙ amb.high.spells) ∙ sym (ap (λ e. amb.low.left
+                    ++ (leading s.prime e.polynomial ++ amb.low.right)) j ∙ amb.low.spells))
+              amb.spans_front amb.spans_back
+              (subst (λ e. length amb.high.left < length amb.low.left
+                  + length (leading s.prime e.polynomial)) (sym j) amb.high_begins)
+              (subst (λ e. length amb.low.left < length amb.high.left
+                  + length (leading s.prime e.polynomial)) (sym i) amb.low_begins)
+              (subst₂ (λ e f. IsLess s (times amb.low.left e.signature amb.low.right)
+                  (times amb.high.left f.signature amb.high.right)) (sym j) (sym i) amb.below) in
           (t.0, t.1, t.2 ∙ (ap (λ e. times amb.high.left e.signature amb.high.right) i
               ∙ amb.signed))
 
@@ -593,8 +592,8 @@ module _ (s : Setting) (entries : List Entry) where
           × (x.0 ≡ unit_monomial i)
       go (inl g) f =
           let t : (x : FoundAmbiguity s entries) × Contains (units n) x × (x.0 ≡ unit_monomial i) =
-          f (omega arith) in (t.0, Contains-append_right
-            ((unit_monomial (n + 1), inl (n + 1, refl)) ∷ []) (units n) t.0 t.1, t.2)
+              f (omega arith) in (t.0, Contains-append_right
+                ((unit_monomial (n + 1), inl (n + 1, refl)) ∷ []) (units n) t.0 t.1, t.2)
       go (inr (inl e)) f =
           ((unit_monomial (n + 1), inl (n + 1, refl)), (0, omega arith, refl),
             ap unit_monomial (sym e))
@@ -620,8 +619,8 @@ module _ (s : Setting) (entries : List Entry) where
           at : Contains (z ∷ []) y ⊎ Contains xs y → (y.0 ≡ x.0) ⊎ IsLess s x.0 y.0
           at (inl k) =
               let e : z ≡ y =
-              only_one z y k in subst (λ q. (q ≡ x.0) ⊎ IsLess s x.0 q) (ap (λ q. q.0) e)
-              (first (subst Good (sym (ap (λ q. q.0) e)) g))
+                  only_one z y k in subst (λ q. (q ≡ x.0) ⊎ IsLess s x.0 q) (ap (λ q. q.0) e)
+                  (first (subst Good (sym (ap (λ q. q.0) e)) g))
           at (inr k) = rest y k g
 
       go : Decided (Good z.0) → ((x : FoundAmbiguity s entries) × Good x.0 × Best x xs)
@@ -688,17 +687,17 @@ module _ (P : Problem) (state : State) (last : Option Monomial) where
   unfolding all
   in_all σ (within, inl (i, e)) =
       let g : σ.generator ≡ i =
-      ap (λ ρ. ρ.generator) e in let t : (x : FoundAmbiguity P.setting state.entries)
-      × Contains (units P.setting state.entries (length P.setting.generators)) x
-      × (x.0 ≡ unit_monomial i) =
-      in_units P.setting state.entries (length P.setting.generators) i
-      (omega (arith, within.0.0, g)) (omega (arith, within.0.1, g)) in
+          ap (λ ρ. ρ.generator) e in let t : (x : FoundAmbiguity P.setting state.entries)
+          × Contains (units P.setting state.entries (length P.setting.generators)) x
+          × (x.0 ≡ unit_monomial i) =
+          in_units P.setting state.entries (length P.setting.generators) i
+          (omega (arith, within.0.0, g)) (omega (arith, within.0.1, g)) in
       (t.0, Contains-append_right (all_pairs P.setting state.entries)
         (units P.setting state.entries (length P.setting.generators)) t.0 t.1, t.2 ∙ sym e)
   in_all σ (within, inr (w, amb)) =
       let t : (x : FoundAmbiguity P.setting state.entries)
-      × Contains (all_pairs P.setting state.entries) x × (x.0 ≡ σ) =
-      in_all_pairs P.setting state.entries σ w amb in
+          × Contains (all_pairs P.setting state.entries) x × (x.0 ≡ σ) =
+          in_all_pairs P.setting state.entries σ w amb in
       (t.0, Contains-append_left (all_pairs P.setting state.entries)
         (units P.setting state.entries (length P.setting.generators)) t.0 t.1, t.2)
 
@@ -773,8 +772,8 @@ module _ (P : Problem) (field : IsField P.setting.prime) where
           next (inr none) = inr (n, state, End.complete, IsEnd.is_complete (le_of_lt l) run none)
           next (inl (τ, k)) =
               let t : (o : Outcome) × Handles P.setting state τ o =
-              handles_exists P.setting field state (invariant P field run).sound.nonzero τ
-              (source state τ k.candidate) in
+                  handles_exists P.setting field state (invariant P field run).sound.nonzero τ
+                  (source state τ k.candidate) in
               inl (state_after state τ t.0, Some τ, SequentialRun.handled run τ k t.0 t.1)
 
   -- each problem's run has an end
@@ -820,8 +819,8 @@ module _ (P : Problem) (field : IsField P.setting.prime) where
           × ((τ : Monomial) × IsNext P state' last' τ) → ⊥
       go (a, b, r, (τ, k)) =
           let e : (a ≡ state) × (b ≡ last) =
-          run_unique P field r run in let k' : IsNext P state last τ =
-          subst₂ (λ x y. IsNext P x y τ) e.0 e.1 k in none τ k'.candidate k'.left
+              run_unique P field r run in let k' : IsNext P state last τ =
+              subst₂ (λ x y. IsNext P x y τ) e.0 e.1 k in none τ k'.candidate k'.left
 
   -- and only one
   pub end_unique : {n m : ℕ} {state later : State} {end end' : End} → IsEnd P n state end
@@ -841,9 +840,9 @@ module _ (P : Problem) (field : IsField P.setting.prime) where
       go (inl k) = stops run none run' k
       go (inr (inl e)) =
           let t : (state ≡ later) × (last ≡ last') =
-          run_unique P field (subst (λ j. SequentialRun P j state last) e run) run' in
+              run_unique P field (subst (λ j. SequentialRun P j state last) e run) run' in
           let k : IsNext P state last τ =
-          subst₂ (λ x y. IsNext P x y τ) (sym t.0) (sym t.1) next in none τ k.candidate k.left
+              subst₂ (λ x y. IsNext P x y τ) (sym t.0) (sym t.1) next in none τ k.candidate k.left
       go (inr (inr k)) = omega (arith, i)
   end_unique {n} {m} {state} {later} (IsEnd.is_budget {last = last} i run τ next)
       (IsEnd.is_complete {last = last'} l run' none) = absurd (go (nat_order n m))
@@ -852,15 +851,15 @@ module _ (P : Problem) (field : IsField P.setting.prime) where
       go (inr (inr k)) = stops run' none run k
       go (inr (inl e)) =
           let t : (state ≡ later) × (last ≡ last') =
-          run_unique P field (subst (λ j. SequentialRun P j state last) e run) run' in
+              run_unique P field (subst (λ j. SequentialRun P j state last) e run) run' in
           let k : IsNext P later last' τ =
-          subst₂ (λ x y. IsNext P x y τ) t.0 t.1 next in none τ k.candidate k.left
+              subst₂ (λ x y. IsNext P x y τ) t.0 t.1 next in none τ k.candidate k.left
       go (inl k) = omega (arith, i)
   end_unique {n} {m} {state} {later} (IsEnd.is_budget {last = last} i run τ next)
       (IsEnd.is_budget {last = last'} i' run' τ' next') =
       let e : n ≡ m =
-      omega (arith, i, i') in go e (run_unique P field
-        (subst (λ j. SequentialRun P j state last) e run) run')
+          omega (arith, i, i') in go e (run_unique P field
+            (subst (λ j. SequentialRun P j state last) e run) run')
     where
       go : n ≡ m → (state ≡ later) × (last ≡ last') → (n ≡ m) × (state ≡ later)
           × (End.budget τ ≡ End.budget τ')

@@ -239,8 +239,9 @@ module _ (P : NamedProblem) (field : IsField P.problem.setting.prime) where
   plays_from d run [] = (d, Plays.ends)
   plays_from d run (e ∷ events) =
       let first : (d' : Desk) × Does P d e d' =
-      event_exists d run e in let rest : (d' : Desk) × Plays P events first.0 d' =
-      plays_from first.0 (event_runs P first.1 run) events in (rest.0, Plays.goes e first.1 rest.1)
+          event_exists d run e in let rest : (d' : Desk) × Plays P events first.0 d' =
+          plays_from first.0 (event_runs P first.1 run) events in
+      (rest.0, Plays.goes e first.1 rest.1)
 
   pub plays_exist : (capacity : ℕ) (events : List Event) → (d : Desk)
       × Plays P events (open_desk capacity) d

@@ -57,8 +57,8 @@ small = record { prime = 2; generators = (term 1 (x ∷ x ∷ []) ∷ []) ∷ []
 
 -- x f_1 y, with f_1 = xx
 multiple : evaluation small (record { coefficient = 1;
-        key = record { left = x ∷ []; generator = 1; right = y ∷ [] } } ∷ []) ≡ term 1
-    (x ∷ x ∷ x ∷ y ∷ []) ∷ []
+        key = record { left = x ∷ []; generator = 1; right = y ∷ [] } } ∷ [])
+    ≡ term 1 (x ∷ x ∷ x ∷ y ∷ []) ∷ []
 unfolding small generator
 multiple = refl
 

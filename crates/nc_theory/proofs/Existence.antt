@@ -23,9 +23,9 @@ use Rattle.std.proofs.Common.{Contains, List, [], ap, ap₂, arith, get_or, inl,
 use Rattle.std.proofs.Math.Nat.{mod-lt}
 use Rattle.std.proofs.lemmas.List.{append_cancel_left, get_or_default}
 
-module _ (s : Setting) (field : IsField s.prime) (entries : List Entry)
-    (nonzero : (e : Entry) → Contains entries e → ¬ IsZeroPolynomial s e.polynomial)
-    (set : Monomial → Type 0) (decide : (σ : Monomial) → Decided (set σ)) where
+module _ (s : Setting) (field : IsField s.prime) (entries : List Entry) (nonzero : (e : Entry)
+      → Contains entries e → ¬ IsZeroPolynomial s e.polynomial) (set : Monomial → Type 0)
+    (decide : (σ : Monomial) → Decided (set σ)) where
   -- a divisor of w in the set by entry number k, and one at place q
   abbrev AtNumber : Word → ℕ → Type 0
   AtNumber w k = (d : Divisor s entries w) × set (signature_at s entries w d) × (d.listed.0 ≡ k)
@@ -82,7 +82,7 @@ module _ (s : Setting) (field : IsField s.prime) (entries : List Entry)
                       → signature_at s entries w d ≡ times a (get_or entries k nobody).signature r
                   other d x y =
                       let p : (d.entry ≡ get_or entries k nobody) × (d.right ≡ r) =
-                      parts_same s field entries w d d0 x (left_is d y) in
+                          parts_same s field entries w d d0 x (left_is d y) in
                       (λ j. times (left_is d y j) (p.0 j).signature (p.1 j))
 
                   tried : Decided (set (times a (get_or entries k nobody).signature r))
@@ -177,14 +177,14 @@ module _ (s : Setting) (field : IsField s.prime) (entries : List Entry)
                   × (steps : List Step) × Reduction s entries set f kept steps
               divide (i, q) =
                   let t : (kept : Polynomial) × (steps : List Step)
-                  × Reduction s entries set (minus s.prime f (coefficient f v * i % s.prime)
-                    (multiple_at s entries v e)) kept steps =
-                  before v l (minus s.prime f (coefficient f v * i % s.prime)
-                    (multiple_at s entries v e)) (take_off s field entries nonzero set f v d
-                    (coefficient f v * i % s.prime) (multiple_at s entries v e)
-                    (multiple_leads_at s field entries nonzero set v e).above
-                    (subtract_whole s field entries nonzero set f v e
-                      (coefficient f v * i % s.prime) whole)) in
+                      × Reduction s entries set (minus s.prime f (coefficient f v * i % s.prime)
+                        (multiple_at s entries v e)) kept steps =
+                      before v l (minus s.prime f (coefficient f v * i % s.prime)
+                        (multiple_at s entries v e)) (take_off s field entries nonzero set f v d
+                        (coefficient f v * i % s.prime) (multiple_at s entries v e)
+                        (multiple_leads_at s field entries nonzero set v e).above
+                        (subtract_whole s field entries nonzero set f v e
+                          (coefficient f v * i % s.prime) whole)) in
                   (t.0, record { coefficient = coefficient f v * i % s.prime;
                       left = e.left; number = e.listed.0 + 1; right = e.right } ∷ t.1,
                     Reduction.subtract v d e chosen (coefficient f v * i % s.prime)
@@ -199,15 +199,15 @@ module _ (s : Setting) (field : IsField s.prime) (entries : List Entry)
                         field.above_one)
           at v d l (inr none) =
               let t : (kept : Polynomial) × (steps : List Step)
-              × Reduction s entries set (minus s.prime f 1
-                (record { coefficient = coefficient f v % s.prime; key = v } ∷ [])) kept steps =
-              before v l (minus s.prime f 1 (record { coefficient = coefficient f v % s.prime;
-                    key = v } ∷ [])) (take_off s field entries nonzero set f v d 1
-                (record { coefficient = coefficient f v % s.prime; key = v } ∷ [])
-                (single_over s field entries nonzero set (coefficient f v % s.prime) v)
-                (keep_whole s field entries nonzero set f v (coefficient f v % s.prime) refl)) in
-              (record { coefficient = coefficient f v % s.prime; key = v } ∷ t.0, t.1,
-                Reduction.keep v d none (coefficient f v % s.prime) refl t.2)
+                  × Reduction s entries set (minus s.prime f 1
+                    (record { coefficient = coefficient f v % s.prime; key = v } ∷ [])) kept steps =
+                  before v l (minus s.prime f 1 (record { coefficient = coefficient f v % s.prime;
+                        key = v } ∷ [])) (take_off s field entries nonzero set f v d 1
+                    (record { coefficient = coefficient f v % s.prime; key = v } ∷ [])
+                    (single_over s field entries nonzero set (coefficient f v % s.prime) v)
+                    (keep_whole s field entries nonzero set f v (coefficient f v % s.prime) refl))
+                  in (record { coefficient = coefficient f v % s.prime; key = v } ∷ t.0, t.1,
+                    Reduction.keep v d none (coefficient f v % s.prime) refl t.2)
 
           under : (v : Word) → IsLeadingWord s f v → IsWordLess v w ⊎ ((v ≡ w) ⊎ IsWordLess w v)
               → IsWordLess v w

@@ -17,10 +17,10 @@ use Rattle.std.proofs.Common.{Contains, None, Option, Some, [], ◌+◌, ap, app
 extension_refl : (state : State) → Extension state state
 extension_refl state =
     let e : state.entries ≡ state.entries ++ [] =
-    sym (append-nil state.entries) in let h : state.syzygies ≡ state.syzygies ++ [] =
-    sym (append-nil state.syzygies) in record { es = [];
-      hs = []; is = λ i. record { entries = e i;
-        syzygies = h i; covered = state.covered; settled = state.settled } }
+        sym (append-nil state.entries) in let h : state.syzygies ≡ state.syzygies ++ [] =
+        sym (append-nil state.syzygies) in record { es = [];
+          hs = []; is = λ i. record { entries = e i;
+            syzygies = h i; covered = state.covered; settled = state.settled } }
 
 extension_after : (state later : State) (τ : Monomial) (o : Outcome) → Extension state later
     → Extension state (state_after later τ o)
@@ -34,18 +34,17 @@ extension_after state later τ (Outcome.settled j) x =
         syzygies = (x.is i).syzygies; covered = later.covered; settled = later.settled + 1 } }
 extension_after state later τ (Outcome.an_entry f trace) x =
     let e : later.entries ++ (record { signature = τ; polynomial = f; trace = trace } ∷ [])
-    ≡ state.entries ++ (x.es ++ (record { signature = τ; polynomial = f; trace = trace } ∷ [])) =
-    ap (λ l. l.entries ++ (record { signature = τ; polynomial = f; trace = trace } ∷ [])) x.is
-    ∙ append_assoc state.entries x.es
-    (record { signature = τ; polynomial = f; trace = trace } ∷ []) in
-    record { es = x.es ++ (record { signature = τ; polynomial = f; trace = trace } ∷ []);
-      hs = x.hs; is = λ i. record { entries = e i;
-        syzygies = (x.is i).syzygies; covered = later.covered; settled = later.settled } }
+        ≡ state.entries ++ (x.es ++ (record { signature = τ; polynomial = f; trace = trace } ∷ []))
+        = ap (λ l. l.entries ++ (record { signature = τ; polynomial = f; trace = trace } ∷ [])) x.is
+        ∙ append_assoc state.entries x.es (record { signature = τ; polynomial = f; trace = trace }
+          ∷ []) in record { es = x.es ++ (record { signature = τ; polynomial = f; trace = trace }
+            ∷ []); hs = x.hs; is = λ i. record { entries = e i;
+            syzygies = (x.is i).syzygies; covered = later.covered; settled = later.settled } }
 extension_after state later τ (Outcome.a_syzygy trace) x =
     let h : later.syzygies ++ (record { signature = τ; trace = trace } ∷ []) ≡ state.syzygies
-    ++ (x.hs ++ (record { signature = τ; trace = trace } ∷ [])) =
-    ap (λ l. l.syzygies ++ (record { signature = τ; trace = trace } ∷ [])) x.is
-    ∙ append_assoc state.syzygies x.hs (record { signature = τ; trace = trace } ∷ []) in
+        ++ (x.hs ++ (record { signature = τ; trace = trace } ∷ [])) =
+        ap (λ l. l.syzygies ++ (record { signature = τ; trace = trace } ∷ [])) x.is
+        ∙ append_assoc state.syzygies x.hs (record { signature = τ; trace = trace } ∷ []) in
     record { es = x.es; hs = x.hs ++ (record { signature = τ; trace = trace } ∷ []);
       is = λ i. record { entries = (x.is i).entries;
         syzygies = h i; covered = later.covered; settled = later.settled } }
@@ -66,8 +65,8 @@ earlier P (SequentialRun.handled {n = n} {state = state} {last = last} run τ ne
         × SequentialRun P k state' before × Extension state' (state_after state τ o)
     go (inl m) f =
         let t : (state' : State) × (before : Option Monomial) × SequentialRun P k state' before
-        × Extension state' state =
-        f (omega arith) in (t.0, t.1, t.2, extension_after t.0 state τ o t.3)
+            × Extension state' state =
+            f (omega arith) in (t.0, t.1, t.2, extension_after t.0 state τ o t.3)
     go (inr (inl e)) f =
         (state_after state τ o, Some τ,
           subst (λ m. SequentialRun P m (state_after state τ o) (Some τ)) (sym e)

@@ -207,9 +207,9 @@ module _ (letters : List Letter) where
 
 -- ---- runs
 
-module _ (P : Problem) (field : IsField P.setting.prime) (letters : List Letter)
-    (inputs : (i : ℕ) → WordsAre P.setting (IsOver letters) (generator P.setting i)) {n : ℕ}
-    {run : State} {last : Option Monomial} (runs : SequentialRun P n run last) where
+module _ (P : Problem) (field : IsField P.setting.prime) (letters : List Letter) (inputs : (i : ℕ)
+      → WordsAre P.setting (IsOver letters) (generator P.setting i)) {n : ℕ} {run : State}
+    {last : Option Monomial} (runs : SequentialRun P n run last) where
   alive : (e : Entry) → Contains run.entries e → ¬ IsZeroPolynomial P.setting e.polynomial
   alive = (invariant P field runs).sound.nonzero
 
@@ -218,8 +218,8 @@ module _ (P : Problem) (field : IsField P.setting.prime) (letters : List Letter)
 
   pub entry_over : (e : Entry) → Contains run.entries e → TraceOver letters e.trace
   entry_over e c =
-      rebuilt_over letters P.setting inputs run.entries alive over e.signature
-      (over.left e c, over.right e c) e.trace e.polynomial ((rebuilt P field runs).entries e c)
+      rebuilt_over letters P.setting inputs run.entries alive over e.signature (over.left e c,
+        over.right e c) e.trace e.polynomial ((rebuilt P field runs).entries e c)
 
   pub syzygy_over : (h : Syzygy) → Contains run.syzygies h → TraceOver letters h.trace
   syzygy_over h c =

@@ -33,7 +33,7 @@ module _ (s : Setting) (field : IsField s.prime) where
           → word_weight w ≤ generator_weight s i
       go (inl e) =
           let d : word_weight w ≡ word_weight (leading s.prime (generator s i)) =
-          ap word_weight e in omega (arith, d)
+              ap word_weight e in omega (arith, d)
       go (inr l) = less_weighs w (leading s.prime (generator s i)) l
 
   module _ (entries : List Entry) (labels : (e : Entry) → Contains entries e → (α : Element)
@@ -62,8 +62,8 @@ module _ (s : Setting) (field : IsField s.prime) where
           let k : word_weight x ≤ degree_of (generator_weight s) (signature_at s entries w d) =
               labelled_limited s (signature_at s entries w d) (multiple_at s entries w d) t.0 t.1 x
               n in
-          let m : degree_of (generator_weight s) (signature_at s entries w d) ≤ degree_of
-              (generator_weight s) τ = degrees s (signature_at s entries w d) τ o in
+          let m : degree_of (generator_weight s) (signature_at s entries w d)
+              ≤ degree_of (generator_weight s) τ = degrees s (signature_at s entries w d) τ o in
           omega (arith, k, m)
 
       starts_limited : {f : Polynomial} {start : Start} → Starts s entries τ f start
@@ -87,8 +87,8 @@ module _ (s : Setting) (field : IsField s.prime) where
 
       keeps_limited : {f kept : Polynomial} {steps : List Step}
           → WeighsAtMost s (degree_of (generator_weight s) τ) f
-          → ReductionAt s entries τ f kept steps → WeighsAtMost s (degree_of (generator_weight s) τ)
-          kept
+          → ReductionAt s entries τ f kept steps
+          → WeighsAtMost s (degree_of (generator_weight s) τ) kept
       keeps_limited h (Reduction.finished z) x n = absurd (n (zero_number s.prime))
       keeps_limited h (Reduction.subtract {f = f} w l d chosen c small q rest) x n =
           keeps_limited (minus_are s (λ v. word_weight v ≤ degree_of (generator_weight s) τ) f c

@@ -37,8 +37,8 @@ shorter_made p v n h e =
 shorter_parts : (p v y z : Word) (n : ℕ) → n ≡ length p → length p ≤ length v → p ++ y ≡ v ++ z
     → (y ≡ []) ⊎ (z ≡ []) → (take n p ≡ take n v) × (y ≡ drop n v) × (z ≡ drop n p)
 shorter_parts p v y z n is h e d =
-    subst (λ m. (take m p ≡ take m v) × (y ≡ drop m v) × (z ≡ drop m p)) (sym is)
-    (front, back, none ∙ sym (drop_of_length-le p (omega arith)))
+    subst (λ m. (take m p ≡ take m v) × (y ≡ drop m v) × (z ≡ drop m p)) (sym is) (front, back,
+      none ∙ sym (drop_of_length-le p (omega arith)))
   where
     empty : (y ≡ []) ⊎ (z ≡ []) → z ≡ []
     empty (inl i) =
@@ -84,7 +84,7 @@ made p v n is e = go (ordered (length p) (length v))
         let l : length p ≤ n = omega arith in (shorter_made p v n l e, inr (drop_of_length-le p l))
     go (inr h) =
         let l : length v ≤ n =
-        omega arith in (sym (shorter_made v p n l (sym e)), inl (drop_of_length-le v l))
+            omega arith in (sym (shorter_made v p n l (sym e)), inl (drop_of_length-le v l))
 
 parts : (p v y z : Word) (n : ℕ) → n ≡ min (length p) (length v) → p ++ y ≡ v ++ z → (y ≡ [])
     ⊎ (z ≡ []) → (take n p ≡ take n v) × (y ≡ drop n v) × (z ≡ drop n p)
@@ -95,7 +95,7 @@ parts p v y z n is e d = go (ordered (length p) (length v))
     go (inl h) = shorter_parts p v y z n (omega arith) h e d
     go (inr h) =
         let t : (take n v ≡ take n p) × (z ≡ drop n p) × (y ≡ drop n v) =
-        shorter_parts v p z y n (omega arith) h (sym e) (swap d) in (sym t.0, t.2, t.1)
+            shorter_parts v p z y n (omega arith) h (sym e) (swap d) in (sym t.0, t.2, t.1)
 
 -- where the letters agree, what is around
 pub around_made : (u v : Word) (k n : ℕ) → k ≤ length u → n ≡ min (length (drop k u)) (length v)
@@ -125,8 +125,8 @@ around_parts u v k n x y z h is a = (t.0, sym front, t.1, t.2)
 
     t : (take n (drop k u) ≡ take n v) × (y ≡ drop n v) × (z ≡ drop n (drop k u))
     t = parts (drop k u) v y z n is
-        (append_cancel_left x (drop k u ++ y) (v ++ z)
-          (ap (λ b. b ++ (drop k u ++ y)) (sym front) ∙ pieces)) a.1
+        (append_cancel_left x (drop k u ++ y) (v ++ z) (ap (λ b. b ++ (drop k u ++ y)) (sym front)
+            ∙ pieces)) a.1
 
 pub one_around : (u v : Word) (k : ℕ) (x y z x' y' z' : Word) → k ≤ length u → AreAround u v k x y z
     → AreAround u v k x' y' z' → (x ≡ x') × (y ≡ y') × (z ≡ z')
@@ -244,17 +244,17 @@ module _ (s : Setting) where
         (subst (λ b. AreAround (leading s.prime e.polynomial) b k m.before m.behind_first
             m.behind_second) (sym j) m.around)
 
-    pub met : (x y z : Word) (one two : Monomial) → AreAround (leading s.prime e.polynomial)
-        (leading s.prime f.polynomial) k x y z → k < length (leading s.prime e.polynomial)
-        → 0 < k + length (leading s.prime f.polynomial) → one ≡ times [] e.signature y
-        → two ≡ times x f.signature z → (o : Option Monomial) → IsOnly (IsGreaterOf s one two) o
-        → IsOnly (MeetAt s e f k) o
+    pub met : (x y z : Word) (one two : Monomial)
+        → AreAround (leading s.prime e.polynomial) (leading s.prime f.polynomial) k x y z
+        → k < length (leading s.prime e.polynomial) → 0 < k + length (leading s.prime f.polynomial)
+        → one ≡ times [] e.signature y → two ≡ times x f.signature z → (o : Option Monomial)
+        → IsOnly (IsGreaterOf s one two) o → IsOnly (MeetAt s e f k) o
     met x y z one two a h g i j o p =
         go o (subst (λ σ. IsOnly (IsGreaterOf s (times [] e.signature y) σ) o) j
           (subst (λ σ. IsOnly (IsGreaterOf s σ two) o) i p))
       where
-        side : (σ : Monomial) → MeetAt s e f k σ → IsGreaterOf s (times [] e.signature y)
-            (times x f.signature z) σ
+        side : (σ : Monomial) → MeetAt s e f k σ
+            → IsGreaterOf s (times [] e.signature y) (times x f.signature z) σ
         side σ m =
             let t = one_around (leading s.prime e.polynomial) (leading s.prime f.polynomial) k
                 m.before m.behind_first m.behind_second x y z (omega (arith, h)) m.around a in

@@ -63,7 +63,7 @@ module _ (s : Setting) (field : IsField s.prime) (state : State) (sound : IsSoun
   module_of : (e : Entry) → Contains state.entries e → HasGenerator s e.signature
   module_of e k =
       let t : (α : Element) × IsLabelled s e.signature e.polynomial α =
-      sound.entries e k in t.1.lies e.signature t.1.leads.nonzero
+          sound.entries e k in t.1.lies e.signature t.1.leads.nonzero
 
   same_minus_eval : (f : Polynomial) (α : Element) (c : ℕ) (w : Word)
       (d : Divisor s state.entries w) (β : Element)
@@ -80,8 +80,8 @@ module _ (s : Setting) (field : IsField s.prime) (state : State) (sound : IsSoun
             (coefficient (evaluation s (element_times d.left β d.right)) y)
             (coefficient (multiple_at s state.entries w d) y)
             ((evaluation_times s d.left β d.entry.polynomial d.right positive label.evaluates).at
-              y)) ∙ ap (λ n. n % s.prime) (sym
-            (coefficient_polynomial_minus s f c (multiple_at s state.entries w d) y))) }
+              y)) ∙ ap (λ n. n % s.prime) (sym (coefficient_polynomial_minus s f c
+              (multiple_at s state.entries w d) y))) }
 
   -- where there is a representation within the bound, nothing is kept
   pub none_kept : IsBasisBelow s state bound → {f kept : Polynomial} {steps : List Step}
@@ -89,7 +89,7 @@ module _ (s : Setting) (field : IsField s.prime) (state : State) (sound : IsSoun
   none_kept basis (Reduction.finished n) has = refl
   none_kept basis (Reduction.subtract {f = f} w d v chosen c small q rest) (α, lies, e) =
       let t : (β : Element) × IsLabelled s v.entry.signature v.entry.polynomial β =
-      sound.entries v.entry v.listed in
+          sound.entries v.entry v.listed in
       none_kept basis rest (minus s.prime α c (element_times v.left t.0 v.right),
         within_minus α c (element_times v.left t.0 v.right) lies
         (multiple_within w v chosen.allowed t.0 t.1), same_minus_eval f α c w v t.0 t.1 e)
@@ -124,8 +124,8 @@ module _ (s : Setting) (field : IsField s.prime) (state : State) (sound : IsSoun
       → IsLabelled s v.entry.signature v.entry.polynomial β
       → IsIn s (α ++ scale c (element_times v.left β v.right)) bound
       × ((y : Word) → coefficient f y % s.prime
-        ≡ (coefficient (evaluation s (α ++ scale c (element_times v.left β v.right)))
-          y + coefficient kept y) % s.prime)
+        ≡ (coefficient (evaluation s (α ++ scale c (element_times v.left β v.right))) y
+          + coefficient kept y) % s.prime)
   join_multiple f kept w v allowed c α β lies e label = (within, value)
     where
       within : IsIn s (α ++ scale c (element_times v.left β v.right)) bound
@@ -167,20 +167,20 @@ module _ (s : Setting) (field : IsField s.prime) (state : State) (sound : IsSoun
       swap_last a b c = omega arith
 
       value : (y : Word) → coefficient f y % s.prime
-          ≡ (coefficient (evaluation s (α ++ scale c (element_times v.left β v.right)))
-            y + coefficient kept y) % s.prime
+          ≡ (coefficient (evaluation s (α ++ scale c (element_times v.left β v.right))) y
+            + coefficient kept y) % s.prime
       value y =
           put_back s.prime (coefficient f y) c (coefficient (multiple_at s state.entries w v) y)
           (coefficient (evaluation s (element_times v.left β v.right)) y) positive
           (sym ((evaluation_times s v.left β v.entry.polynomial v.right positive label.evaluates).at
-              y)) ∙ (sum_mod s.prime (coefficient f y + (s.prime - 1) * c * coefficient
-              (multiple_at s state.entries w v) y)
+              y)) ∙ (sum_mod s.prime (coefficient f y + (s.prime - 1) * c
+              * coefficient (multiple_at s state.entries w v) y)
             (coefficient (evaluation s α) y + coefficient kept y)
             (c * coefficient (evaluation s (element_times v.left β v.right)) y)
             (c * coefficient (evaluation s (element_times v.left β v.right)) y)
             (ap (λ n. n % s.prime) (sym (coefficient_polynomial_minus s f c
-                  (multiple_at s state.entries w v) y)) ∙ e y) refl ∙ ap (λ n. n % s.prime)
-            (swap_last (coefficient (evaluation s α) y) (coefficient kept y)
+                  (multiple_at s state.entries w v) y)) ∙ e y) refl
+            ∙ ap (λ n. n % s.prime) (swap_last (coefficient (evaluation s α) y) (coefficient kept y)
               (c * coefficient (evaluation s (element_times v.left β v.right)) y)
               ∙ ap (λ n. n + coefficient kept y) (sym (evaluated y))))
 
@@ -195,18 +195,18 @@ module _ (s : Setting) (field : IsField s.prime) (state : State) (sound : IsSoun
       join (representation rest) (sound.entries v.entry v.listed)
     where
       join : (α : Element) × IsIn s α bound
-          × ((y : Word) → coefficient (minus s.prime f c (multiple_at s state.entries w v))
-            y % s.prime ≡ (coefficient (evaluation s α) y + coefficient kept y) % s.prime)
+          × ((y : Word) → coefficient (minus s.prime f c (multiple_at s state.entries w v)) y
+            % s.prime ≡ (coefficient (evaluation s α) y + coefficient kept y) % s.prime)
           → (β : Element) × IsLabelled s v.entry.signature v.entry.polynomial β → (α : Element)
           × IsIn s α bound × ((y : Word)
-            → coefficient f y % s.prime ≡ (coefficient (evaluation s α) y + coefficient kept
-              y) % s.prime)
+            → coefficient f y % s.prime ≡ (coefficient (evaluation s α) y + coefficient kept y)
+            % s.prime)
       join (α, lies, e) (β, label) =
           let r : IsIn s (α ++ scale c (element_times v.left β v.right)) bound
-          × ((y : Word) → coefficient f y % s.prime
-            ≡ (coefficient (evaluation s (α ++ scale c (element_times v.left β v.right)))
-              y + coefficient kept y) % s.prime) =
-          join_multiple f kept w v chosen.allowed c α β lies e label in
+              × ((y : Word) → coefficient f y % s.prime
+                ≡ (coefficient (evaluation s (α ++ scale c (element_times v.left β v.right))) y
+                  + coefficient kept y) % s.prime) =
+              join_multiple f kept w v chosen.allowed c α β lies e label in
           (α ++ scale c (element_times v.left β v.right), r.0, r.1)
   representation (Reduction.keep {f = f} {kept = kept} w d any c q rest) =
       join (representation rest)
@@ -216,20 +216,20 @@ module _ (s : Setting) (field : IsField s.prime) (state : State) (sound : IsSoun
             y % s.prime ≡ (coefficient (evaluation s α) y + coefficient kept y) % s.prime)
           → (α : Element) × IsIn s α bound
           × ((y : Word) → coefficient f y % s.prime
-            ≡ (coefficient (evaluation s α) y + coefficient
-              (record { coefficient = c; key = w } ∷ kept) y) % s.prime)
+            ≡ (coefficient (evaluation s α) y
+              + coefficient (record { coefficient = c; key = w } ∷ kept) y) % s.prime)
       join (α, lies, e) =
           (α, lies, λ y. put_back s.prime (coefficient f y) 1
             (coefficient (record { coefficient = c; key = w } ∷ []) y)
             (coefficient (record { coefficient = c; key = w } ∷ []) y) positive refl
-            ∙ (sum_mod s.prime (coefficient f y + (s.prime - 1) * 1 * coefficient
-                (record { coefficient = c; key = w } ∷ []) y)
+            ∙ (sum_mod s.prime (coefficient f y + (s.prime - 1) * 1
+                * coefficient (record { coefficient = c; key = w } ∷ []) y)
               (coefficient (evaluation s α) y + coefficient kept y)
               (1 * coefficient (record { coefficient = c; key = w } ∷ []) y)
               (1 * coefficient (record { coefficient = c; key = w } ∷ []) y)
               (ap (λ n. n % s.prime) (sym (coefficient_polynomial_minus s f 1
-                  (record { coefficient = c; key = w } ∷ []) y)) ∙ e y) refl ∙ ap (λ n. n % s.prime)
-              (omega arith)))
+                  (record { coefficient = c; key = w } ∷ []) y)) ∙ e y) refl
+              ∙ ap (λ n. n % s.prime) (omega arith)))
 
   -- and the labels of the multiples that were subtracted sum up to one
   pub represents : (labels : List Element)
@@ -238,33 +238,33 @@ module _ (s : Setting) (field : IsField s.prime) (state : State) (sound : IsSoun
       → {f kept : Polynomial} {steps : List Step} → Reduction s state.entries bound f kept steps
       → IsIn s (step_multiples labels steps) bound
       × ((y : Word) → coefficient f y % s.prime
-        ≡ (coefficient (evaluation s (step_multiples labels steps)) y + coefficient kept
-          y) % s.prime)
+        ≡ (coefficient (evaluation s (step_multiples labels steps)) y + coefficient kept y)
+        % s.prime)
   represents labels labelled (Reduction.finished {f = f} n) =
       (λ σ nz. absurd (nz (zero_number s.prime)), λ y. n y ∙ sym (zero_number s.prime))
   represents labels labelled (Reduction.subtract {f = f} {kept = kept} {steps = steps} w d v chosen
         c small q rest) =
       let t : IsIn s (step_multiples labels steps) bound
-      × ((y : Word) → coefficient (minus s.prime f c (multiple_at s state.entries w v)) y % s.prime
-        ≡ (coefficient (evaluation s (step_multiples labels steps)) y + coefficient kept
-          y) % s.prime) =
-      represents labels labelled rest in join_multiple f kept w v chosen.allowed c
-      (step_multiples labels steps) (label_at labels (v.listed.0 + 1)) t.0 t.1
-      (labelled v.entry v.listed)
-  represents labels labelled (Reduction.keep {f = f} {kept = kept} {steps = steps} w d any c q
-        rest) = let t : IsIn s (step_multiples labels steps) bound
-      × ((y : Word) → coefficient (minus s.prime f 1 (record { coefficient = c; key = w } ∷ []))
-        y % s.prime ≡ (coefficient (evaluation s (step_multiples labels steps)) y + coefficient kept
+          × ((y : Word) → coefficient (minus s.prime f c (multiple_at s state.entries w v)) y
+            % s.prime ≡ (coefficient (evaluation s (step_multiples labels steps)) y
+              + coefficient kept y) % s.prime) =
+          represents labels labelled rest in
+      join_multiple f kept w v chosen.allowed c (step_multiples labels steps)
+      (label_at labels (v.listed.0 + 1)) t.0 t.1 (labelled v.entry v.listed)
+  represents labels labelled (Reduction.keep {f = f} {kept = kept} {steps = steps} w d any c q rest)
+      = let t : IsIn s (step_multiples labels steps) bound
+      × ((y : Word) → coefficient (minus s.prime f 1 (record { coefficient = c; key = w } ∷ [])) y
+        % s.prime ≡ (coefficient (evaluation s (step_multiples labels steps)) y + coefficient kept
           y) % s.prime) =
       represents labels labelled rest in
       (t.0, λ y. put_back s.prime (coefficient f y) 1
         (coefficient (record { coefficient = c; key = w } ∷ []) y)
         (coefficient (record { coefficient = c; key = w } ∷ []) y) positive refl
-        ∙ (sum_mod s.prime (coefficient f y + (s.prime - 1) * 1 * coefficient
-            (record { coefficient = c; key = w } ∷ []) y)
+        ∙ (sum_mod s.prime (coefficient f y + (s.prime - 1) * 1
+            * coefficient (record { coefficient = c; key = w } ∷ []) y)
           (coefficient (evaluation s (step_multiples labels steps)) y + coefficient kept y)
           (1 * coefficient (record { coefficient = c; key = w } ∷ []) y)
           (1 * coefficient (record { coefficient = c; key = w } ∷ []) y)
           (ap (λ n. n % s.prime) (sym (coefficient_polynomial_minus s f 1
-              (record { coefficient = c; key = w } ∷ []) y)) ∙ t.1 y) refl ∙ ap (λ n. n % s.prime)
-          (omega arith)))
+              (record { coefficient = c; key = w } ∷ []) y)) ∙ t.1 y) refl
+          ∙ ap (λ n. n % s.prime) (omega arith)))

@@ -46,8 +46,8 @@ module _ (P : NamedProblem) (is : IsProblem P) (prime : IsPrime P.problem.settin
     entry_in : (e : Entry) → Contains state.entries e → IsMonomialIn P.alphabet e.signature
         × AreWordsIn P.alphabet e.polynomial
     entry_in e k =
-        (monomial_in e.signature ends, polynomial_in P.alphabet P.problem.setting e.polynomial
-          usable.normal words)
+        (monomial_in e.signature ends,
+          polynomial_in P.alphabet P.problem.setting e.polynomial usable.normal words)
       where
         es : SameEntries state.entries r.run.entries
         es = same_entries state r.run same
@@ -107,7 +107,7 @@ module _ (P : NamedProblem) (is : IsProblem P) (prime : IsPrime P.problem.settin
             (moved_candidate P.problem state r.run same τ c));
     }
 
-  pub complete : length (monomials_within P.problem.setting P.problem.bound
-        letters) ≤ P.problem.steps → (n : ℕ) (state : State) (ending : End)
-      → IsEndOf P.problem n state ending → ending ≡ End.complete
+  pub complete : length (monomials_within P.problem.setting P.problem.bound letters)
+      ≤ P.problem.steps → (n : ℕ) (state : State) (ending : End) → IsEndOf P.problem n state ending
+      → ending ≡ End.complete
   complete h n state ending e = enough_steps P.problem field letters inputs h e.ends

@@ -14,9 +14,8 @@ use Rattle.std.proofs.Math.Nat.{mod-lt}
 use Rattle.std.proofs.lemmas.List.Elements.{All-from_recursion}
 use Rattle.std.specs.List.{AllByRecursion}
 
-module _ (s : Setting) (field : IsField s.prime) (entries : List Entry)
-    (nonzero : (e : Entry) → Contains entries e → ¬ IsZeroPolynomial s e.polynomial)
-    (set : Monomial → Type 0) where
+module _ (s : Setting) (field : IsField s.prime) (entries : List Entry) (nonzero : (e : Entry)
+      → Contains entries e → ¬ IsZeroPolynomial s e.polynomial) (set : Monomial → Type 0) where
   -- in normal form, with the residues listed by recursion
   Kept : Polynomial → Type 0
   Kept f = IsDescending f × AllByRecursion (λ t. t.coefficient < s.prime) f
@@ -67,4 +66,4 @@ module _ (s : Setting) (field : IsField s.prime) (entries : List Entry)
   unfolding Kept
   kept_normal {kept = kept} r =
       let k : Kept kept =
-      kept_is r in (k.0, All-from_recursion (λ t. t.coefficient < s.prime) kept k.1)
+          kept_is r in (k.0, All-from_recursion (λ t. t.coefficient < s.prime) kept k.1)

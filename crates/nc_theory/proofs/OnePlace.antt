@@ -10,5 +10,5 @@ pub one_place : (v w x y a b : Word) → x ++ (v ++ y) ≡ w → a ++ (v ++ b) �
 one_place v w x y a b e d n =
     let left : x ≡ a = fronts_same x (v ++ y) a (v ++ b) (e ∙ sym d) n in
     (left, append_cancel_left v y b
-          (append_cancel_left a (v ++ y) (v ++ b)
-            (ap (λ z. z ++ (v ++ y)) (sym left) ∙ (e ∙ sym d))))
+          (append_cancel_left a (v ++ y) (v ++ b) (ap (λ z. z ++ (v ++ y)) (sym left)
+              ∙ (e ∙ sym d))))

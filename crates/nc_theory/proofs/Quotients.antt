@@ -25,8 +25,9 @@ pub multiple_fits : (s : Setting) (e : Entry) (τ : Monomial) (u v l : Word) →
     → word_weight u + word_weight l + word_weight v ≤ 200000
 multiple_fits s e τ u v l usable limit spells lead =
     omega (arith, limit.limited, ap (degree s) spells,
-      degree-times (generator_weight s) u v e.signature, usable.light (leading s.prime e.polynomial)
-      (usable_lead s e usable).nonzero, ap word_weight lead)
+      degree-times (generator_weight s) u v e.signature,
+      usable.light (leading s.prime e.polynomial) (usable_lead s e usable).nonzero,
+      ap word_weight lead)
 
 module _ (s : Setting) (entries : List Entry) (τ : Monomial) where
   -- the multiple of an entry that is read
@@ -111,8 +112,9 @@ module _ (s : Setting) (entries : List Entry) (τ : Monomial) where
         pick : (c : Bool) → is_lt (compare_words b.word a.word) ≡ c
             → IsBestIn s entries new (cond c (Some b) (Some a))
         pick true i =
-            (q.0, x.here b.word q.0 q.1 q.2, λ v e m. newer (word_less_sound b.word a.word i) v e m
-              (x.either v e m), q.3, q.4, q.5)
+            (q.0, x.here b.word q.0 q.1 q.2,
+              λ v e m. newer (word_less_sound b.word a.word i) v e m (x.either v e m), q.3, q.4,
+              q.5)
         pick false i =
             (p.0, x.more a.word p.0 p.1, λ v e m. older
               (λ l. false≢true (sym i ∙ word_less_complete b.word a.word l)) v e m (x.either v e m),

@@ -70,9 +70,9 @@ module _ (s : NamedSetting) (setting : IsSetting s) (prime_field : IsField s.set
     some = λ i. alive e k (subst (IsZeroPolynomial P.setting) (sym i)
           (λ w. zero_number P.setting.prime));
     letters = λ w m. letters w (over.words e k w m);
-    light = (let l : (α : Element) × IsLabelled P.setting e.signature e.polynomial
-          α = (invariant P field run).sound.entries e k in
-          labelled_limited P.setting e.signature e.polynomial l.0 l.1);
+    light = (let l : (α : Element)
+          × IsLabelled P.setting e.signature e.polynomial α = (invariant P field run).sound.entries
+          e k in labelled_limited P.setting e.signature e.polynomial l.0 l.1);
   }
 
   listed : (k : ℕ) (e : Entry) → k < length state.entries
@@ -96,8 +96,8 @@ module _ (s : NamedSetting) (setting : IsSetting s) (prime_field : IsField s.set
   pub entry_signed : (e : Entry) → Contains state.entries e
       → IsUsableSignature P.setting e.signature
   entry_signed e k =
-      signature_usable e.signature ((invariant P field run).within e k)
-      (over.left e k, over.right e k)
+      signature_usable e.signature ((invariant P field run).within e k) (over.left e k,
+        over.right e k)
 
   pub syzygy_signed : (h : Syzygy) → Contains state.syzygies h → IsWithin P h.signature
       × IsUsableSignature P.setting h.signature

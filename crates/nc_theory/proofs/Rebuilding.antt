@@ -44,8 +44,8 @@ from_not_below s τ e u v f l = go (at_most_multiple s u v e.signature) f
         (monomial_laws (generator_weight s)).irrefl τ
         ((monomial_laws (generator_weight s)).trans τ e.signature τ m (under o))
 
-module _ (s : Setting) (first rest : List Entry) (τ : Monomial)
-    (others : (e : Entry) → Contains rest e → IsAtLeast s τ e) where
+module _ (s : Setting) (first rest : List Entry) (τ : Monomial) (others : (e : Entry)
+      → Contains rest e → IsAtLeast s τ e) where
   -- a place of one of the first entries is one among all
   abbrev in_all : (w : Word) → Divisor s first w → Divisor s (first ++ rest) w
   in_all w d =
@@ -76,8 +76,9 @@ module _ (s : Setting) (first rest : List Entry) (τ : Monomial)
       (λ r. record { divisor = in_first w r.divisor r.below; below = r.below },
         λ r. record { divisor = in_all w r.divisor; below = r.below })
 
-  chosen_in_all : (w : Word) (d : Divisor s first w) → IsChosenDivisor s first (λ σ. IsLess s σ τ) w
-      d → IsChosenDivisor s (first ++ rest) (λ σ. IsLess s σ τ) w (in_all w d)
+  chosen_in_all : (w : Word) (d : Divisor s first w)
+      → IsChosenDivisor s first (λ σ. IsLess s σ τ) w d
+      → IsChosenDivisor s (first ++ rest) (λ σ. IsLess s σ τ) w (in_all w d)
   chosen_in_all w d chosen =
       record { allowed = chosen.allowed; least = λ e a. chosen.least (in_first w e a) a }
 
@@ -142,9 +143,8 @@ module _ (s : Setting) (σ : Monomial) where
         (λ z c. low z (suc c.0, omega (arith, c.1), c.2)) high
         (λ z c. low' z (suc c.0, omega (arith, c.1), c.2)) high')
 
-module _ (s : Setting) (field : IsField s.prime) (entries : List Entry)
-    (alive : (e : Entry) → Contains entries e → ¬ IsZeroPolynomial s e.polynomial) (σ : Monomial)
-    where
+module _ (s : Setting) (field : IsField s.prime) (entries : List Entry) (alive : (e : Entry)
+      → Contains entries e → ¬ IsZeroPolynomial s e.polynomial) (σ : Monomial) where
   pub rebuilds_once : (t t' : Trace) (f f' : Polynomial) → Rebuilds s entries σ t f
       → Rebuilds s entries σ t' f' → (t ≡ t') × (f ≡ f')
   rebuilds_once t t' f f' r r' =
@@ -225,8 +225,9 @@ module _ (P : Problem) (field : IsField P.setting.prime) (state : State) (last :
   still h c = inr (below' h c)
 
   now : {f result : Polynomial} {start : Start} {steps : List Step}
-      → Starts P.setting state.entries τ f start → ReductionAt P.setting state.entries τ f result
-      steps → Rebuilds P.setting state.entries τ (record { start = start; steps = steps }) result
+      → Starts P.setting state.entries τ f start
+      → ReductionAt P.setting state.entries τ f result steps
+      → Rebuilds P.setting state.entries τ (record { start = start; steps = steps }) result
   now {f} starts reduction =
       record { first = state.entries;
         rest = []; splits = sym (append-nil state.entries);

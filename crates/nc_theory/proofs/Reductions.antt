@@ -30,9 +30,8 @@ pub from_up : (w : Word) → OnUp (From w)
 from_up w x y (inl e) l = inr (subst (λ z. IsWordLess z y) e l)
 from_up w x y (inr h) l = inr (word_trans w x y h l)
 
-module _ (s : Setting) (field : IsField s.prime) (entries : List Entry)
-    (nonzero : (e : Entry) → Contains entries e → ¬ IsZeroPolynomial s e.polynomial)
-    (set : Monomial → Type 0) where
+module _ (s : Setting) (field : IsField s.prime) (entries : List Entry) (nonzero : (e : Entry)
+      → Contains entries e → ¬ IsZeroPolynomial s e.polynomial) (set : Monomial → Type 0) where
   pub multiple_leads_at : (w : Word) (d : Divisor s entries w)
       → IsLeadingWord s (multiple_at s entries w d) w
   multiple_leads_at w d =
@@ -91,8 +90,8 @@ module _ (s : Setting) (field : IsField s.prime) (entries : List Entry)
           (leading s.prime v.entry.polynomial))) ∙ q
 
   pub keep_whole : (f : Polynomial) (w : Word) (c : ℕ) → c ≡ coefficient f w % s.prime
-      → 1 * coefficient (record { coefficient = c; key = w } ∷ []) w % s.prime ≡ coefficient f
-      w % s.prime
+      → 1 * coefficient (record { coefficient = c; key = w } ∷ []) w % s.prime ≡ coefficient f w
+      % s.prime
   keep_whole f w c e =
       ap (λ n. n % s.prime) (omega (arith, single_at c w, e)) ∙ mod-mod (coefficient f w) s.prime
 

@@ -161,5 +161,5 @@ pub usable_lead : (s : Setting) (e : Entry) → IsUsable s e
     → IsLeadingWord s e.polynomial (leading s.prime e.polynomial)
 usable_lead s e u =
     lead_leads s.prime e.polynomial
-    (usable_nonzero s (e ∷ []) (All-from_recursion (IsUsable s) (e ∷ []) (u, tt)) e
-      (0, omega arith, refl))
+    (usable_nonzero s (e ∷ []) (All-from_recursion (IsUsable s) (e ∷ []) (u, tt)) e (0, omega arith,
+        refl))

@@ -117,8 +117,9 @@ module _ (P : NamedProblem) (is : IsProblem P) (prime : IsPrime P.problem.settin
   counted : n ≡ state.covered + state.settled + length state.entries + length state.syzygies
   counted =
       omega (arith, counts P.problem r.runs, ap (λ (t : State). t.covered) r.stands,
-        ap (λ (t : State). t.settled) r.stands, same_length untraced_entry state.entries
-        r.run.entries es, same_length untraced_syzygy state.syzygies r.run.syzygies hs)
+        ap (λ (t : State). t.settled) r.stands,
+        same_length untraced_entry state.entries r.run.entries es,
+        same_length untraced_syzygy state.syzygies r.run.syzygies hs)
 
   pub facts : SnapshotFacts P.problem n state
   facts = record { usable = all_usable;

@@ -46,9 +46,9 @@ front_or_later xs ys x k = go (nat_order k.0 (length xs))
     go (inr (inl e)) = inr (later (omega (arith, e)))
     go (inr (inr l)) = inr (later (omega arith))
 
-module _ (s : Setting) (field : IsField s.prime) (old : State)
-    (nonzero : (e : Entry) → Contains old.entries e → ¬ IsZeroPolynomial s e.polynomial)
-    (es : List Entry) (hs : List Syzygy) (covered settled : ℕ) where
+module _ (s : Setting) (field : IsField s.prime) (old : State) (nonzero : (e : Entry)
+      → Contains old.entries e → ¬ IsZeroPolynomial s e.polynomial) (es : List Entry)
+    (hs : List Syzygy) (covered settled : ℕ) where
   abbrev pub now : State
   now = extended old es hs covered settled
 

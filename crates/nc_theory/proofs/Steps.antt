@@ -30,10 +30,10 @@ use Rattle.std.proofs.lemmas.Bool.{false≢true}
 use Rattle.std.proofs.lemmas.List.Elements.{Contains-push_cases}
 use Rattle.std.specs.Ordering.{MatchOrdering, is_le}
 
-module _ (s : Setting) (letters : List Letter)
-    (inputs : (i : ℕ) → WordsAre s (IsOver letters) (generator s i)) (entries : List Entry)
-    (alive : (e : Entry) → Contains entries e → ¬ IsZeroPolynomial s e.polynomial)
-    (over : AreOver s letters entries) where
+module _ (s : Setting) (letters : List Letter) (inputs : (i : ℕ)
+      → WordsAre s (IsOver letters) (generator s i)) (entries : List Entry) (alive : (e : Entry)
+      → Contains entries e → ¬ IsZeroPolynomial s e.polynomial) (over : AreOver s letters entries)
+    where
   lead_over : (e : Entry) → Contains entries e → IsOver letters (leading s.prime e.polynomial)
   lead_over e k =
       over.words e k (leading s.prime e.polynomial)
@@ -146,15 +146,15 @@ module _ (P : Problem) (A : Monomial → Type 0)
           push old (record { signature = τ; trace = t }) (each n state last run τ next.candidate)
           (Contains-push_cases state.syzygies (record { signature = τ; trace = t }) h d)
 
-module _ (P : Problem) (field : IsField P.setting.prime) (letters : List Letter)
-    (inputs : (i : ℕ) → WordsAre P.setting (IsOver letters) (generator P.setting i)) where
+module _ (P : Problem) (field : IsField P.setting.prime) (letters : List Letter) (inputs : (i : ℕ)
+      → WordsAre P.setting (IsOver letters) (generator P.setting i)) where
   pub candidate_over : (state : State)
       → ((e : Entry) → Contains state.entries e → ¬ IsZeroPolynomial P.setting e.polynomial)
       → AreOver P.setting letters state.entries → (σ : Monomial) → IsCandidate P state σ
       → IsOver letters σ.left × IsOver letters σ.right
   candidate_over state alive over σ (within, inl (i, e)) =
-      (subst (λ ρ. IsOver letters ρ.left) (sym e) tt, subst (λ ρ. IsOver letters ρ.right) (sym e)
-        tt)
+      (subst (λ ρ. IsOver letters ρ.left) (sym e) tt,
+        subst (λ ρ. IsOver letters ρ.right) (sym e) tt)
   candidate_over state alive over σ (within, inr (w, amb)) = (
     subst (λ ρ. IsOver letters ρ.left) amb.signed
         (over-append letters amb.high.left amb.high.entry.signature.left
@@ -303,7 +303,7 @@ module _ (P : Problem) (field : IsField P.setting.prime) (letters : List Letter)
       → (σ : Monomial) → IsCandidate P state σ → Among σ listed
   candidate_listed {state = state} run σ c =
       let o : IsOver letters σ.left × IsOver letters σ.right =
-      candidate_over state (invariant P field run).sound.nonzero (run_over run) σ c in
+          candidate_over state (invariant P field run).sound.nonzero (run_over run) σ c in
       in_within P.setting P.bound letters σ c.0 o.0 o.1
 
   steps_reached : {n : ℕ} {state : State} {last : Option Monomial} → SequentialRun P n state last

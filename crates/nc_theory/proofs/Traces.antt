@@ -27,8 +27,8 @@ use Rattle.std.proofs.lemmas.List.{get_or_append_left, get_or_at}
 -- ---- the list of labels
 
 labels_push : (p : ℕ) (ls : List Element) (es : List Entry) (e : Entry)
-    → labels_onto p ls (es ++ (e ∷ [])) ≡ labels_onto p ls
-    es ++ (trace_label p (labels_onto p ls es) e.trace ∷ [])
+    → labels_onto p ls (es ++ (e ∷ [])) ≡ labels_onto p ls es
+    ++ (trace_label p (labels_onto p ls es) e.trace ∷ [])
 labels_push p ls [] e = refl
 labels_push p ls (x ∷ es) e = labels_push p (ls ++ (trace_label p ls x.trace ∷ [])) es e
 
@@ -93,8 +93,9 @@ module _ (s : Setting) (field : IsField s.prime) (entries : List Entry) (ls : Li
       → Carries s τ kept old (less_steps s.prime ls α steps)
   carry_steps (Reduction.finished {f = f} n) old α carries =
       record { lies = carries.lies; leads = carries.leads;
-        one = carries.one; value = λ y. carries.value y ∙ sum_mod s.prime (coefficient f y) 0
-        (old y) (old y) (n y ∙ sym (zero_number s.prime)) refl }
+        one = carries.one; value = λ y. carries.value y
+        ∙ sum_mod s.prime (coefficient f y) 0 (old y) (old y) (n y ∙ sym (zero_number s.prime)) refl
+        }
   carry_steps (Reduction.subtract {f = f} w d v chosen c small q rest) old α carries =
       carry_steps rest old (minus s.prime α c
         (element_times v.left (label_at ls (v.listed.0 + 1)) v.right))
@@ -105,8 +106,8 @@ module _ (s : Setting) (field : IsField s.prime) (entries : List Entry) (ls : Li
       join (carry_steps rest (λ y. coefficient (record { coefficient = c; key = w } ∷ []) y + old y)
         α (record { lies = carries.lies;
             leads = carries.leads; one = carries.one;
-            value = λ y. carries.value y ∙ (sym
-              (back_and_forth s field entries (λ e k. (label_at ls (k.0 + 1), labelled e k)) τ
+            value = λ y. carries.value y ∙
+            (sym (back_and_forth s field entries (λ e k. (label_at ls (k.0 + 1), labelled e k)) τ
               s.prime (coefficient f y) (old y)
               (coefficient (record { coefficient = c; key = w } ∷ []) y)
               (omega (arith, field.above_one)))
@@ -114,8 +115,8 @@ module _ (s : Setting) (field : IsField s.prime) (entries : List Entry) (ls : Li
               % s.prime) (sym (coefficient_polynomial_minus s f 1
               (record { coefficient = c; key = w } ∷ []) y))) }))
     where
-      join : Carries s τ kept (λ y. coefficient (record { coefficient = c; key = w } ∷ []) y + old
-            y) (less_steps s.prime ls α steps)
+      join : Carries s τ kept (λ y. coefficient (record { coefficient = c; key = w } ∷ []) y
+            + old y) (less_steps s.prime ls α steps)
           → Carries s τ (record { coefficient = c; key = w } ∷ kept) old
           (less_steps s.prime ls α steps)
       join k =
@@ -229,8 +230,8 @@ module _ (s : Setting) (field : IsField s.prime) (state : State) (old : LabelInv
             ∷ []) e k);
     syzygies =
         λ h k. subst (IsLabelled s h.signature [])
-        (sym (ap (λ l. trace_label s.prime l h.trace) pushed ∙ trace_kept s.prime
-            (labels_of s.prime state.entries)
+        (sym (ap (λ l. trace_label s.prime l h.trace) pushed
+            ∙ trace_kept s.prime (labels_of s.prime state.entries)
             (less_steps s.prime (labels_of s.prime state.entries)
               (start_label (labels_of s.prime state.entries) start) steps) h.trace
             (subst (λ n. StartUpTo n h.trace.start) (sym labels_are) (old.names h k).0)
@@ -246,9 +247,9 @@ module _ (s : Setting) (field : IsField s.prime) (state : State) (old : LabelInv
           h.trace.steps (old.names h k).1);
   }
     where
-      longer : length state.entries ≤ length
-          (state.entries ++ (record { signature = τ;
-                polynomial = g; trace = record { start = start; steps = steps } } ∷ []))
+      longer : length state.entries ≤ length (state.entries
+            ++ (record { signature = τ; polynomial = g;
+                trace = record { start = start; steps = steps } } ∷ []))
       longer =
           omega (arith, length-append state.entries
             (record { signature = τ; polynomial = g;

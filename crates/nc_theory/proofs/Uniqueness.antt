@@ -18,9 +18,9 @@ use Rattle.nc_theory.specs.Runs.{SequentialRun}
 use Rattle.nc_theory.specs.States.{Entry, State}
 use Rattle.std.proofs.Common.{◌≡◌, ℕ, ◌-◌, ◌*◌, ◌%◌, ◌<◌, ◌⊎◌, sym, ap, ◌∙◌, subst, inl, inr, arith, Contains, Option}
 
-module _ (s : Setting) (field : IsField s.prime) (state : State) (τ : Monomial)
-    (bound : Monomial → Type 0) (basis : IsBasisBelow s state bound)
-    (down : (σ : Monomial) → IsLess s σ τ → HasGenerator s σ → bound σ) where
+module _ (s : Setting) (field : IsField s.prime) (state : State) (τ : Monomial) (bound : Monomial
+      → Type 0) (basis : IsBasisBelow s state bound) (down : (σ : Monomial) → IsLess s σ τ
+      → HasGenerator s σ → bound σ) where
   positive : 0 < s.prime
   positive = omega (arith, field.above_one)
 
@@ -42,8 +42,8 @@ module _ (s : Setting) (field : IsField s.prime) (state : State) (τ : Monomial)
             ((s.prime - 1) * 1 * coefficient (evaluation s c'.label) y)
             ((s.prime - 1) * 1 * coefficient f' y) (c.labelled.evaluates.at y)
             (times_mod s.prime ((s.prime - 1) * 1) (coefficient (evaluation s c'.label) y)
-              (coefficient f' y) (c'.labelled.evaluates.at y)) ∙ ap (λ n. n % s.prime)
-            (sym (coefficient_polynomial_minus s f 1 f' y)))
+              (coefficient f' y) (c'.labelled.evaluates.at y))
+            ∙ ap (λ n. n % s.prime) (sym (coefficient_polynomial_minus s f 1 f' y)))
 
       clash : RegularDivisor s state.entries τ w → ⊥
       clash r = both (zero_dec s.prime (coefficient f w)) (zero_dec s.prime (coefficient f' w))

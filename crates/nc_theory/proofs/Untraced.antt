@@ -49,8 +49,8 @@ module _ (s : Setting) (es es' : List Entry) (same : SameEntries es es') where
   abbrev pub other : (w : Word) → Divisor s es w → Entry
   other w d = in_place untraced_entry es es' same d.entry d.listed
 
-  pub other_alike : (w : Word) (d : Divisor s es w) → untraced_entry d.entry ≡ untraced_entry
-      (other w d)
+  pub other_alike : (w : Word) (d : Divisor s es w)
+      → untraced_entry d.entry ≡ untraced_entry (other w d)
   other_alike w d = in_place_alike untraced_entry es es' same d.entry d.listed
 
   abbrev pub moved : (w : Word) → Divisor s es w → Divisor s es' w
@@ -84,12 +84,12 @@ module _ (s : Setting) (es es' : List Entry) (same : SameEntries es es') where
   abbrev pub back : (w : Word) → Divisor s es' w → Divisor s es w
   back = moved s es' es (sym same)
 
-  back_signature : (w : Word) (d : Divisor s es' w) → signature_at s es' w d ≡ signature_at s es w
-      (back w d)
+  back_signature : (w : Word) (d : Divisor s es' w)
+      → signature_at s es' w d ≡ signature_at s es w (back w d)
   back_signature w d = same_signature s es' es w d (back w d) (moved_same s es' es (sym same) w d)
 
-  pub moved_signature : (w : Word) (d : Divisor s es w) → signature_at s es w d ≡ signature_at s es'
-      w (moved s es es' same w d)
+  pub moved_signature : (w : Word) (d : Divisor s es w)
+      → signature_at s es w d ≡ signature_at s es' w (moved s es es' same w d)
   moved_signature w d =
       same_signature s es es' w d (moved s es es' same w d) (moved_same s es es' same w d)
 

@@ -76,9 +76,8 @@ module _ (s : Setting) (state state' : State) (same : SameStates state state') w
 
   pub moved_canonical : AreCanonical s state → AreCanonical s state'
   moved_canonical h e k =
-      subst (λ (x : Entry). Is x) (sym
-        (in_place_alike untraced_entry state'.entries state.entries (sym es) e k))
-      (here (h d listed))
+      subst (λ (x : Entry). Is x) (sym (in_place_alike untraced_entry state'.entries state.entries
+          (sym es) e k)) (here (h d listed))
     where
       Is : Entry → Type 0
       Is x = IsCanonical s state'.entries x.signature x.polynomial

@@ -90,10 +90,11 @@ insert_ascends s n (m ∷ ns) other h =
           (cond b (n ∷ m ∷ ns) (m ∷ insert_node (generator_weight s) n ns)))
     go true e k =
         let l : IsLess s n.signature m.signature =
-        less_from_compare (compare_monomials (generator_weight s))
-        (IsMonomialLess (generator_weight s)) (monomials_compare (generator_weight s)) n.signature
-        m.signature (less_from_test (compare_monomials (generator_weight s) n.signature m.signature)
-          e) in ((l, each_map (IsLess s m.signature) (IsLess s n.signature) (λ τ k. below τ l k)
+            less_from_compare (compare_monomials (generator_weight s))
+            (IsMonomialLess (generator_weight s)) (monomials_compare (generator_weight s))
+            n.signature m.signature (less_from_test
+              (compare_monomials (generator_weight s) n.signature m.signature) e) in
+        ((l, each_map (IsLess s m.signature) (IsLess s n.signature) (λ τ k. below τ l k)
             (signatures ns) h.0), h)
     go false e k =
         (each_more (IsLess s m.signature)
@@ -123,7 +124,7 @@ node_at_generation i c (n ∷ ns) e = go (nat_eq n.index i) refl e (node_at_gene
     go true d g f = (n, eqb-true n.index i d, sym g, Inserts.here, λ w. Inserts.here, refl)
     go false d g f =
         let t : At i c ns =
-        f g in (t.0, t.1, t.2, Inserts.later t.3, λ w. Inserts.later (t.4 w), t.5)
+            f g in (t.0, t.1, t.2, Inserts.later t.3, λ w. Inserts.later (t.4 w), t.5)
 
 work_signatures : (i : ℕ) (w : Work) (window : List Node)
     → signatures (with_work i w window) ≡ signatures window
@@ -135,8 +136,8 @@ work_signatures i w (n ∷ ns) = go (nat_eq n.index i) (work_signatures i w ns)
     go true e = refl
     go false e = ap (λ xs. n.signature ∷ xs) e
 
-work_indices : (i : ℕ) (w : Work) (window : List Node) → indices (with_work i w window) ≡ indices
-    window
+work_indices : (i : ℕ) (w : Work) (window : List Node)
+    → indices (with_work i w window) ≡ indices window
 work_indices i w [] = refl
 work_indices i w (n ∷ ns) = go (nat_eq n.index i) (work_indices i w ns)
   where
@@ -170,11 +171,12 @@ found_out (m ∷ ns) τ n e h = go (same_monomial m.signature τ) refl e (λ k. 
         → (n.signature ≡ τ) × Inserts n (without_node n.index (m ∷ ns)) (m ∷ ns)
     go true d i f =
         let same : m ≡ n =
-        some_same m n i in (ap (λ x. x.signature) (sym same) ∙ (monomial_laws (λ j. j)).same_eq
-          m.signature τ d, first n same (nat_eq m.index n.index) refl)
+            some_same m n i in (ap (λ x. x.signature) (sym same)
+              ∙ (monomial_laws (λ j. j)).same_eq m.signature τ d,
+              first n same (nat_eq m.index n.index) refl)
     go false d i f =
         let t : (n.signature ≡ τ) × Inserts n (without_node n.index ns) ns =
-        f i in (t.0, behind t.1 (nat_eq m.index n.index) refl)
+            f i in (t.0, behind t.1 (nat_eq m.index n.index) refl)
 
 -- ---- the indices of an open desk
 
@@ -230,7 +232,7 @@ module _ (P : NamedProblem) (capacity : ℕ) where
   holds_later : (a b : ℕ) → a ≤ b → (n : Node) → HoldsLawful a n → HoldsLawful b n
   holds_later a b l n h w e =
       let t : IsLawful w × (w.problem ≡ P) × (w.number ≤ a) × (w.signature ≡ n.signature) =
-      h w e in (t.0, t.1, omega (arith, t.2, l), t.3)
+          h w e in (t.0, t.1, omega (arith, t.2, l), t.3)
 
   record Kept (d : Desk) : Type 0 where
     ascends : Pairs (IsLess P.problem.setting) (signatures d.window)
@@ -263,13 +265,14 @@ module _ (P : NamedProblem) (capacity : ℕ) where
   among_held : (d : Desk) (τ : Monomial) → Among τ (signatures d.window) → IsHeld d τ
   among_held d τ a =
       let t : (n : Node) × Among n d.window × (n.signature ≡ τ) =
-      among_mapped (λ m. m.signature) τ d.window a in (t.0, among_contains t.0 d.window t.1, t.2)
+          among_mapped (λ m. m.signature) τ d.window a in
+      (t.0, among_contains t.0 d.window t.1, t.2)
 
   -- a node is freed: what is left of the window, in a state where what is left waits
   freed : (d : Desk) → Kept d → (n : Node) (rest : List Node) → Inserts n rest d.window
-      → (handled : ℕ) → d.handled ≤ handled → (state : State) (last : Option Monomial)
-      (committed dropped abandoned : ℕ) → AllByRecursion (IsWaiting P.problem state last)
-      (signatures rest) → (i : ℕ) → n.index ≡ i
+      → (handled : ℕ) → d.handled ≤ handled
+      → (state : State) (last : Option Monomial) (committed dropped abandoned : ℕ)
+      → AllByRecursion (IsWaiting P.problem state last) (signatures rest) → (i : ℕ) → n.index ≡ i
       → Kept (record { handled = handled;
           state = state; last = last; window = rest;
           free = i ∷ d.free; claimed = d.claimed;
@@ -305,7 +308,7 @@ module _ (P : NamedProblem) (capacity : ℕ) where
   abandon_keeps d t given answer d' (Abandons.is_gone n) k = k
   abandon_keeps d t given answer d' (Abandons.is_freed g) k =
       let a : At t.index given.0 d.window =
-      node_at_generation t.index given.0 d.window (sym given.1 ∙ g) in
+          node_at_generation t.index given.0 d.window (sym given.1 ∙ g) in
       freed d k a.0 (without_node t.index d.window) a.3 d.handled (le_refl d.handled) d.state d.last
       d.committed d.dropped (d.abandoned + 1)
       (left_waits d k a.0 (without_node t.index d.window) a.3) t.index a.1
@@ -357,8 +360,8 @@ module _ (P : NamedProblem) (capacity : ℕ) where
           held : HoldsLawful d.handled (laid n w)
           held v e =
               subst (λ x. IsLawful x × (x.problem ≡ P) × (x.number ≤ d.handled)
-                × (x.signature ≡ n.signature)) (some_same w v e)
-              (lawful, p, l, sym s ∙ ap (λ x. x.signature) (some_same node n (sym i ∙ found)))
+                × (x.signature ≡ n.signature)) (some_same w v e) (lawful, p, l,
+                sym s ∙ ap (λ x. x.signature) (some_same node n (sym i ∙ found)))
 
           other : (m : Node) → ¬ AreFromOneClaim n m → ¬ AreFromOneClaim (laid n w) m
           other m h (c, i, j) = h (c, claim_kept n w given.0 odd made.0.0 made.0.2 c i, j)
@@ -379,9 +382,8 @@ module _ (P : NamedProblem) (capacity : ℕ) where
         indices_are = IsPermutation-trans (count_from 0 capacity) (i ∷ (others ++ indices d.window))
         (others ++ indices whole) (subst
           (λ xs. IsPermutation (count_from 0 capacity) (xs ++ indices d.window)) free k.indices_are)
-        (adds_permutes moved); claimed = each_more (IsMade (d.claimed + 1)) added
-        (d.claimed, omega arith, refl)
-        (each_map (IsMade d.claimed) (IsMade (d.claimed + 1))
+        (adds_permutes moved); claimed = each_more (IsMade (d.claimed + 1)) added (d.claimed,
+          omega arith, refl) (each_map (IsMade d.claimed) (IsMade (d.claimed + 1))
           (λ m t. (t.0, omega (arith, t.1), t.2)) d.window k.claimed);
         apart = pairs_more (λ n m. ¬ AreFromOneClaim n m) one_claim_back added
         (each_map (IsMade d.claimed) (λ m. ¬ AreFromOneClaim n m) newest d.window k.claimed)
@@ -439,8 +441,8 @@ module _ (P : NamedProblem) (capacity : ℕ) where
         each_from (IsWaiting P.problem (state_after d.state τ o) (Some τ)) (signatures rest)
         (λ σ m. (waiting P.problem field run τ next h σ).1
           (inl (each_at (IsWaiting P.problem d.state d.last) (signatures rest)
-              (left_waits d k n rest a) σ m, λ i. each_at (λ ρ. n.signature ≢ ρ) (signatures rest)
-              others σ m (e ∙ sym i))))
+              (left_waits d k n rest a) σ m,
+              λ i. each_at (λ ρ. n.signature ≢ ρ) (signatures rest) others σ m (e ∙ sym i))))
       where
         others : AllByRecursion (λ ρ. n.signature ≢ ρ) (signatures rest)
         others =
@@ -455,13 +457,13 @@ module _ (P : NamedProblem) (capacity : ℕ) where
     advance_keeps (Advances.no_work f none) run k = k
     advance_keeps (Advances.drops {d = d} f τ n w ready not) run k =
         let t : (n.signature ≡ τ) × Inserts n (without_node n.index d.window) d.window =
-        found_out d.window τ n ready.held (own_apart d k) in
+            found_out d.window τ n ready.held (own_apart d k) in
         freed d k n (without_node n.index d.window) t.1 d.handled (le_refl d.handled) d.state d.last
         d.committed (d.dropped + 1) d.abandoned
         (left_waits d k n (without_node n.index d.window) t.1) n.index refl
     advance_keeps (Advances.commits {d = d} f τ n w ready handles more) run k =
         let t : (n.signature ≡ τ) × Inserts n (without_node n.index d.window) d.window =
-        found_out d.window τ n ready.held (own_apart d k) in
+            found_out d.window τ n ready.held (own_apart d k) in
         advance_keeps more (SequentialRun.handled run τ ready.next w.outcome handles)
         (freed d k n (without_node n.index d.window) t.1 (suc d.handled) (omega arith)
           (state_after d.state τ w.outcome) (Some τ) (d.committed + 1) d.dropped d.abandoned

@@ -49,7 +49,8 @@ ClosureTheorem = (s : Setting) → IsPrime s.prime → (state : State) → IsSou
 abbrev pub LabelLaw : Type 0
 LabelLaw =
     OfEachRun (λ P n state last.
-    ((e : Entry) (k : Contains state.entries e) → IsLabelled P.setting e.signature e.polynomial
+    ((e : Entry) (k : Contains state.entries e)
+          → IsLabelled P.setting e.signature e.polynomial
           (label_at (labels_of P.setting.prime state.entries) (k.0 + 1)))
     × ((h : Syzygy) → Contains state.syzygies h
           → IsLabelled P.setting h.signature []
@@ -103,8 +104,8 @@ RunsAreDetermined =
 abbrev pub MembershipTheorem : Type 0
 MembershipTheorem =
     (P : Problem) → IsPrime P.setting.prime → (n : ℕ) (state : State) → IsEnd P n state End.complete
-    → (f rest : Polynomial) (steps : List Step) → Reduction P.setting state.entries (IsWithin P) f
-    rest steps →
+    → (f rest : Polynomial) (steps : List Step)
+    → Reduction P.setting state.entries (IsWithin P) f rest steps →
     (rest ≡ []) ↔ HasRepresentation P.setting (IsWithin P) f
 
 -- each problem has an end, and one alone
@@ -151,8 +152,8 @@ pub record LimitedAt (s : Setting) (entries : List Entry) (τ : Monomial) : Type
 abbrev pub DegreeLimit : Type 0
 DegreeLimit =
     OfEachRun (λ P n state last.
-    ((e : Entry) → Contains state.entries e → WeighsAtMost P.setting (degree P.setting e.signature)
-          e.polynomial)
+    ((e : Entry) → Contains state.entries e
+          → WeighsAtMost P.setting (degree P.setting e.signature) e.polynomial)
     × ((τ : Monomial) → LimitedAt P.setting state.entries τ))
 
 -- an entry with a signature of at least τ gives no regular divisor at τ, so reduction over all
@@ -170,10 +171,10 @@ FrontLaw =
 abbrev pub RebuildingLaw : Type 0
 RebuildingLaw =
     OfEachRun (λ P n state last.
-    ((e : Entry) → Contains state.entries e → Rebuilds P.setting state.entries e.signature e.trace
-          e.polynomial)
-    × ((h : Syzygy) → Contains state.syzygies h → Rebuilds P.setting state.entries h.signature
-          h.trace [])
+    ((e : Entry) → Contains state.entries e
+          → Rebuilds P.setting state.entries e.signature e.trace e.polynomial)
+    × ((h : Syzygy) → Contains state.syzygies h
+          → Rebuilds P.setting state.entries h.signature h.trace [])
     × ((σ : Monomial) (t t' : Trace) (f f' : Polynomial) → Rebuilds P.setting state.entries σ t f
           → Rebuilds P.setting state.entries σ t' f' → (t ≡ t') × (f ≡ f')))
 

@@ -48,17 +48,17 @@ pub record SameSearches (s : Setting) (state run : State) : Type 0 where
       (d' : Divisor s run.entries w) → IsSameDivisor s state.entries run.entries w d d'
       → IsBestMultiple s state.entries τ w d ↔ IsBestMultiple s run.entries τ w d'
   pub multiples : (τ : Monomial) (w : Word) (m : Multiple s state.entries τ w)
-      → (m' : Multiple s run.entries τ w) × IsSameDivisor s state.entries run.entries w m.divisor
-      m'.divisor
+      → (m' : Multiple s run.entries τ w)
+      × IsSameDivisor s state.entries run.entries w m.divisor m'.divisor
   pub multiples_back : (τ : Monomial) (w : Word) (m' : Multiple s run.entries τ w)
-      → (m : Multiple s state.entries τ w) × IsSameDivisor s state.entries run.entries w m.divisor
-      m'.divisor
+      → (m : Multiple s state.entries τ w)
+      × IsSameDivisor s state.entries run.entries w m.divisor m'.divisor
   pub regular : (τ : Monomial) (w : Word) (r : RegularDivisor s state.entries τ w)
-      → (r' : RegularDivisor s run.entries τ w) × IsSameDivisor s state.entries run.entries w
-      r.divisor r'.divisor
+      → (r' : RegularDivisor s run.entries τ w)
+      × IsSameDivisor s state.entries run.entries w r.divisor r'.divisor
   pub regular_back : (τ : Monomial) (w : Word) (r' : RegularDivisor s run.entries τ w)
-      → (r : RegularDivisor s state.entries τ w) × IsSameDivisor s state.entries run.entries w
-      r.divisor r'.divisor
+      → (r : RegularDivisor s state.entries τ w)
+      × IsSameDivisor s state.entries run.entries w r.divisor r'.divisor
   pub reductions : (τ : Monomial) (f kept : Polynomial) (steps : List Step)
       → ReductionAt s state.entries τ f kept steps ↔ ReductionAt s run.entries τ f kept steps
   pub covered : (τ : Monomial) → Covered s state τ ↔ Covered s run τ
@@ -69,8 +69,8 @@ pub record SameSearches (s : Setting) (state run : State) : Type 0 where
       → NewAmbiguity s state.entries (untraced_entry new) ρ ↔ NewAmbiguity s run.entries new ρ
   pub brings : (τ : Monomial) (o : Outcome) (ρ : Monomial) → BringsAmbiguity s state τ o ρ
       ↔ BringsAmbiguity s run τ o ρ
-  pub after : (τ : Monomial) (o : Outcome) → untraced (state_after state τ o) ≡ untraced
-      (state_after run τ o)
+  pub after : (τ : Monomial) (o : Outcome)
+      → untraced (state_after state τ o) ≡ untraced (state_after run τ o)
   pub bases : (b : Bound) → HasBases s state (IsWithinBound s b)
       ↔ HasBases s run (IsWithinBound s b)
   pub bases_under : (β : Sig) → HasBases s state (IsUnder s β) ↔ HasBases s run (IsUnder s β)
@@ -79,8 +79,9 @@ pub record SameSearches (s : Setting) (state run : State) : Type 0 where
 -- so with what a problem's bound lets in
 pub record SameCandidates (P : Problem) (state run : State) : Type 0 where
   pub chosen : (w : Word) (d : Divisor P.setting state.entries w)
-      (d' : Divisor P.setting run.entries w) → IsSameDivisor P.setting state.entries run.entries w d
-      d' → IsChosenDivisor P.setting state.entries (IsWithin P) w d
+      (d' : Divisor P.setting run.entries w)
+      → IsSameDivisor P.setting state.entries run.entries w d d'
+      → IsChosenDivisor P.setting state.entries (IsWithin P) w d
       ↔ IsChosenDivisor P.setting run.entries (IsWithin P) w d'
   pub reductions : (f kept : Polynomial) (steps : List Step)
       → Reduction P.setting state.entries (IsWithin P) f kept steps

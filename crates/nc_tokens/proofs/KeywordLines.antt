@@ -44,8 +44,8 @@ said keyword line ts n ls h =
     ∙ ap (λ (all : List Token). Line n true all (written (n + 1) ls)) h.says
 
 pub taken : (keyword line : List ℕ) (ts : List Token) (n : ℕ) (ls : List (List ℕ))
-    → IsLineOf keyword ts line → the_line keyword (written n (line ∷ ls)) ≡ Ok
-    (row n ts (written (n + 1) ls))
+    → IsLineOf keyword ts line → the_line keyword (written n (line ∷ ls))
+    ≡ Ok (row n ts (written (n + 1) ls))
 unfolding the_line
 taken keyword line ts n ls h =
     let begun : begins keyword (Name keyword ∷ ts) ≡ true = bytes_same keyword in

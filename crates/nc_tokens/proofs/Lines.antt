@@ -12,22 +12,22 @@ use Rattle.nc_tokens.specs.Lines.{with_byte, lines, content, is_allowed, End, Li
 abbrev pub line_len : List ℕ → ℕ
 line_len bs = prefix_len (λ b. not (eqb b 10)) bs
 
-pub line_split : (bs : List ℕ) → 0 < length bs → lines bs ≡ take (line_len bs) bs ∷ lines
-    (drop 1 (drop (line_len bs) bs))
+pub line_split : (bs : List ℕ) → 0 < length bs
+    → lines bs ≡ take (line_len bs) bs ∷ lines (drop 1 (drop (line_len bs) bs))
 unfolding lines
 line_split [] h = absurd (omega arith)
 line_split (b ∷ []) h = by_byte (eqb b 10) refl
   where
-    by_byte : (t : Bool) → eqb b 10 ≡ t → lines (b ∷ []) ≡ take (line_len (b ∷ [])) (b ∷ []) ∷ lines
-        (drop 1 (drop (line_len (b ∷ [])) (b ∷ [])))
+    by_byte : (t : Bool) → eqb b 10 ≡ t → lines (b ∷ []) ≡ take (line_len (b ∷ [])) (b ∷ [])
+        ∷ lines (drop 1 (drop (line_len (b ∷ [])) (b ∷ [])))
     by_byte true e = rw (e) refl
     by_byte false e = rw (e) refl
 line_split (b ∷ c ∷ bs) h = by_byte (eqb b 10) refl (line_split (c ∷ bs) (omega arith))
   where
-    by_byte : (t : Bool) → eqb b 10 ≡ t → lines (c ∷ bs) ≡ take (line_len (c ∷ bs)) (c ∷ bs) ∷ lines
-        (drop 1 (drop (line_len (c ∷ bs)) (c ∷ bs)))
-        → lines (b ∷ c ∷ bs) ≡ take (line_len (b ∷ c ∷ bs)) (b ∷ c ∷ bs) ∷ lines
-            (drop 1 (drop (line_len (b ∷ c ∷ bs)) (b ∷ c ∷ bs)))
+    by_byte : (t : Bool) → eqb b 10 ≡ t → lines (c ∷ bs) ≡ take (line_len (c ∷ bs)) (c ∷ bs)
+        ∷ lines (drop 1 (drop (line_len (c ∷ bs)) (c ∷ bs)))
+        → lines (b ∷ c ∷ bs) ≡ take (line_len (b ∷ c ∷ bs)) (b ∷ c ∷ bs)
+            ∷ lines (drop 1 (drop (line_len (b ∷ c ∷ bs)) (b ∷ c ∷ bs)))
     by_byte true e again = rw (e) refl
     by_byte false e again =
         let m = line_len (c ∷ bs) in
@@ -49,14 +49,15 @@ pub split_last : (bs line rest : List ℕ) (n : ℕ) → 0 < length bs → n ≡
 split_last bs line rest n some is_n is_line is_rest none =
     let e : rest ≡ [] = nil_from_length rest (eqb-true _ _ none) in
     split_here bs line rest n some is_n is_line is_rest
-        ∙ ap (λ (l : List ℕ). line ∷ lines (drop 1 l)) e ∙ ap (λ (l : List ℕ). line ∷ lines l)
-        (sym e)
+        ∙ ap (λ (l : List ℕ). line ∷ lines (drop 1 l)) e
+        ∙ ap (λ (l : List ℕ). line ∷ lines l) (sym e)
 
 pub split_whole : (bs line rest : List ℕ) (n : ℕ) → 0 < length bs → n ≡ line_len bs
     → line ≡ take n bs → rest ≡ drop n bs
     → lines bs ≡ line ∷ lines (take (length rest - 1) (drop 1 rest))
 split_whole bs line rest n some is_n is_line is_rest =
-    split_here bs line rest n some is_n is_line is_rest ∙ ap (λ (l : List ℕ). line ∷ lines l)
+    split_here bs line rest n some is_n is_line is_rest
+        ∙ ap (λ (l : List ℕ). line ∷ lines l)
         (sym (take_all (length rest - 1) (drop 1 rest) (omega (arith, length-drop 1 rest))))
 
 -- a blank line is passed over

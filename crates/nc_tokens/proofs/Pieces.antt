@@ -20,9 +20,10 @@ unfolding pieces
 skip_blanks [] = refl
 skip_blanks (b ∷ bs) = by_blank (is_blank b) refl (skip_blanks bs)
   where
-    by_blank : (t : Bool) → is_blank b ≡ t → pieces [] (drop (prefix_len is_blank bs) bs) ≡ pieces
-        [] bs → pieces [] (drop (cond (is_blank b) (1 + prefix_len is_blank bs) 0) (b ∷ bs)) ≡ cond
-        (is_blank b) (pieces [] bs) (pieces (b ∷ []) bs)
+    by_blank : (t : Bool) → is_blank b ≡ t
+        → pieces [] (drop (prefix_len is_blank bs) bs) ≡ pieces [] bs
+        → pieces [] (drop (cond (is_blank b) (1 + prefix_len is_blank bs) 0) (b ∷ bs))
+        ≡ cond (is_blank b) (pieces [] bs) (pieces (b ∷ []) bs)
     by_blank true e again = rw (e, (counted (prefix_len is_blank bs) b bs).1) again
     by_blank false e again = rw (e) (rw e refl)
 
@@ -33,8 +34,8 @@ abbrev behind : ℕ → List ℕ → List ℕ
 behind f bs = drop (prefix_len (goes_on (f ∷ [])) bs) bs
 
 -- a piece goes on as long as bytes go on with it
-pub piece_goes : (f : ℕ) (o bs : List ℕ) → pieces (f ∷ o) bs ≡ ((f ∷ o) ++ front_of f bs) ∷ pieces
-    [] (behind f bs)
+pub piece_goes : (f : ℕ) (o bs : List ℕ)
+    → pieces (f ∷ o) bs ≡ ((f ∷ o) ++ front_of f bs) ∷ pieces [] (behind f bs)
 unfolding pieces
 piece_goes f o [] = ap (λ (x : List ℕ). (f ∷ x) ∷ []) (sym (append-nil o))
 piece_goes f o (b ∷ bs) = by_byte (goes_on (f ∷ []) b) refl (piece_goes f (o ++ b ∷ []) bs)
@@ -69,8 +70,8 @@ same_prefix p q same (b ∷ bs) = rw (same b, same_prefix p q same bs) refl
 -- what a count over the whole piece splits off
 pub counted_piece : (p : ℕ → Bool) (f : ℕ) (bs : List ℕ) → same_tests p (goes_on (f ∷ []))
     → p f ≡ true → is_blank f ≡ false
-    → tokens (f ∷ bs) ≡ token_of (take (prefix_len p (f ∷ bs)) (f ∷ bs)) ∷ tokens
-        (drop (prefix_len p (f ∷ bs)) (f ∷ bs))
+    → tokens (f ∷ bs) ≡ token_of (take (prefix_len p (f ∷ bs)) (f ∷ bs))
+        ∷ tokens (drop (prefix_len p (f ∷ bs)) (f ∷ bs))
 counted_piece p f bs same passes nonblank =
     let n = same_prefix p (goes_on (f ∷ [])) same bs in
     let k = counted (prefix_len (goes_on (f ∷ [])) bs) f bs in
@@ -89,7 +90,7 @@ starts (b ∷ bs) f xs e = by_blank (is_blank b) refl (starts bs f xs) e
     by_blank true t again h = again (sym (counted (prefix_len is_blank bs) b bs).1 ∙ (rw t at h))
     by_blank false t again h =
         let same : b ∷ bs ≡ f ∷ xs =
-        rw t at h in let k : b ≡ f = cc in subst (λ (x : ℕ). is_blank x ≡ false) k t
+            rw t at h in let k : b ≡ f = cc in subst (λ (x : ℕ). is_blank x ≡ false) k t
 
 abbrev pub after_blanks : List ℕ → List ℕ
 after_blanks bs = drop (prefix_len is_blank bs) bs
@@ -111,17 +112,17 @@ token_digits bs [] front back e long digit is_front is_back = absurd (omega arit
 token_digits bs (x ∷ xs) front back e long digit is_front is_back =
     let one =
         counted_piece is_ascii_digit x xs (λ b. rw digit refl) digit (starts bs x xs (sym e)) in
-    let k : take (prefix_len is_ascii_digit (x ∷ xs)) (x ∷ xs) ≡ x ∷ take
-        (prefix_len is_ascii_digit xs) xs =
+    let k : take (prefix_len is_ascii_digit (x ∷ xs)) (x ∷ xs) ≡ x
+        ∷ take (prefix_len is_ascii_digit xs) xs =
         rw digit ((counted (prefix_len is_ascii_digit xs) x xs).0) in
     let t : token_of (x ∷ take (prefix_len is_ascii_digit xs) xs) ≡ literal_of
         (x ∷ take (prefix_len is_ascii_digit xs) xs) = rw digit refl in
     sym (same_tokens bs) ∙ ap tokens (sym e) ∙ one
-        ∙ ap (λ (l : List ℕ). token_of l ∷ tokens
-          (drop (prefix_len is_ascii_digit (x ∷ xs)) (x ∷ xs))) k
+        ∙ ap (λ (l : List ℕ). token_of l
+          ∷ tokens (drop (prefix_len is_ascii_digit (x ∷ xs)) (x ∷ xs))) k
     ∙ ap (λ (t : Token). t ∷ tokens (drop (prefix_len is_ascii_digit (x ∷ xs)) (x ∷ xs))) t
-    ∙ ap (λ (l : List ℕ). literal_of l ∷ tokens
-          (drop (prefix_len is_ascii_digit (x ∷ xs)) (x ∷ xs))) (sym k ∙ sym is_front)
+    ∙ ap (λ (l : List ℕ). literal_of l
+          ∷ tokens (drop (prefix_len is_ascii_digit (x ∷ xs)) (x ∷ xs))) (sym k ∙ sym is_front)
         ∙ ap (λ (l : List ℕ). literal_of front ∷ tokens l) (sym is_back)
 
 no_digit : (x : ℕ) → is_ascii_alphabetic x ≡ true → is_ascii_digit x ≡ false
@@ -141,8 +142,8 @@ token_name bs (x ∷ xs) front back e long letter is_front is_back =
         (name_first x letter) (starts bs x xs (sym e)) in
     let k : take (prefix_len is_name_byte (x ∷ xs)) (x ∷ xs) ≡ x ∷ take (prefix_len is_name_byte xs)
         xs = rw (name_first x letter) ((counted (prefix_len is_name_byte xs) x xs).0) in
-    let t : token_of (x ∷ take (prefix_len is_name_byte xs) xs) ≡ Name
-        (x ∷ take (prefix_len is_name_byte xs) xs) = rw (no_digit x letter, letter) refl in
+    let t : token_of (x ∷ take (prefix_len is_name_byte xs) xs)
+        ≡ Name (x ∷ take (prefix_len is_name_byte xs) xs) = rw (no_digit x letter, letter) refl in
     let rest = tokens (drop (prefix_len is_name_byte (x ∷ xs)) (x ∷ xs)) in
     sym (same_tokens bs) ∙ ap tokens (sym e) ∙ one ∙ ap (λ (l : List ℕ). token_of l ∷ rest) k
     ∙ ap (λ (t : Token). t ∷ rest) t

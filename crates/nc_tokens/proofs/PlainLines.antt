@@ -15,8 +15,8 @@ pub record IsPrintedLine (line : List ℕ) : Type 0 where
   pub plain : ArePlain line
   pub begun : is_blank (get_or line 0 32) ≡ false
 
-pub first_line : (line rest : List ℕ) → ArePlain line → lines (line ++ 10 ∷ rest) ≡ line ∷ lines
-    rest
+pub first_line : (line rest : List ℕ) → ArePlain line
+    → lines (line ++ 10 ∷ rest) ≡ line ∷ lines rest
 unfolding lines
 first_line [] rest h = refl
 first_line (b ∷ line) rest h =
@@ -31,7 +31,8 @@ no_return : (line : List ℕ) → ArePlain line → without_return line ≡ line
 no_return [] h = refl
 no_return (b ∷ line) h =
     let e : eqb (get_or (b ∷ line) (length (b ∷ line) - 1) 0) 13 ≡ false =
-    (plain_facts _ (plain_at (b ∷ line) (length (b ∷ line) - 1) h (omega arith))).1 in rw (e) refl
+        (plain_facts _ (plain_at (b ∷ line) (length (b ∷ line) - 1) h (omega arith))).1 in
+    rw (e) refl
 
 no_comment : (line : List ℕ) → ArePlain line → content line ≡ line
 no_comment line h =

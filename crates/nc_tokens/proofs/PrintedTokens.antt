@@ -60,8 +60,8 @@ name_token (x ∷ o) rest h stops =
     let split = whole is_name_byte (x ∷ o) rest k.1 (stops_name rest stops) in
     let t : token_of (x ∷ o) ≡ Name (x ∷ o) = rw (facts.0, k.0) refl in
     counted_piece is_name_byte x (o ++ rest) (λ b. rw (facts.0, k.0) refl) facts.2 facts.1
-    ∙ ap (λ (l : List ℕ). token_of l ∷ tokens
-          (drop (prefix_len is_name_byte ((x ∷ o) ++ rest)) ((x ∷ o) ++ rest))) split.0
+    ∙ ap (λ (l : List ℕ). token_of l
+          ∷ tokens (drop (prefix_len is_name_byte ((x ∷ o) ++ rest)) ((x ∷ o) ++ rest))) split.0
         ∙ ap (λ (l : List ℕ). token_of (x ∷ o) ∷ tokens l) split.1
         ∙ ap (λ (t : Token). t ∷ tokens rest) t
 
@@ -74,8 +74,8 @@ literal_token (x ∷ o) rest n h stops =
     let few : nat_lt 18 (length (x ∷ o)) ≡ false = le-ltb _ _ h.few in
     let t : token_of (x ∷ o) ≡ Literal n = rw (digit, few) (ap Literal h.is) in
     counted_piece is_ascii_digit x (o ++ rest) (λ b. rw (digit) refl) digit (digit_facts x digit)
-    ∙ ap (λ (l : List ℕ). token_of l ∷ tokens
-          (drop (prefix_len is_ascii_digit ((x ∷ o) ++ rest)) ((x ∷ o) ++ rest))) split.0
+    ∙ ap (λ (l : List ℕ). token_of l
+          ∷ tokens (drop (prefix_len is_ascii_digit ((x ∷ o) ++ rest)) ((x ∷ o) ++ rest))) split.0
         ∙ ap (λ (l : List ℕ). token_of (x ∷ o) ∷ tokens l) split.1
         ∙ ap (λ (t : Token). t ∷ tokens rest) t
 

@@ -86,17 +86,17 @@ pub begin : {A : Type 0} (all : ℕ → Written → Read A) (room : ℕ) (w : Wr
     → IsOnTheWay all [] room w (all room w)
 begin all room w = record { same = no_front (all room w) }
 
-pub bind_fails : {A B : Type 0} (e : ReadFault) (r : Result A TextFault)
-    (f : A → Result B TextFault) → FailsText e r → FailsText e (r >>= f)
+pub bind_fails : {A B : Type 0} (e : ReadFault) (r : Result A TextFault) (f : A
+      → Result B TextFault) → FailsText e r → FailsText e (r >>= f)
 bind_fails faults.OutOfMemory r f h = tt
 bind_fails (faults.Text k) r f h = ap (λ x. x >>= f) h
 
-module _ {A : Type 0} (keyword : List ℕ) (value : ℕ → List Token → Result A Kind)
-    (all : ℕ → Written → Read A) (are : AreLines keyword value all) where
+module _ {A : Type 0} (keyword : List ℕ) (value : ℕ → List Token → Result A Kind) (all : ℕ → Written
+      → Read A) (are : AreLines keyword value all) where
   pub goes_on : (front : List A) (room : ℕ) (w : Written) (whole : Read A) (r : Row) (x : A)
       → a_line keyword w ≡ Some r → at_line r.number (value room r.tokens) ≡ Ok x
-      → IsOnTheWay all front room w whole → IsOnTheWay all (front ++ x ∷ []) (room - 1) r.after
-          whole
+      → IsOnTheWay all front room w whole
+          → IsOnTheWay all (front ++ x ∷ []) (room - 1) r.after whole
   goes_on front room w whole r x is read h = record {
     same = sym (regroup front x (all (room - 1) r.after))
         ∙ ap (λ (y : Result A TextFault). with_front front
@@ -116,5 +116,5 @@ module _ {A : Type 0} (keyword : List ℕ) (value : ℕ → List Token → Resul
   pub ends : (front : List A) (room : ℕ) (w : Written) (whole : Read A) → a_line keyword w ≡ None
       → IsOnTheWay all front room w whole → whole ≡ Ok (front, w)
   ends front room w whole is h =
-      sym h.same ∙ ap (with_front front) (are.none room w is) ∙ ap (λ (l : List A). Ok (l, w))
-      (append-nil front)
+      sym h.same ∙ ap (with_front front) (are.none room w is)
+      ∙ ap (λ (l : List A). Ok (l, w)) (append-nil front)

@@ -134,8 +134,8 @@ module _ (options : BasisOptions) (bytes : List ℕ) (P : NamedProblem) (text : 
   whole status report (Known.is_bad line kind bad) = absurd (err_or_ok (sym bad.read ∙ text.read))
   whole status report (Known.ended_at e h) =
       let ends : e ≡ End.complete =
-      complete_end e report h in inl
-      (ap status_at ends, subst (λ (x : End). IsBasis options bytes x report) ends h)
+          complete_end e report h in inl (ap status_at ends,
+            subst (λ (x : End). IsBasis options bytes x report) ends h)
   whole status report (Known.is_many named terms h) = inr (named, terms, refl, h)
 
   module _ (result : Status) (written_before written_after : Option (List ℕ)) where
@@ -199,9 +199,8 @@ module _ (options : MemberOptions) (bytes : List ℕ) (P : NamedProblem) (claim 
         enough_there : length (monomials_within e.problem.problem.setting e.problem.problem.bound
               (alphabet_letters e.problem.alphabet)) ≤ e.problem.problem.steps
         enough_there =
-            subst (λ (Q : NamedProblem). length
-              (monomials_within Q.problem.setting Q.problem.bound (alphabet_letters Q.alphabet))
-              ≤ Q.problem.steps) (sym same.0) enough
+            subst (λ (Q : NamedProblem). length (monomials_within Q.problem.setting Q.problem.bound
+                (alphabet_letters Q.alphabet)) ≤ Q.problem.steps) (sym same.0) enough
 
     moved : HasRepresentation e.problem.problem.setting (IsWithin e.problem.problem) e.claim
         → IsBelow
@@ -243,7 +242,7 @@ module _ (options : MemberOptions) (bytes : List ℕ) (P : NamedProblem) (claim 
   decided NotBelow report h = inr (inr (λ has. h.left.none (moved_back h.at_end h.is has), refl, h))
   decided Budget report h =
       let both : End.complete ≡ End.budget h.left.next =
-      sym (member_complete h.at_end h.is) ∙ h.left.budget in absurd cc
+          sym (member_complete h.at_end h.is) ∙ h.left.budget in absurd cc
   decided (BadText line kind) report h = absurd (err_or_ok (sym h.read ∙ text.read))
   decided TooLarge report h = absurd (omega (arith, h.large, text.small))
   decided Invalid report h = absurd h

@@ -73,8 +73,8 @@ module _ (bytes : List ℕ) (e : ClaimAtEnd) (is : IsClaimAtEnd bytes e) where
   problem : IsProblem e.problem
   problem = problem_is bytes e.problem e.claim is.text
 
-  the_one : {run : State} {last : Option Monomial} → SequentialRun e.problem.problem e.handled run
-      last → run ≡ is.run
+  the_one : {run : State} {last : Option Monomial}
+      → SequentialRun e.problem.problem e.handled run last → run ≡ is.run
   the_one runs =
       (run_unique e.problem.problem (field_of e.problem problem) runs
         (ended_run e.problem.problem is.ends).1).0

@@ -22,6 +22,7 @@ use Rattle.nc_options.specs.declared.options.Cofactors.{Cofactors}
 use Rattle.nc_options.specs.declared.options.Cofactors.TheVariants.{Full, Omitted, Trace as TraceOf}
 use Rattle.nc_print.specs.Printing.{ended}
 use Rattle.nc_report.specs.Reports.{counts_line, ending_line, entry_line, numbered, syzygy_line}
+use Rattle.nc_theory.proofs.Counting.{counts}
 use Rattle.nc_theory.proofs.UntracedBases.{moved_bases_at}
 use Rattle.nc_theory.proofs.UntracedEnds.{end_facts}
 use Rattle.nc_theory.proofs.UntracedStates.{untraced_twice}
@@ -84,13 +85,13 @@ module _ (s : Setting) (prime : IsPrime s.prime) (run : State) (labels labels' :
       ap₂ (λ (es hs : List (List ℕ)). ended (ending_line names e ∷ counts_line n run ∷ (es ++ hs)))
       (same_numbered (entry_lines Full names labels) (entry_lines Full names labels') 1 run.entries
             (λ i x at. ap (λ (l : Element). entry_line names (1 + i) x ∷ cofactor_lines Full names
-                x.trace l) (same_label (EntryOf (1 + i)) a b
-                (omega (arith), omega (arith, slice_get_within run.entries i x at)))))
+                x.trace l) (same_label (EntryOf (1 + i)) a b (omega (arith),
+                  omega (arith, slice_get_within run.entries i x at)))))
       (same_numbered (syzygy_lines Full names labels) (syzygy_lines Full names labels') 1
-            run.syzygies (λ i x at. ap (λ (l : Element). syzygy_line names (1 + i)
-                x ∷ cofactor_lines Full names x.trace l)
-              (same_label (SyzygyOf (1 + i)) a b
-                (omega (arith), omega (arith, slice_get_within run.syzygies i x at)))))
+            run.syzygies (λ i x at. ap (λ (l : Element). syzygy_line names (1 + i) x
+                ∷ cofactor_lines Full names x.trace l)
+              (same_label (SyzygyOf (1 + i)) a b (omega (arith),
+                  omega (arith, slice_get_within run.syzygies i x at)))))
 
 -- ---- what holds at an end
 
@@ -140,6 +141,7 @@ module _ (bytes : List ℕ) (P : NamedProblem) (text : IsProblemText bytes P) wh
     handled = n;
     run = run;
     ends = ends;
+    counted = counts P.problem (ended_run P.problem ends).1;
     labelled = labelled (ended_run P.problem ends).1;
     canonical = canonical (ended_run P.problem ends).1;
     bases = moved_bases_at P.problem (untraced run) run (untraced_twice run) ending
@@ -197,8 +199,8 @@ same_basis options bytes e e' r r' a b =
     moved = subst₂ (λ (P : NamedProblem) (run : State). AreShown options.cofactors P.problem.setting
           run b.labels) (sym one) (sym same.runs) b.are
 
-    other : basis_report options.cofactors a.problem.alphabet.names b.labels a.handled a.run
-        e ≡ basis_report options.cofactors b.problem.alphabet.names b.labels b.handled b.run e'
+    other : basis_report options.cofactors a.problem.alphabet.names b.labels a.handled a.run e
+        ≡ basis_report options.cofactors b.problem.alphabet.names b.labels b.handled b.run e'
     other = λ j. basis_report options.cofactors (one j).alphabet.names b.labels (same.handled j)
         (same.runs j) (same.ends j)
 
@@ -248,8 +250,8 @@ pub data Known (options : BasisOptions) (bytes : List ℕ) : Status → List ℕ
   ended_at : {report : List ℕ} (e : End) → IsBasis options bytes e report
       → Known options bytes (status_at e) report
   is_many : {report : List ℕ} (named : Listed) (terms : ℕ)
-      → IsTooManyTerms options bytes named terms report → Known options bytes (TooMany named terms)
-      report
+      → IsTooManyTerms options bytes named terms report
+      → Known options bytes (TooMany named terms) report
 
 pub known : (options : BasisOptions) (bytes : List ℕ) (status : Status) (report : List ℕ)
     → IsBasisAnswer options bytes status report → Known options bytes status report

@@ -182,8 +182,8 @@ told_by_functions bytes OutOfMemory report h = absurd h
 -- ---- each input has an answer
 
 by_rest : (bytes : List ℕ) (c : Certificate) (f : Polynomial) → IsText bytes c → IsWithinWork c
-    → f ≡ rest_of c.setting.setting c.claim c.lines → IsCheckAnswer bytes (status_of_rest f)
-    (report_of_rest c.setting.alphabet.names f)
+    → f ≡ rest_of c.setting.setting c.claim c.lines
+    → IsCheckAnswer bytes (status_of_rest f) (report_of_rest c.setting.alphabet.names f)
 by_rest bytes c [] text within is =
     record { certificate = c; text = text;
       within = within; valid = valid_from_nothing c []

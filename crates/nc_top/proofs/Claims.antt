@@ -88,8 +88,8 @@ module _ (bytes : List ℕ) (P : NamedProblem) (claim : Polynomial) (text : IsCl
           → IsTextPolynomial P.alphabet P.problem.setting.prime claim
       go (f, h) =
           let e : Some claim ≡ Some f =
-          h.0 in let same : f ≡ claim =
-          cc in subst (IsTextPolynomial P.alphabet P.problem.setting.prime) same h.1
+              h.0 in let same : f ≡ claim =
+              cc in subst (IsTextPolynomial P.alphabet P.problem.setting.prime) same h.1
 
   pub claim_in : IsPolynomialIn P.alphabet P.problem.setting.prime claim
   claim_in =
@@ -139,8 +139,8 @@ module _ (P : NamedProblem) (is : IsProblem P) {n : ℕ} {run : State} {last : O
   module _ (m : List (Term Sig))
       (sum : IsSum P.problem.setting
         (step_multiples (labels_of P.problem.setting.prime run.entries) steps) m) where
-    terms : All (λ t. IsWordIn P.alphabet t.key.left) m × All (λ t. IsWordIn P.alphabet t.key.right)
-        m
+    terms : All (λ t. IsWordIn P.alphabet t.key.left) m
+        × All (λ t. IsWordIn P.alphabet t.key.right) m
     terms = sum_over P (step_multiples (labels_of P.problem.setting.prime run.entries) steps)
         (multiples_over P.problem field letters inputs runs (IsWithin P.problem) reduces claim_over)
         m sum

@@ -56,18 +56,18 @@ module _ (s : Snapshot) (h : IsSnapshot s) (limit : ℕ) where
         let is : IsLabelOf setting run (EntryOf k) p.0 =
             subst (λ (r : State). IsLabelOf setting r (EntryOf k) p.0)
             (one_run s h are.run run (are.last, are.runs) a) (are.are k p.0 some p.1) in
-        short run (EntryOf k) p.0 is p.2 (label_at (labels_of setting.prime run.entries) k) n
-            (some, within, refl) has
+        short run (EntryOf k) p.0 is p.2 (label_at (labels_of setting.prime run.entries) k) n (some,
+              within, refl) has
 
-    pub syzygy_fault : (fault : CofactorFault) → FailsToLabelSyzygies s.problem.problem s.handled
-        limit fault → FailsToShow s limit fault
+    pub syzygy_fault : (fault : CofactorFault)
+        → FailsToLabelSyzygies s.problem.problem s.handled limit fault → FailsToShow s limit fault
     syzygy_fault OutOfMemory f = tt
     syzygy_fault (TooMany named terms) f =
         λ run a. subst (λ (r : State). IsFirstOf setting.prime r limit named terms)
         (one_run s h f.run run (f.last, f.runs) a)
-        (subst (λ (l : Listed). IsFirstOf setting.prime f.run limit l terms) (sym f.names)
-              (f.some, f.within, f.has, f.many, f.lesser, λ j m some within has. entries_short f.run
-                (f.last, f.runs) j m some within has))
+        (subst (λ (l : Listed). IsFirstOf setting.prime f.run limit l terms) (sym f.names) (f.some,
+                f.within, f.has, f.many, f.lesser,
+                λ j m some within has. entries_short f.run (f.last, f.runs) j m some within has))
 
     module _ (syzygies : List (List (Term Sig)))
         (zero_are : AreSyzygyLabels s.problem.problem s.handled syzygies)
@@ -94,5 +94,5 @@ module _ (s : Snapshot) (h : IsSnapshot s) (limit : ℕ) where
   entry_fault (TooMany named terms) f =
       λ run a. subst (λ (r : State). IsFirstOf setting.prime r limit named terms)
       (one_run s h f.run run (f.last, f.runs) a)
-      (subst (λ (l : Listed). IsFirstOf setting.prime f.run limit l terms) (sym f.names)
-            (f.some, f.within, f.has, f.many, f.lesser))
+      (subst (λ (l : Listed). IsFirstOf setting.prime f.run limit l terms) (sym f.names) (f.some,
+              f.within, f.has, f.many, f.lesser))

@@ -100,8 +100,9 @@ same_remainders bytes r r' a b =
 
 data Told (options : MemberOptions) (r : Remainder) : Status → List ℕ → Type 0 where
   by_terms : {report : List ℕ} → options.form ≡ Terms → r.rest ≡ [] → (m : List (Term Sig))
-      → Represents r options.limit m → report ≡ terms_text (setting_of r.problem) r.claim
-      (element_of m) → Told options r Done report
+      → Represents r options.limit m
+      → report ≡ terms_text (setting_of r.problem) r.claim (element_of m)
+      → Told options r Done report
   by_lines : {report : List ℕ} → options.form ≡ Lines → r.rest ≡ []
       → (needed : List (ℕ × Trace)) (lines : List Line) → AreProof r needed lines
       → report ≡ certificate_text (certificate_with (claim_at_end r) lines)
@@ -260,8 +261,9 @@ module _ (options : MemberOptions) (r : Remainder) (some : 0 < r.problem.problem
   told_once s s' q q' (Told.by_many form nothing named terms a w)
       (Told.by_many form' nothing' named' terms' b w') =
       let one =
-      too_many_once r.problem.problem.setting some r.run r.steps options.limit named named' terms
-      terms' a b in (ap₂ TooMany one.0 one.1, w ∙ (ap₂ too_many_report one.0 one.1 ∙ sym w'))
+          too_many_once r.problem.problem.setting some r.run r.steps options.limit named named'
+          terms terms' a b in (ap₂ TooMany one.0 one.1,
+            w ∙ (ap₂ too_many_report one.0 one.1 ∙ sym w'))
   told_once s s' q q' (Told.by_many form nothing named terms a w)
       (Told.by_none complete left none w') = absurd (left nothing)
   told_once s s' q q' (Told.by_many form nothing named terms a w)
@@ -341,8 +343,9 @@ module _ (options : MemberOptions) (bytes : List ℕ) (r : Remainder) (is : IsRe
   runs = ended_run r.problem.problem is.ends
 
   module _ (nothing : r.rest ≡ []) where
-    tells_terms : options.form ≡ Terms → AreWithinLimit r.problem.problem.setting.prime r.run
-        r.steps options.limit ⊎ ((named : Listed) × (terms : ℕ)
+    tells_terms : options.form ≡ Terms
+        → AreWithinLimit r.problem.problem.setting.prime r.run r.steps options.limit
+        ⊎ ((named : Listed) × (terms : ℕ)
           × IsTooManyFor r.problem.problem.setting.prime r.run r.steps options.limit named terms)
         → TellsSome
     tells_terms form (inl within) =

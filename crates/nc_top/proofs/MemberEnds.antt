@@ -55,8 +55,8 @@ module _ (s : Snapshot) (h : IsSnapshot s) (ending : End) (e : IsEndAt s ending)
         (sym same) (rest_named s.problem h.problem r.runs claim
           (claim_in bytes s.problem claim text) r.reduces)
 
-    pub unrepresented_names : (rest : Polynomial) → IsUnrepresented s.problem.problem s.handled
-        ending claim rest → HasNames rest
+    pub unrepresented_names : (rest : Polynomial)
+        → IsUnrepresented s.problem.problem s.handled ending claim rest → HasNames rest
     unrepresented_names rest u = rest_has_names rest u.steps u.is
 
     pub open_names : (rest : Polynomial) → IsOpen s.problem.problem s.handled ending claim rest
@@ -140,9 +140,8 @@ module _ (s : Snapshot) (h : IsSnapshot s) (ending : End) (e : IsEndAt s ending)
         (step_multiples (labels_of p represented.rest.run.entries) represented.steps) m
     sum = subst (λ (run : State). IsSum s.problem.problem.setting
           (step_multiples (labels_of p run.entries) represented.steps) m)
-        (one_run s h represented.is.run represented.rest.run
-          (represented.is.last, represented.is.runs) (represented.rest.last, represented.rest.runs))
-        represented.is.is
+        (one_run s h represented.is.run represented.rest.run (represented.is.last,
+            represented.is.runs) (represented.rest.last, represented.rest.runs)) represented.is.is
 
     module _ (setting : NamedSetting) (same : setting ≡ setting_of s.problem) where
       names_same : setting.alphabet.names ≡ s.problem.alphabet.names

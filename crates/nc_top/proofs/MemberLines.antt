@@ -21,8 +21,9 @@ use Rattle.std.specs.List.{All}
 -- as `prove` shows of the lines that it gives
 pub proof_holds : (P : NamedProblem) → IsProblem P → (n : ℕ) (run : State) (last : Option Monomial)
     → SequentialRun P.problem n run last
-    → (claim : Polynomial) (steps : List Step) → IsPolynomialIn P.alphabet P.problem.setting.prime
-        claim → Reduction P.problem.setting run.entries (IsWithin P.problem) claim [] steps
+    → (claim : Polynomial) (steps : List Step)
+        → IsPolynomialIn P.alphabet P.problem.setting.prime claim
+        → Reduction P.problem.setting run.entries (IsWithin P.problem) claim [] steps
     → (needed : List (ℕ × Trace)) → ListsNeeded run.entries (numbers_of steps)
         (map (λ x. x.0) needed) → All (λ x. IsTraceIn run (EntryOf x.0) x.1) needed
     → AreLines (setting_of P) [] (proof_lines P.problem.setting.prime needed steps)

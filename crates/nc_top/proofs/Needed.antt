@@ -91,8 +91,8 @@ increases_at (x ∷ xs) r (suc k) l = increases_at xs r.1 k (omega (arith, l))
 increases : (xs : List ℕ) → Rises xs → IsStrictlyIncreasing xs
 increases xs r k l =
     let next : suc k ≡ k + 1 =
-    omega arith in subst (λ (i : ℕ). get_or xs k 0 < get_or xs i 0) next
-    (increases_at xs r k (omega (arith, l)))
+        omega arith in subst (λ (i : ℕ). get_or xs k 0 < get_or xs i 0) next
+        (increases_at xs r k (omega (arith, l)))
 
 -- ---- what is named
 
@@ -181,8 +181,8 @@ numbers_within s entries set (Reduction.keep w l none c e rest) j a =
     numbers_within s entries set rest j a
 
 module _ (P : NamedProblem) (is : IsProblem P) {n : ℕ} {run : State} {last : Option Monomial}
-    (runs : SequentialRun P.problem n run last) (numbers : List ℕ)
-    (within : (j : ℕ) → Among j numbers → (1 ≤ j) × (j ≤ length run.entries)) where
+    (runs : SequentialRun P.problem n run last) (numbers : List ℕ) (within : (j : ℕ)
+      → Among j numbers → (1 ≤ j) × (j ≤ length run.entries)) where
   abbrev Needed : ℕ → Type 0
   Needed j = IsNeededFor run.entries numbers j
 
@@ -306,7 +306,7 @@ module _ (P : NamedProblem) (is : IsProblem P) {n : ℕ} {run : State} {last : O
       )
       go (inr (past, none)) =
           let b : (1 ≤ k) × (k ≤ length run.entries) =
-          needed_within needs in absurd (omega (arith, past, b.0, b.1))
+              needed_within needs in absurd (omega (arith, past, b.0, b.1))
 
   list_from : (count k : ℕ) → length run.entries < k + count → (l : List (ℕ × Trace)) × AreFrom k l
   list_from zero k past =

@@ -87,8 +87,8 @@ module _ (P : NamedProblem) (is : IsProblem P) where
 
       both : IsIn P.problem.setting multiples (IsWithin P.problem)
           × ((y : Word) → coefficient claim y % P.problem.setting.prime
-            ≡ (coefficient (evaluation P.problem.setting multiples) y + coefficient rest
-              y) % P.problem.setting.prime)
+            ≡ (coefficient (evaluation P.problem.setting multiples) y + coefficient rest y)
+            % P.problem.setting.prime)
       both = represents P.problem.setting field run (invariant P.problem field runs).sound
           (IsWithin P.problem) (within_down P.problem)
           (labels_of P.problem.setting.prime run.entries) (labels_hold P.problem field runs).entries
@@ -97,13 +97,14 @@ module _ (P : NamedProblem) (is : IsProblem P) where
       sum_evaluates : rest ≡ [] → SamePolynomial P.problem.setting
           (evaluation P.problem.setting multiples) claim
       sum_evaluates nothing =
-          record { at = λ y. sym (both.1 y ∙ ap (λ n. n % P.problem.setting.prime)
-              (ap (λ (g : Polynomial). coefficient (evaluation P.problem.setting multiples)
-                  y + coefficient g y) nothing ∙ omega arith)) }
+          record { at = λ y. sym (both.1 y
+              ∙ ap (λ n. n % P.problem.setting.prime)
+              (ap (λ (g : Polynomial). coefficient (evaluation P.problem.setting multiples) y
+                  + coefficient g y) nothing ∙ omega arith)) }
 
       -- where nothing is left the claim is represented
-      pub is_represented : rest ≡ [] → HasRepresentation P.problem.setting (IsWithin P.problem)
-          claim
+      pub is_represented : rest ≡ []
+          → HasRepresentation P.problem.setting (IsWithin P.problem) claim
       is_represented nothing = (multiples, both.0, sum_evaluates nothing)
 
       -- also by the normal form
@@ -122,8 +123,8 @@ module _ (P : NamedProblem) (is : IsProblem P) where
 
   -- where something is left at a complete end, the claim has no representation
   pub not_represented : (n : ℕ) (run : State) → IsEnd P.problem n run End.complete
-      → (claim rest : Polynomial) (steps : List Step) → Reduction P.problem.setting run.entries
-      (IsWithin P.problem) claim rest steps → rest ≢ []
+      → (claim rest : Polynomial) (steps : List Step)
+      → Reduction P.problem.setting run.entries (IsWithin P.problem) claim rest steps → rest ≢ []
       → ¬ HasRepresentation P.problem.setting (IsWithin P.problem) claim
   not_represented n run (IsEnd.is_complete l runs none) claim rest steps r left has =
       left (none_kept P.problem.setting field run (invariant P.problem field runs).sound

@@ -96,10 +96,10 @@ module _ (s : Setting) (some : 0 < s.prime) (run : State) (steps : List Step) (l
 
   -- one alone
   pub too_many_once : (named named' : Listed) (n n' : ℕ)
-      → IsTooManyFor s.prime run steps limit named n → IsTooManyFor s.prime run steps limit named'
-      n' → (named ≡ named') × (n ≡ n')
-  too_many_once (EntryOf k) (EntryOf k') n n' (needs, has, more, before)
-      (needs', has', more', before') = go (nat_order k k')
+      → IsTooManyFor s.prime run steps limit named n
+      → IsTooManyFor s.prime run steps limit named' n' → (named ≡ named') × (n ≡ n')
+  too_many_once (EntryOf k) (EntryOf k') n n' (needs, has, more, before) (needs', has', more',
+        before') = go (nat_order k k')
     where
       go : (k < k') ⊎ ((k ≡ k') ⊎ (k' < k)) → (EntryOf k ≡ EntryOf k') × (n ≡ n')
       go (inl l) = absurd (omega (arith, more, before' k n needs l has))

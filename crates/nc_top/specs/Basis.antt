@@ -2,7 +2,8 @@
 --
 -- The report lists what the sequential run of the problem has found where it ends. Within the bound
 -- of a complete end, and else below the next signature, this is a basis and a syzygy basis; each
--- entry is canonical, and each item has the label that its trace gives. These facts follow from the
+-- entry is canonical, each item has the label that its trace gives, and each signature that was
+-- handled is counted once: as covered, as settled, or by its item. These facts follow from the
 -- definition of a run. They stand in the record so that a reader of the contract need not know the
 -- theory.
 --
@@ -74,6 +75,7 @@ pub record IsBasis (options : BasisOptions) (bytes : List ℕ) (ending : End) (r
   pub handled : ℕ
   pub run : State
   pub ends : IsEnd problem.problem handled run ending
+  pub counted : handled ≡ run.covered + run.settled + length run.entries + length run.syzygies
   pub labelled : AreLabelled problem.problem.setting run
   pub canonical : AreCanonical problem.problem.setting run
   pub bases : HasBasesAt problem.problem run ending

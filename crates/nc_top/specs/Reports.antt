@@ -29,8 +29,8 @@ bad_text_report line kind =
 -- the line of the first part that passes the limit on work, and the charge up to it
 abbrev pub too_much_report : ℕ → ℕ → List ℕ
 too_much_report line charge =
-    codes "too much work: line " ++ (decimal
-      line ++ (codes " needs " ++ (decimal charge ++ codes "\n")))
+    codes "too much work: line " ++ (decimal line
+      ++ (codes " needs " ++ (decimal charge ++ codes "\n")))
 
 -- ---- claims
 

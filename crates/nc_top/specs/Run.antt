@@ -57,8 +57,8 @@ IsReported old new before now report status result =
 -- `usage` was reported, or memory ran out while the words were read, with nothing written
 abbrev pub IsRefused : Option (List ℕ) → Option (List ℕ) → ℕ → ℕ → Status → Type 0
 IsRefused old new before now result =
-    ((result ≡ OutOfMemory) × Adds old new []) ⊎ IsReported old new before now (codes "usage\n")
-        Usage result
+    ((result ≡ OutOfMemory) × Adds old new [])
+        ⊎ IsReported old new before now (codes "usage\n") Usage result
 
 -- the source was read to its end, or as far as 16,777,217 bytes, and status and report are those of
 -- its bytes

@@ -7,8 +7,8 @@ use Rattle.std.specs.Cmp.Lexicographic.{slice_cmp}
 use Rattle.std.specs.Cmp.{nat_cmp_is}
 use Rattle.std.specs.Ordering.{is_ne, ordering_then}
 
-pub then_assoc : (o q r : Ordering) → ordering_then (ordering_then o q) r ≡ ordering_then o
-    (ordering_then q r)
+pub then_assoc : (o q r : Ordering)
+    → ordering_then (ordering_then o q) r ≡ ordering_then o (ordering_then q r)
 then_assoc Less q r = refl
 then_assoc Equal q r = refl
 then_assoc Greater q r = refl
@@ -44,8 +44,8 @@ compare_fronts n a b c d o h k e =
 
 -- where one of the words has ended
 pub compare_ends : (a b c d : Word) → (a ≡ [] → a ++ b ≡ []) → (c ≡ [] → c ++ d ≡ [])
-    → (length a ≡ 0) ⊎ (length c ≡ 0) → nat_cmp (length a) (length c) ≡ slice_cmp compare_letters
-    (a ++ b) (c ++ d)
+    → (length a ≡ 0) ⊎ (length c ≡ 0)
+    → nat_cmp (length a) (length c) ≡ slice_cmp compare_letters (a ++ b) (c ++ d)
 compare_ends [] b [] d e f h = sym (ap₂ (slice_cmp compare_letters) (e refl) (f refl))
 compare_ends [] b (y ∷ c) d e f h =
     sym (nat_cmp_is 0 (suc (length c)) Less (omega arith))
@@ -56,8 +56,8 @@ compare_ends (x ∷ a) b [] d e f h =
 compare_ends (x ∷ a) b (y ∷ c) d e f (inl h) = absurd (omega (arith, h))
 compare_ends (x ∷ a) b (y ∷ c) d e f (inr h) = absurd (omega (arith, h))
 
-pub weight_of_three : (a b c : Word) → word_weight (a ++ (b ++ c)) ≡ word_weight a + word_weight
-    b + word_weight c
+pub weight_of_three : (a b c : Word) → word_weight (a ++ (b ++ c)) ≡ word_weight a + word_weight b
+    + word_weight c
 weight_of_three a b c = omega (arith, weight-append a (b ++ c), weight-append b c)
 
 -- an order that decides, and one that doesn't

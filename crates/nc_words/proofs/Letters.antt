@@ -23,8 +23,8 @@ letter_decides x y =
     join : (nat_eq x.index y.index ≡ true) × (nat_eq x.extra y.extra ≡ true) → x ≡ y
     join (a, b) =
         let i : x.index ≡ y.index =
-        eqb-true x.index y.index a in let j : x.extra ≡ y.extra =
-        eqb-true x.extra y.extra b in λ k. record { index = i k; extra = j k }
+            eqb-true x.index y.index a in let j : x.extra ≡ y.extra =
+            eqb-true x.extra y.extra b in λ k. record { index = i k; extra = j k }
 
 -- what `==` answers at slices of letters
 pub letters_decide : (u v : Word) → Decides (pointwise same_letter u v) (u ≡ v)

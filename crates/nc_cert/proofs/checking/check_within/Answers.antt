@@ -39,8 +39,8 @@ returns-else-is_zero c =
       subst (λ (d : Certificate). IsChargeWithin c.args.limit (certificate_charges d))
           c.certificate.view_is (subst (λ (l : List Line). IsChargeWithin c.args.limit
               (charges_of c.certificate.inside.setting.setting l)) c.lines.ensures.lines left.0),
-      (λ valid. false≢true (sym c.if-is_zero.false ∙ c.is_zero.ensures.1
-              (nothing_from_valid whole c.in-Of.rest
+      (λ valid. false≢true (sym c.if-is_zero.false
+              ∙ c.is_zero.ensures.1 (nothing_from_valid whole c.in-Of.rest
                 (subst IsCertificate c.certificate.view_is c.certificate.invariant) is valid))),
       is,
     )

@@ -74,12 +74,12 @@ loop-line-preserved c =
                 c.zero.ensures
           ∙ (ap (λ n. normal_form s.prime
                   (minus s.prime [] n (line_value s c.deref-in-loop-line-2.result.now
-                      c.line-item.result))) (c.neg-minus_one.ensures.value ∙ ap (λ p. (p - 1) % p)
-                  c.prime.ensures.prime)
+                      c.line-item.result))) (c.neg-minus_one.ensures.value
+                  ∙ ap (λ p. (p - 1) % p) c.prime.ensures.prime)
           ∙ ap (λ (values : List Polynomial). normal_form s.prime
                 (minus s.prime [] ((s.prime - 1) % s.prime)
-                  (line_value s values c.line-item.result)))
-              (c.deref-in-loop-line-2.ensures.value ∙ c.loop-line.invariant.values)))));
+                  (line_value s values c.line-item.result))) (c.deref-in-loop-line-2.ensures.value
+                ∙ c.loop-line.invariant.values)))));
       letters =
           c.in_ok-push.ensures.items
           ∙ (ap₂ (λ (letters : List ℕ) n. letters ++ n ∷ []) c.loop-line.invariant.letters
@@ -91,7 +91,7 @@ loop-line-preserved c =
               c.loop-line.line-index c.line-item.result c.loop-line.values.items c.loop-line.spent
               c.in-Within.now
           (omega arith) c.line-item.is c.loop-line.invariant.values c.loop-line.invariant.spent
-          (c.in-Within.ensures.0 ∙ ap (λ (values : List Polynomial). c.loop-line.spent + sum_by
-                  (kept_charge s values) c.line-item.result) c.deref.ensures.value);
+          (c.in-Within.ensures.0 ∙ ap (λ (values : List Polynomial). c.loop-line.spent
+                  + sum_by (kept_charge s values) c.line-item.result) c.deref.ensures.value);
       within = c.in-Within.ensures.1;
     }

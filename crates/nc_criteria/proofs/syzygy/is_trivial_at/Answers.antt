@@ -33,11 +33,11 @@ loop-index-preserved c =
           c.args.snapshot.now.state.entries k c.of.result) same c.of.ensures in
     none_pair_further c.args.snapshot.now.problem.problem.setting c.args.snapshot.now.state.entries
         (monomial_of c.args.sig.now) (c.args.number - 1) c.loop-index.index c.loop-index.invariant
-    (λ p. false≢true (sym c.if-is_trivial.false ∙ c.is_trivial.ensures.1
-            (pair_is c.args.snapshot.now.problem.problem.setting c.args.snapshot.now.state.entries
-              (monomial_of c.args.sig.now) (c.args.number - 1) c.loop-index.index c.of-own.result
-              c.of.result c.of-own.ensures other c.in-Some.before.now c.in-Some.behind.now
-              c.in-Some.ensures p)))
+    (λ p. false≢true (sym c.if-is_trivial.false
+            ∙ c.is_trivial.ensures.1 (pair_is c.args.snapshot.now.problem.problem.setting
+              c.args.snapshot.now.state.entries (monomial_of c.args.sig.now) (c.args.number - 1)
+              c.loop-index.index c.of-own.result c.of.result c.of-own.ensures other
+              c.in-Some.before.now c.in-Some.behind.now c.in-Some.ensures p)))
 
 pub returns : goal.returns
 returns c =

@@ -28,8 +28,8 @@ returns-then-not-is_reducible c =
         (monomial_of c.args.sig.now) c.args.best c.requires.best c.around.result.0.now
         c.around.result.1.now c.around.ensures.left c.around.ensures.right
     c.best_multiple_law.ensures c.requires.uncovered c.requires.other c.in_ok-word.word
-        c.in_ok-word.ensures (λ r. false≢true
-          (sym c.if-not-is_reducible.true ∙ c.is_reducible.ensures.1 r))
+        c.in_ok-word.ensures (λ r. false≢true (sym c.if-not-is_reducible.true
+            ∙ c.is_reducible.ensures.1 r))
 
 pub reduce-requires-clause-start : goal.reduce-requires-clause-start
 reduce-requires-clause-start c =

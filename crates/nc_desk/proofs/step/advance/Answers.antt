@@ -30,9 +30,9 @@ returns-clause-advance c =
     advances s (monomial_of σ) o handles c.append.new.self
         (c.append.ensures.problem ∙ ap (λ (t : Snapshot). t.problem) same)
         (c.in_ok-append.ensures.handled ∙ ap (λ (t : Snapshot). t.handled + 1) same)
-    (c.in_ok-append.ensures.state ∙ (ap
-            (λ (t : Snapshot). untraced (state_after t.state
-                (monomial_of c.in_ok-try_clone.field-0.value) o)) same
+    (c.in_ok-append.ensures.state ∙
+          (ap (λ (t : Snapshot). untraced
+              (state_after t.state (monomial_of c.in_ok-try_clone.field-0.value) o)) same
             ∙ ap (λ (ρ : Sig). untraced (state_after s.state (monomial_of ρ) o))
             c.in_ok-try_clone.ensures))
     c.in_ok-more.more c.args.waiting.now (map arc_value c.in_ok-more.found.items)

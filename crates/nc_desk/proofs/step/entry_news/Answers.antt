@@ -17,8 +17,8 @@ returns c trace handles =
         trace handles c.in-Some.lead.now c.in-Some.ensures.some.0 c.in-Some.ensures.some.1 σ refl
         c.requires.degree
     c.in_ok-more.more c.add.new.self (c.in_ok-more.ensures ∙ c.requires.leads)
-        (c.in_ok-add.ensures.added ∙ ap
-          (λ (w : Word). c.in_ok-more.more ++ record { word = w; signature = σ } ∷ []) is)
+        (c.in_ok-add.ensures.added ∙ ap (λ (w : Word). c.in_ok-more.more ++ record { word = w;
+              signature = σ } ∷ []) is)
     found c.in_ok-found.ensures.degrees
         (subst (λ (w : Word). AreNewSignatures s.problem.problem s.state.entries w (monomial_of σ)
             found) is c.in_ok-found.ensures.exact)

@@ -21,9 +21,9 @@ pub loop-digit-preserved : goal.loop-digit-preserved
 loop-digit-preserved c =
     let is = c.if-not-is_ascii_digit.ensures.cases in
     record {
-      value = ap (λ n. c.loop-digit.value * 10 + n) c.from.ensures ∙ value_more c.args.digits.now
-          c.loop-digit.digit-index c.loop-digit.value _ c.loop-digit-test.true
-          c.loop-digit.invariant.value refl is;
+      value = ap (λ n. c.loop-digit.value * 10 + n) c.from.ensures
+          ∙ value_more c.args.digits.now c.loop-digit.digit-index c.loop-digit.value _
+          c.loop-digit-test.true c.loop-digit.invariant.value refl is;
       small = small_more c.loop-digit.value c.loop-digit.digit-index c.from.result
           c.loop-digit.invariant.small (omega (arith, is));
       decimal = below_more _ _ c.loop-digit.invariant.decimal is;

@@ -4,6 +4,6 @@ use Rattle.nc_member.proofs.lines.entry_line.Given as goal
 
 abbrev pub invariant-loop-step : goal.invariant-loop-step
 invariant-loop-step l =
-    l.line ≡ start_part l.entries l.trace.start ∷ map
-    (λ step. step_part l.entries ((l.p - step.coefficient) % l.p) step)
+    l.line ≡ start_part l.entries l.trace.start
+    ∷ map (λ step. step_part l.entries ((l.p - step.coefficient) % l.p) step)
     (take l.step-index l.step-items)

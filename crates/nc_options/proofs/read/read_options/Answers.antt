@@ -14,8 +14,8 @@ no_first : {X : Type 0} (bytes : X → Text) (words : List X) (first : X) (text 
 no_first bytes [] first text is same basis member check demo = cc
 no_first bytes (word ∷ words) first text is same basis member check demo =
     let same_word : text ≡ bytes word = cc in
-    ap (λ t. options_of (t ∷ map bytes words)) (sym same_word) ∙ no_command text (map bytes words)
-        basis member check demo
+    ap (λ t. options_of (t ∷ map bytes words)) (sym same_word)
+        ∙ no_command text (map bytes words) basis member check demo
 
 pub returns-in_default-as_str : goal.returns-in_default-as_str
 returns-in_default-as_str c =

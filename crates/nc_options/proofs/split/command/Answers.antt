@@ -19,8 +19,8 @@ loop-option_name-preserved c =
 pub returns : goal.returns
 returns c =
     let all : map (λ (n : Bor (List ℕ)). n.now)
-        (take c.loop-option_name.option_name-index c.args.names.now) ≡ map
-        (λ (n : Bor (List ℕ)). n.now) c.args.names.now =
+        (take c.loop-option_name.option_name-index c.args.names.now)
+        ≡ map (λ (n : Bor (List ℕ)). n.now) c.args.names.now =
     ap (map (λ (n : Bor (List ℕ)). n.now))
         (take_all c.loop-option_name.option_name-index c.args.names.now (omega arith)) in
     elim c.if-takes_number.branch [

@@ -23,8 +23,8 @@ pub returns-clause-greater : goal.returns-clause-greater
 returns-clause-greater c s e f h j a b =
     let v : Word = c.args.second.now.word.now in
     let some : 0 < c.args.at + length v =
-        elim c.else-at-eq0.branch [ else-at-eq0-via-then-at-eq0+else-is_empty w ↦ omega
-          (arith, not_empty v w.is_empty.result w.is_empty.ensures w.if-is_empty.false) |
+        elim c.else-at-eq0.branch [ else-at-eq0-via-then-at-eq0+else-is_empty w ↦ omega (arith,
+            not_empty v w.is_empty.result w.is_empty.ensures w.if-is_empty.false) |
           else-at-eq0-via-else-at-eq0 w ↦ omega (arith, w.if-at-eq0.false) ] in
     meets s e f c.args.first.now.sig.now c.args.second.now.sig.now c.args.first.now.word.now v
         c.args.at c.min-shared.result a.lead a.signed b.lead b.signed c.requires

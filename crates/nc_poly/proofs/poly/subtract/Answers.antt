@@ -31,8 +31,9 @@ returns-clause-difference c =
         (c.in_ok-push_multiple.ensures.appended
           ∙ ap₂ (λ (l : Polynomial) n. l ++ multiples_of c.args.p n c.args.u.now c.args.g.now
             c.args.v.now) c.in_ok-product.ensures.items c.neg.ensures.value) in
-    c.collect.ensures.normal ∙ (ap (normal_form c.args.p) is ∙ subtracted c.args.p c.args.c
-          c.args.u.now c.args.v.now c.args.kept.now.items c.args.g.now c.requires.factor)
+    c.collect.ensures.normal ∙ (ap (normal_form c.args.p) is
+          ∙ subtracted c.args.p c.args.c c.args.u.now c.args.v.now c.args.kept.now.items
+          c.args.g.now c.requires.factor)
 
 pub returns-clause-descending : goal.returns-clause-descending
 returns-clause-descending c _ =

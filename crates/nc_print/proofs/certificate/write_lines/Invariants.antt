@@ -5,5 +5,5 @@ use Rattle.nc_print.proofs.certificate.write_lines.Given as goal
 
 abbrev pub invariant-loop-line : goal.invariant-loop-line
 invariant-loop-line l =
-    l.out.items ≡ l.initial.out.items ++ ended
-    (flat_map (printed_line l.names) (take l.line-index l.lines))
+    l.out.items ≡ l.initial.out.items
+    ++ ended (flat_map (printed_line l.names) (take l.line-index l.lines))

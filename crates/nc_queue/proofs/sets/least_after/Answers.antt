@@ -10,5 +10,6 @@ returns c =
     least_after_first arc_value (map arc_value c.args.kept.now.keys) c.args.sig.now.value
     c.range.result c.next.new.self c.next.result
     (sorted_map arc_value compare_sigs c.args.kept.now.keys c.range.ensures.ordered)
-    (ap (map arc_value) (c.range.ensures.between tt) ∙ map_filter arc_value
-      (is_after c.args.sig.now.value) c.args.kept.now.keys) c.next.ensures.steps
+    (ap (map arc_value) (c.range.ensures.between tt)
+      ∙ map_filter arc_value (is_after c.args.sig.now.value) c.args.kept.now.keys)
+    c.next.ensures.steps

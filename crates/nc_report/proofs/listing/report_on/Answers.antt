@@ -24,8 +24,8 @@ returns c =
           run.syzygies)
     (subst (λ (s : Snapshot). c.write_end.new.out.items ≡ ending_line s.problem.alphabet.names
             c.args.finished.now.ending ++ 10 ∷ []) (sym c.snapshot-snapshot.ensures.snapshot)
-          (c.in_ok-write_end.ensures ∙ ap
-            (λ (l : List ℕ). l ++ (ending_line c.args.finished.now.snapshot.problem.alphabet.names
+          (c.in_ok-write_end.ensures ∙ ap (λ (l : List ℕ). l
+              ++ (ending_line c.args.finished.now.snapshot.problem.alphabet.names
                 c.args.finished.now.ending ++ 10 ∷ [])) c.new-out.ensures.items))
     (c.in_ok-write_counts.ensures ∙ ap (λ (l : List ℕ). c.write_end.new.out.items ++ (l ++ 10 ∷ []))
           (counts_same c.snapshot-snapshot.result.now c.recall_rule.ensures.snapshot run a))

@@ -8,6 +8,7 @@ use Rattle.nc_report.proofs.listing.write_entries.Given as goal
 
 abbrev pub invariant-loop-index : goal.invariant-loop-index
 invariant-loop-index l =
-    (run : State) → IsRunAt l.snapshot run → l.out.items ≡ l.initial.out.items ++ ended
-    (numbered (entry_lines (kind_of l.shown) l.snapshot.problem.alphabet.names (labels_in l.shown))
-      1 (take l.index run.entries))
+    (run : State) → IsRunAt l.snapshot run
+    → l.out.items ≡ l.initial.out.items
+    ++ ended (numbered (entry_lines (kind_of l.shown) l.snapshot.problem.alphabet.names
+        (labels_in l.shown)) 1 (take l.index run.entries))

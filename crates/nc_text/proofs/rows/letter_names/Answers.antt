@@ -8,18 +8,16 @@ use Rattle.nc_text.proofs.rows.letter_names.Goals as goal
 pub returns-then-is_empty-clause-reads : goal.returns-then-is_empty-clause-reads
 returns-then-is_empty-clause-reads c =
     let e : nat_eq (length c.names.names.items) 0 ≡ true =
-        (let k : length c.names.names.items ≡ vec_len c.names.names = omega
-          (arith, c.names.names.ok.0) in ap (λ (n : ℕ). nat_eq n 0) k
-          ∙ sym c.if-is_empty.ensures) in
+        (let k : length c.names.names.items ≡ vec_len c.names.names = omega (arith,
+            c.names.names.ok.0) in ap (λ (n : ℕ). nat_eq n 0) k ∙ sym c.if-is_empty.ensures) in
     ends _ _ _ c.in-End.ensures c.names.invariant.reads
         ∙ ap (λ (b : Bool). cond b (Err Syntax) (Ok c.names.names.items)) e
 
 pub returns-in-End-clause-reads : goal.returns-in-End-clause-reads
 returns-in-End-clause-reads c =
     let e : nat_eq (length c.names.names.items) 0 ≡ false =
-        (let k : length c.names.names.items ≡ vec_len c.names.names = omega
-          (arith, c.names.names.ok.0) in ap (λ (n : ℕ). nat_eq n 0) k
-          ∙ sym c.if-is_empty.ensures) in
+        (let k : length c.names.names.items ≡ vec_len c.names.names = omega (arith,
+            c.names.names.ok.0) in ap (λ (n : ℕ). nat_eq n 0) k ∙ sym c.if-is_empty.ensures) in
     ends _ _ _ c.in-End.ensures c.names.invariant.reads
         ∙ ap (λ (b : Bool). cond b (Err Syntax) (Ok c.names.names.items)) e
 

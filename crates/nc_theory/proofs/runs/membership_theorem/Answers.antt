@@ -26,8 +26,8 @@ forth P field {state = state} (IsEnd.is_complete l run none) {f} {rest} reductio
           ≡ (coefficient (evaluation P.setting α) y + coefficient rest y) % P.setting.prime)
         → HasRepresentation P.setting (IsWithin P) f
     go (α, lies, value) =
-        (α, lies, record { at = λ y. sym
-            (value y ∙ ap (λ n. n % P.setting.prime)
+        (α, lies, record { at = λ y. sym (value y
+              ∙ ap (λ n. n % P.setting.prime)
               (ap (λ g. coefficient (evaluation P.setting α) y + coefficient g y) e ∙ omega arith))
             })
 

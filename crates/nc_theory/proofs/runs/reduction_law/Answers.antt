@@ -53,5 +53,5 @@ once P field {state = state} run set dec = record {
 pub returns : goal.returns
 returns c P prime n state last run =
     (λ τ. once P (field_from_prime P.setting.prime prime) run (λ σ. IsLess P.setting σ τ)
-      (λ σ. less_dec P.setting σ τ), once P (field_from_prime P.setting.prime prime) run
-      (IsWithin P) (within_dec P state))
+      (λ σ. less_dec P.setting σ τ),
+      once P (field_from_prime P.setting.prime prime) run (IsWithin P) (within_dec P state))

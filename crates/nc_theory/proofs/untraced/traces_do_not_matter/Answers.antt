@@ -15,8 +15,8 @@ use Rattle.nc_theory.proofs.untraced.traces_do_not_matter.Goals as goal
 same_searches : (s : Setting) (state run : State) → SameStates state run → SameSearches s state run
 same_searches s state run same = record {
   divisors =
-      λ w d. (moved s state.entries run.entries es w d, moved_same s state.entries run.entries es w
-        d);
+      λ w d. (moved s state.entries run.entries es w d,
+        moved_same s state.entries run.entries es w d);
   divisors_back = λ w d. (moved s run.entries state.entries (sym es) w d, back_same d);
   signatures = λ w d d' k. same_signature s state.entries run.entries w d d' k;
   chosen = λ τ w d d' k. (
@@ -64,8 +64,9 @@ same_searches s state run same = record {
     es : SameEntries state.entries run.entries
     es = same_entries state run same
 
-    back_same : {w : Word} (d : Divisor s run.entries w) → IsSameDivisor s state.entries run.entries
-        w (moved s run.entries state.entries (sym es) w d) d
+    back_same : {w : Word} (d : Divisor s run.entries w)
+        → IsSameDivisor s state.entries run.entries w
+        (moved s run.entries state.entries (sym es) w d) d
     back_same {w} d =
         other_side s run.entries state.entries w d (moved s run.entries state.entries (sym es) w d)
         (moved_same s run.entries state.entries (sym es) w d)

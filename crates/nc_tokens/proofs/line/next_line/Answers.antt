@@ -8,9 +8,8 @@ use Rattle.nc_tokens.proofs.line.next_line.Goals as goal
 pub returns-then-not-are_blanks : goal.returns-then-not-are_blanks
 returns-then-not-are_blanks c =
     let some : list_all is_blank (content c.split_line.result.0.now) ≡ false = cc in
-    (rw c.content_of-content.ensures
-          (sym c.loop-rest.invariant.same ∙ comes _ _ _ _ c.split_line.ensures.lines some),
-          omega arith)
+    (rw c.content_of-content.ensures (sym c.loop-rest.invariant.same
+            ∙ comes _ _ _ _ c.split_line.ensures.lines some), omega arith)
 
 pub loop-rest-preserved : goal.loop-rest-preserved
 loop-rest-preserved c =

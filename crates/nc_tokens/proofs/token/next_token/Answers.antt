@@ -8,7 +8,7 @@ use Rattle.nc_tokens.proofs.token.next_token.Goals as goal
 pub returns-in_default : goal.returns-in_default
 returns-in_default c =
     let e : c.split_at.result.1.now ≡ after_blanks c.args.bytes.now =
-    cc in token_none c.args.bytes.now c.split_at.result.1.now e c.in_default.len_below
+        cc in token_none c.args.bytes.now c.split_at.result.1.now e c.in_default.len_below
 
 pub literal_of-requires : goal.literal_of-requires
 literal_of-requires c =

@@ -12,10 +12,10 @@ write_proof-requires-clause-claim c =
         (subst IsSnapshot c.snapshot-snapshot.ensures.snapshot c.problem-problem.ensures.snapshot)
         c.args.finished.now.ending c.snapshot-snapshot.ensures.ended c.args.bytes.now
         c.args.claim.now c.requires.text
-    c.args.lines.now c.requires.lines c.setting.result.now
-        (c.setting.ensures.setting ∙ ap (λ (P : NamedProblem). setting_of P)
-          (c.deref.ensures ∙ (c.problem-problem.ensures.problem ∙ ap (λ (s : Snapshot). s.problem)
-              c.snapshot-snapshot.ensures.snapshot)))
+    c.args.lines.now c.requires.lines c.setting.result.now (c.setting.ensures.setting
+          ∙ ap (λ (P : NamedProblem). setting_of P)
+          (c.deref.ensures ∙ (c.problem-problem.ensures.problem
+              ∙ ap (λ (s : Snapshot). s.problem) c.snapshot-snapshot.ensures.snapshot)))
 
 pub write_proof-requires-clause-left : goal.write_proof-requires-clause-left
 write_proof-requires-clause-left c =
@@ -23,10 +23,10 @@ write_proof-requires-clause-left c =
         (subst IsSnapshot c.snapshot-snapshot.ensures.snapshot c.problem-problem.ensures.snapshot)
         c.args.finished.now.ending c.snapshot-snapshot.ensures.ended c.args.bytes.now
         c.args.claim.now c.requires.text
-    c.args.lines.now c.requires.lines c.setting.result.now
-        (c.setting.ensures.setting ∙ ap (λ (P : NamedProblem). setting_of P)
-          (c.deref.ensures ∙ (c.problem-problem.ensures.problem ∙ ap (λ (s : Snapshot). s.problem)
-              c.snapshot-snapshot.ensures.snapshot)))
+    c.args.lines.now c.requires.lines c.setting.result.now (c.setting.ensures.setting
+          ∙ ap (λ (P : NamedProblem). setting_of P)
+          (c.deref.ensures ∙ (c.problem-problem.ensures.problem
+              ∙ ap (λ (s : Snapshot). s.problem) c.snapshot-snapshot.ensures.snapshot)))
 
 pub write_proof-requires-clause-right : goal.write_proof-requires-clause-right
 write_proof-requires-clause-right c =
@@ -34,10 +34,10 @@ write_proof-requires-clause-right c =
         (subst IsSnapshot c.snapshot-snapshot.ensures.snapshot c.problem-problem.ensures.snapshot)
         c.args.finished.now.ending c.snapshot-snapshot.ensures.ended c.args.bytes.now
         c.args.claim.now c.requires.text
-    c.args.lines.now c.requires.lines c.setting.result.now
-        (c.setting.ensures.setting ∙ ap (λ (P : NamedProblem). setting_of P)
-          (c.deref.ensures ∙ (c.problem-problem.ensures.problem ∙ ap (λ (s : Snapshot). s.problem)
-              c.snapshot-snapshot.ensures.snapshot)))
+    c.args.lines.now c.requires.lines c.setting.result.now (c.setting.ensures.setting
+          ∙ ap (λ (P : NamedProblem). setting_of P)
+          (c.deref.ensures ∙ (c.problem-problem.ensures.problem
+              ∙ ap (λ (s : Snapshot). s.problem) c.snapshot-snapshot.ensures.snapshot)))
 
 pub returns : goal.returns
 returns c =
@@ -46,10 +46,11 @@ returns c =
         (subst IsSnapshot c.snapshot-snapshot.ensures.snapshot c.problem-problem.ensures.snapshot)
         c.args.finished.now.ending c.snapshot-snapshot.ensures.ended c.args.bytes.now
         c.args.claim.now c.requires.text
-    c.args.lines.now c.requires.lines c.setting.result.now
-        (c.setting.ensures.setting ∙ ap (λ (P : NamedProblem). setting_of P)
-          (c.deref.ensures ∙ (c.problem-problem.ensures.problem ∙ ap (λ (s : Snapshot). s.problem)
-              c.snapshot-snapshot.ensures.snapshot))) c.write_proof.new.out.items
+    c.args.lines.now c.requires.lines c.setting.result.now (c.setting.ensures.setting
+          ∙ ap (λ (P : NamedProblem). setting_of P)
+          (c.deref.ensures ∙ (c.problem-problem.ensures.problem
+              ∙ ap (λ (s : Snapshot). s.problem) c.snapshot-snapshot.ensures.snapshot)))
+        c.write_proof.new.out.items
     (written_new c.write_proof.new.out.items c.new-report.result.items
           (certificate_text (record { setting = c.setting.result.now;
                 claim = c.args.claim.now; lines = c.args.lines.now })) c.in_ok-write_proof.ensures

@@ -13,10 +13,10 @@ write_terms-requires-clause-claim c =
         (subst IsSnapshot c.snapshot-snapshot.ensures.snapshot c.problem-problem.ensures.snapshot)
         c.args.finished.now.ending c.snapshot-snapshot.ensures.ended c.args.bytes.now
         c.args.claim.now c.requires.text
-    c.args.options.limit c.args.m.now c.requires.m c.setting.result.now
-        (c.setting.ensures.setting ∙ ap (λ (P : NamedProblem). setting_of P)
-          (c.deref.ensures ∙ (c.problem-problem.ensures.problem ∙ ap (λ (s : Snapshot). s.problem)
-              c.snapshot-snapshot.ensures.snapshot)))
+    c.args.options.limit c.args.m.now c.requires.m c.setting.result.now (c.setting.ensures.setting
+          ∙ ap (λ (P : NamedProblem). setting_of P)
+          (c.deref.ensures ∙ (c.problem-problem.ensures.problem
+              ∙ ap (λ (s : Snapshot). s.problem) c.snapshot-snapshot.ensures.snapshot)))
 
 pub write_terms-requires-clause-left : goal.write_terms-requires-clause-left
 write_terms-requires-clause-left c =
@@ -24,10 +24,10 @@ write_terms-requires-clause-left c =
         (subst IsSnapshot c.snapshot-snapshot.ensures.snapshot c.problem-problem.ensures.snapshot)
         c.args.finished.now.ending c.snapshot-snapshot.ensures.ended c.args.bytes.now
         c.args.claim.now c.requires.text
-    c.args.options.limit c.args.m.now c.requires.m c.setting.result.now
-        (c.setting.ensures.setting ∙ ap (λ (P : NamedProblem). setting_of P)
-          (c.deref.ensures ∙ (c.problem-problem.ensures.problem ∙ ap (λ (s : Snapshot). s.problem)
-              c.snapshot-snapshot.ensures.snapshot)))
+    c.args.options.limit c.args.m.now c.requires.m c.setting.result.now (c.setting.ensures.setting
+          ∙ ap (λ (P : NamedProblem). setting_of P)
+          (c.deref.ensures ∙ (c.problem-problem.ensures.problem
+              ∙ ap (λ (s : Snapshot). s.problem) c.snapshot-snapshot.ensures.snapshot)))
 
 pub write_terms-requires-clause-right : goal.write_terms-requires-clause-right
 write_terms-requires-clause-right c =
@@ -35,10 +35,10 @@ write_terms-requires-clause-right c =
         (subst IsSnapshot c.snapshot-snapshot.ensures.snapshot c.problem-problem.ensures.snapshot)
         c.args.finished.now.ending c.snapshot-snapshot.ensures.ended c.args.bytes.now
         c.args.claim.now c.requires.text
-    c.args.options.limit c.args.m.now c.requires.m c.setting.result.now
-        (c.setting.ensures.setting ∙ ap (λ (P : NamedProblem). setting_of P)
-          (c.deref.ensures ∙ (c.problem-problem.ensures.problem ∙ ap (λ (s : Snapshot). s.problem)
-              c.snapshot-snapshot.ensures.snapshot)))
+    c.args.options.limit c.args.m.now c.requires.m c.setting.result.now (c.setting.ensures.setting
+          ∙ ap (λ (P : NamedProblem). setting_of P)
+          (c.deref.ensures ∙ (c.problem-problem.ensures.problem
+              ∙ ap (λ (s : Snapshot). s.problem) c.snapshot-snapshot.ensures.snapshot)))
 
 pub returns : goal.returns
 returns c =
@@ -47,10 +47,11 @@ returns c =
         (subst IsSnapshot c.snapshot-snapshot.ensures.snapshot c.problem-problem.ensures.snapshot)
         c.args.finished.now.ending c.snapshot-snapshot.ensures.ended c.args.bytes.now
         c.args.claim.now c.requires.text
-    c.args.options.limit c.args.m.now c.requires.m c.setting.result.now
-        (c.setting.ensures.setting ∙ ap (λ (P : NamedProblem). setting_of P)
-          (c.deref.ensures ∙ (c.problem-problem.ensures.problem ∙ ap (λ (s : Snapshot). s.problem)
-              c.snapshot-snapshot.ensures.snapshot))) c.write_terms.new.out.items
+    c.args.options.limit c.args.m.now c.requires.m c.setting.result.now (c.setting.ensures.setting
+          ∙ ap (λ (P : NamedProblem). setting_of P)
+          (c.deref.ensures ∙ (c.problem-problem.ensures.problem
+              ∙ ap (λ (s : Snapshot). s.problem) c.snapshot-snapshot.ensures.snapshot)))
+        c.write_terms.new.out.items
     (written_new c.write_terms.new.out.items c.new-report.result.items
           (terms_text c.setting.result.now c.args.claim.now (element_of c.args.m.now))
           c.in_ok-write_terms.ensures c.new-report.ensures.items))

@@ -15,8 +15,8 @@ invariant_of-self-2 g c =
         c.self.invariant.0 c.insert.ensures.was_ordered
         (subst (AllBelow g.K.Ord.cmp c.args.key) (sym c.self.view_is) c.requires.greatest) in
     (topped_push old c.insert.new.self.entries c.args.key s is c.requires.some,
-          All-push (λ e. e.1.pass ≤ c.self.inside.pass) c.insert.new.self.entries old
-          (c.args.key, s) is c.self.invariant.1 (omega arith))
+          All-push (λ e. e.1.pass ≤ c.self.inside.pass) c.insert.new.self.entries old (c.args.key,
+            s) is c.self.invariant.1 (omega arith))
 
 pub returns-clause-pushed : goal.returns-clause-pushed
 returns-clause-pushed g c =

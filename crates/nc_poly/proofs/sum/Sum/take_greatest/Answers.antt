@@ -23,6 +23,6 @@ returns-in-Some-clause-some g c =
     let top =
         taken c.self.inside.kept.entries c.pop_last.new.self.entries c.in-Some.key c.in-Some.slot
         c.self.invariant.0 c.in-Some.ensures.removal in
-    sym c.self.view_is ∙ (top ∙ ap
-          (λ (l : List (Term _)). record { coefficient = c.in-Some.slot.now; key = c.in-Some.key }
-            ∷ l) (sym c.drop_zeros.ensures.terms))
+    sym c.self.view_is ∙ (top ∙ ap (λ (l : List (Term _)). record
+            { coefficient = c.in-Some.slot.now; key = c.in-Some.key } ∷ l)
+          (sym c.drop_zeros.ensures.terms))

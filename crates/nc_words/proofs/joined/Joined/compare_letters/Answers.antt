@@ -33,9 +33,9 @@ loop-count-preserved c = record {
             b (c.loop-count.b.second.now ++ c.loop-count.b.third.now) c.cmp-order.result
             (omega arith) (omega arith) c.cmp-order.ensures
       ∙ (order_passes c.cmp-order.result left c.is_ne.result c.is_ne.ensures c.if-is_ne.false
-      ∙ sym (ap₂ (slice_cmp compare_letters)
-            (c.moved_up-a-in-loop-count.ensures.same ∙ c.without.ensures)
-            (c.moved_up-b-in-loop-count.ensures.same ∙ c.without-in-loop-count.ensures))));
+      ∙ sym (ap₂ (slice_cmp compare_letters) (c.moved_up-a-in-loop-count.ensures.same
+              ∙ c.without.ensures) (c.moved_up-b-in-loop-count.ensures.same
+              ∙ c.without-in-loop-count.ensures))));
   first = c.moved_up-a-in-loop-count.ensures.first;
   second = c.moved_up-b-in-loop-count.ensures.first;
 }
@@ -48,8 +48,8 @@ returns c =
           c.loop-count.invariant.first c.loop-count.invariant.second
           (elim c.loop-count-test.branch
             [ then-loop-count-test+else-not-is_empty w ↦ inr
-              (eqb-true (length c.loop-count.b.first.now) 0
-                (sym w.is_empty-in-loop-count.ensures ∙ w.if-not-is_empty.false)) |
-              else-loop-count-test w ↦ inl (eqb-true (length c.loop-count.a.first.now) 0
+              (eqb-true (length c.loop-count.b.first.now) 0 (sym w.is_empty-in-loop-count.ensures
+                ∙ w.if-not-is_empty.false)) | else-loop-count-test w ↦ inl
+              (eqb-true (length c.loop-count.a.first.now) 0
                 (sym c.is_empty.ensures ∙ w.loop-count-test.false)) ])
     ∙ sym c.loop-count.invariant.same)

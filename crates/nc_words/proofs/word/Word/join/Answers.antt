@@ -10,8 +10,8 @@ invariant_of-result c =
     let b : Word = c.args.b.now in
     let d : Word = c.args.c.now in
     let first : c.extend_from_slice.new.self.items ≡ a =
-        c.in_ok-extend_from_slice.ensures.ok ∙ ap (λ (l : Word). l ++ a)
-        (c.reserve.ensures.items ∙ c.new-kept.ensures.items) in
+        c.in_ok-extend_from_slice.ensures.ok
+        ∙ ap (λ (l : Word). l ++ a) (c.reserve.ensures.items ∙ c.new-kept.ensures.items) in
     let second : c.extend_from_slice-2.new.self.items ≡ a ++ b =
         c.in_ok-extend_from_slice-2.ensures.ok ∙ ap (λ (l : Word). l ++ b) first in
     let is : c.extend_from_slice-3.new.self.items ≡ a ++ (b ++ d) =
