@@ -1,7 +1,6 @@
 -- A word of what a module element evaluates to weighs at most the degree of the element's
--- signature.
--- First for one monomial (`image_limited`), then for elements (`words_limited`), and so for
--- labelled polynomials (`labelled_limited`, which is the law `label_limit`).
+-- signature. First for one monomial (`image_limited`), then for elements (`words_limited`), and so
+-- for labelled polynomials (`labelled_limited`, which is the law `label_limit`).
 use Rattle.nc_algebra.proofs.Elements.{coefficient-evaluation, image, polynomial_times_leads}
 use Rattle.nc_algebra.proofs.Leading.{lead_leads}
 use Rattle.nc_algebra.proofs.Monomials.{monomial_laws}

@@ -1,8 +1,7 @@
 -- The normal forms of values: the parts behind them are ready, and lines over them have the same
--- values.
--- A part is ready if its products are words that a program can have (`line_ready`). A line has the
--- same value, as a polynomial, over the normal forms of the values before it as over the values
--- (`same_line`).
+-- values. A part is ready if its products are words that a program can have (`line_ready`). A line
+-- has the same value, as a polynomial, over the normal forms of the values before it as over the
+-- values (`same_line`).
 use Rattle.nc_algebra.proofs.Elements.{same_times}
 use Rattle.nc_algebra.proofs.Lists.{same-append, same-refl}
 use Rattle.nc_algebra.proofs.NormalForms.{normal_form_listed, normal_form_normal, normal_form_same}

@@ -1,7 +1,6 @@
--- The values of lines as they are kept: in normal form, each made once.
--- They are the normal forms of the values that the definition gives (`value_step`), and each line
--- is
--- ready over those before it (`ready_at`).
+-- The values of lines as they are kept: in normal form, each made once. They are the normal forms
+-- of the values that the definition gives (`value_step`), and each line is ready over those before
+-- it (`ready_at`).
 use Rattle.nc_algebra.proofs.NormalForms.{normal_form_equal}
 use Rattle.nc_algebra.specs.Certificates.{AreLines, Line, line_value, values_of}
 use Rattle.nc_algebra.specs.Polynomials.{Polynomial, normal_form}

@@ -1,7 +1,6 @@
 -- Each label has a normal form, so a number of terms; and of the labels with too many terms one is
--- the first.
--- So it can be decided whether a label has too many. The least such entry, or else the least such
--- syzygy, is found among finitely many (`found`), and is unique (`one_alone`).
+-- the first. So it can be decided whether a label has too many. The least such entry, or else the
+-- least such syzygy, is found among finitely many (`found`), and is unique (`one_alone`).
 use Rattle.nc_algebra.proofs.Orders.{Decided, least, nat_order}
 use Rattle.nc_algebra.proofs.Primes.{field_from_prime}
 use Rattle.nc_algebra.specs.Elements.{Element, HasDegree, Setting, generator_weight}

@@ -1,7 +1,6 @@
 -- What the trace of a listed item names: entries with lesser signatures, whose multiples are within
--- the bound.
--- `rebuilds_named` says so of what is rebuilt. An entry with a lesser signature is an earlier one
--- (`names_earlier`).
+-- the bound. `rebuilds_named` says so of what is rebuilt. An entry with a lesser signature is an
+-- earlier one (`names_earlier`).
 use Rattle.nc_algebra.proofs.Degrees.{degree_within, degrees}
 use Rattle.nc_algebra.proofs.Finite.{contains_among}
 use Rattle.nc_algebra.proofs.Monomials.{monomial_irrefl, monomial_trans}

@@ -1,6 +1,5 @@
 -- The sum of the labels of multiples that were subtracted, and what the first label with too many
--- terms says.
--- As for items in `Expansions.antt`: first the labels that the multiples need are made
+-- terms says. As for items in `Expansions.antt`: first the labels that the multiples need are made
 -- (`fill_fails`), and the sum comes last.
 use Rattle.nc_algebra.proofs.Finite.{contains_among}
 use Rattle.nc_algebra.specs.Monomials.{Monomial, Sig}

@@ -4,8 +4,7 @@
 -- `None`. A number has 1 to 18 decimal digits and lies in its range; leading zeros are digits. A
 -- default holds where the option was not given, and never for a text that is no value. `cofactors`
 -- says what is shown of the cofactors: none, the traces, or the labels in full; `form` says whether
--- a
--- certificate is printed as terms or as lines.
+-- a certificate is printed as terms or as lines.
 use Rattle.std.specs.Prelude.{◌&&◌, ◌==◌, ℕ, Option, Some, None, codes, if◌then◌else◌, length, nat_le, nat_lt, option_and_then, option_map}
 use Rattle.std.specs.Char.{is_ascii_digit}
 use Rattle.std.specs.List.{list_all}

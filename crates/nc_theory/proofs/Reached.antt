@@ -1,8 +1,7 @@
 -- What a run over a program's setting reaches: entries that can be used, and signatures that can be
--- handled.
--- Entries are in normal form and not zero, by the invariants of the run. Their words weigh at most
--- the degree of their signatures, since they have labels, and are over the letters of the setting
--- (`run_usable`). Each candidate can be handled (`candidate_usable`).
+-- handled. Entries are in normal form and not zero, by the invariants of the run. Their words weigh
+-- at most the degree of their signatures, since they have labels, and are over the letters of the
+-- setting (`run_usable`). Each candidate can be handled (`candidate_usable`).
 use Rattle.nc_algebra.proofs.Degrees.{degree_within, labelled_limited}
 use Rattle.nc_algebra.proofs.Ranks.{over_letters}
 use Rattle.nc_algebra.proofs.Sums.{zero_number}

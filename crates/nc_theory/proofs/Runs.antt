@@ -1,6 +1,5 @@
--- Whole reductions.
--- Where nothing is left, what was kept is a normal form (`whole_normal`) and ends the reduction
--- (`whole`).
+-- Whole reductions. Where nothing is left, what was kept is a normal form (`whole_normal`) and ends
+-- the reduction (`whole`).
 use Rattle.nc_algebra.proofs.NormalForms.{normal_form-normal}
 use Rattle.nc_algebra.proofs.Sums.{zero_number}
 use Rattle.nc_algebra.specs.Elements.{Setting}

@@ -1,10 +1,10 @@
 -- An outcome found over an older state is the outcome over a newer one, where nothing newer bears
--- on it.
--- A divisor over the longer list is one over the front under the same number, or its entry is newer
--- and has a greater number (`front_or_later`). So what was chosen is still chosen (`chosen_on`),
--- and the best multiple is still the best (`best_on`); start and reduction are the same (`stands`).
--- The other way (`stood`): a newer entry with a lesser word would give another best multiple
--- (`not_beaten`), and a newer regular divisor of a kept word is excluded by `kept_clear`.
+-- on it. A divisor over the longer list is one over the front under the same number, or its entry
+-- is newer and has a greater number (`front_or_later`). So what was chosen is still chosen
+-- (`chosen_on`), and the best multiple is still the best (`best_on`); start and reduction are the
+-- same (`stands`). The other way (`stood`): a newer entry with a lesser word would give another
+-- best multiple (`not_beaten`), and a newer regular divisor of a kept word is excluded by
+-- `kept_clear`.
 use Rattle.nc_algebra.proofs.Orders.{nat_order}
 use Rattle.nc_algebra.proofs.Sums.{zero_number}
 use Rattle.nc_algebra.proofs.Words.{word_irrefl, word_total, word_trans}

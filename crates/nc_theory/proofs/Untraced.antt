@@ -1,10 +1,9 @@
 -- Lists of entries with the same signatures and polynomials have the same divisors, and so the same
--- reductions.
--- An entry of the one list has one at the same index in the other (`in_place`), so a divisor is
--- carried over with its number and the words around it (`moved`). Choices, best multiples,
--- reductions, starts and trivial syzygies are stated by divisors and go with them; what is denied
--- goes back the other way. A new ambiguity names its entry and not its index, so the newest entry
--- is put in its place (`placed`).
+-- reductions. An entry of the one list has one at the same index in the other (`in_place`), so a
+-- divisor is carried over with its number and the words around it (`moved`). Choices, best
+-- multiples, reductions, starts and trivial syzygies are stated by divisors and go with them; what
+-- is denied goes back the other way. A new ambiguity names its entry and not its index, so the
+-- newest entry is put in its place (`placed`).
 use Rattle.nc_algebra.specs.Elements.{IsLess, Setting}
 use Rattle.nc_algebra.specs.Monomials.{Monomial, times}
 use Rattle.nc_algebra.specs.Polynomials.{Polynomial, coefficient, leading, polynomial_times}

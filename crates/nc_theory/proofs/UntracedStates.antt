@@ -1,7 +1,6 @@
 -- States with the same items up to traces: what they cover, what becomes of a signature, and what
--- waits.
--- They have the same outcomes and candidates (`moved_handles`, `moved_candidate`), and stay such
--- states with an outcome (`same_after`).
+-- waits. They have the same outcomes and candidates (`moved_handles`, `moved_candidate`), and stay
+-- such states with an outcome (`same_after`).
 use Rattle.nc_algebra.specs.Elements.{IsLess, Setting}
 use Rattle.nc_algebra.specs.Monomials.{Monomial, unit_monomial}
 use Rattle.nc_algebra.specs.Problems.{Problem}

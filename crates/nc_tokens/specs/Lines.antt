@@ -43,8 +43,7 @@ abbrev pub is_allowed : ℕ → Bool
 is_allowed b = (b == 9) || is_in_range 32 126 b
 
 -- The lines that are not blank, each with its number, whether its bytes are allowed, and its
--- tokens;
--- then the end, with the number of lines plus 1.
+-- tokens; then the end, with the number of lines plus 1.
 pub data Written : Type 0 where
   End : ℕ → Written
   Line : ℕ → Bool → List Token → Written → Written

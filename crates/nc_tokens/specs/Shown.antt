@@ -2,8 +2,7 @@
 --
 -- The definitions have a list of all tokens of a line. Code reads them one by one, and has a token
 -- of its own for the end of a line. `IsTakenToken` and `IsTakenLiteral` are on calls that take a
--- token
--- only if it is the wanted one.
+-- token only if it is the wanted one.
 use Rattle.nc_tokens.specs.declared.fault.LineError.{LineError}
 use Rattle.nc_tokens.specs.declared.fault.LineError.TheVariants as errors
 use Rattle.nc_tokens.specs.declared.token.Token as shown
