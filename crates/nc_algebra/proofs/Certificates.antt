@@ -21,16 +21,19 @@ module _ (p : ℕ) (some : 0 < p) where
       → normal_form p (minus p f 1 g) ≡ []
   difference_empty f g e =
       sym (normal_form_only p (minus p f 1 g) [] some
-        (tt, All-from_recursion (λ t. t.coefficient < p) [] tt) record
-        { at = λ x. zero_number p ∙ sym (subst (IsZero p) (sym (difference_at f g x))
-            (zero_from_same p (coefficient f x) (coefficient g x) some (sym (e.at x)))) })
+      (tt, All-from_recursion (λ t. t.coefficient < p) [] tt) record {
+        at = λ x. zero_number p ∙ sym (subst (IsZero p) (sym (difference_at f g x))
+            (zero_from_same p (coefficient f x) (coefficient g x) some (sym (e.at x))));
+      })
 
   -- and where it is empty they are equal
   pub equal_from_empty : (f g : Polynomial) → normal_form p (minus p f 1 g) ≡ []
       → SameSum same_word p g f
   equal_from_empty f g e =
-      record { at = λ x. sym (same_from_zero p (coefficient f x) (coefficient g x) some
-          (subst (IsZero p) (difference_at f g x) (zero x))) }
+      record {
+        at = λ x. sym (same_from_zero p (coefficient f x) (coefficient g x) some
+            (subst (IsZero p) (difference_at f g x) (zero x)));
+      }
     where
       zero : (x : Word) → IsZero p (coefficient (minus p f 1 g) x)
       zero x =
@@ -40,6 +43,7 @@ module _ (p : ℕ) (some : 0 < p) where
 -- the last line's value is the claim exactly where the rest is empty
 pub valid_by_rest : (s : Setting) (claim : Polynomial) (lines : List Line) → 0 < s.prime
     → IsValid s claim lines ↔ (rest_of s claim lines ≡ [])
-valid_by_rest s claim lines some =
-    (difference_empty s.prime some claim (lines_value s lines),
-      equal_from_empty s.prime some claim (lines_value s lines))
+valid_by_rest s claim lines some = (
+  difference_empty s.prime some claim (lines_value s lines),
+  equal_from_empty s.prime some claim (lines_value s lines),
+)

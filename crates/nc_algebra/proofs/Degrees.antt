@@ -29,29 +29,33 @@ module _ (s : Setting) where
       shorter : word_weight (σ.left ++ (leading s.prime (generator s σ.generator) ++ σ.right))
           < word_weight x
       shorter =
-          omega (arith, l, weight-append σ.left
-            (leading s.prime (generator s σ.generator) ++ σ.right),
-            weight-append (leading s.prime (generator s σ.generator)) σ.right)
+          omega (
+            arith,
+            l,
+            weight-append σ.left
+                (leading s.prime (generator s σ.generator) ++ σ.right),
+            weight-append (leading s.prime (generator s σ.generator)) σ.right,
+          )
 
       go : ((w : Word) → IsZero s.prime (coefficient (generator s σ.generator) w))
           ⊎ ((w : Word) × IsLeadingWord s (generator s σ.generator) w)
           → IsZero s.prime (image s x σ)
       go (inl z) =
           subst (IsZero s.prime) (sym (linear_sum-map_keys (is_at same_word x)
-              (λ w. σ.left ++ (w ++ σ.right)) (generator s σ.generator)))
+          (λ w. σ.left ++ (w ++ σ.right)) (generator s σ.generator)))
           (linear_sum_zero same_word IsWordLess word_laws s.prime
-            (λ w. is_at same_word x (σ.left ++ (w ++ σ.right))) (generator s σ.generator)
-            (λ w. inl (z w)))
+          (λ w. is_at same_word x (σ.left ++ (w ++ σ.right))) (generator s σ.generator)
+          (λ w. inl (z w)))
       go (inr (w, d)) =
           (polynomial_times_leads s σ.left (generator s σ.generator) σ.right
-            (leading s.prime (generator s σ.generator)) (leads w d)).above x
+          (leading s.prime (generator s σ.generator)) (leads w d)).above x
           (lighter_less _ x shorter)
 
   pub degrees : (σ τ : Monomial) → (σ ≡ τ) ⊎ IsLess s σ τ
       → degree_of (generator_weight s) σ ≤ degree_of (generator_weight s) τ
   degrees σ τ (inl e) =
       let d : degree_of (generator_weight s) σ ≡ degree_of (generator_weight s) τ =
-          ap (degree_of (generator_weight s)) e in omega (arith, d)
+      ap (degree_of (generator_weight s)) e in omega (arith, d)
   degrees σ τ (inr (inl h)) = omega arith
   degrees σ τ (inr (inr (e, h))) = omega (arith, e)
 
@@ -69,23 +73,25 @@ module _ (s : Setting) where
       each : degree_of (generator_weight s) τ < word_weight x → (σ : Monomial)
           → IsZero s.prime (coefficient_by same_monomial α σ) ⊎ IsZero s.prime (image s x σ)
       each l σ =
-          elim (zero_dec s.prime (coefficient_by same_monomial α σ))
-          [ inl z ↦ inl z | inr nz ↦ inr
-            (image_limited σ x (let k : degree_of (generator_weight s) σ
+          elim (zero_dec s.prime (coefficient_by same_monomial α σ)) [
+            | inl z ↦ inl z
+            | inr nz ↦ inr
+                (image_limited σ x (let k : degree_of (generator_weight s) σ
                 ≤ degree_of (generator_weight s) τ = degrees σ τ
                 (below_lead same_monomial (IsLess s) (monomial_laws (generator_weight s)) s.prime α
-                  τ σ d nz) in omega arith)) ]
+                τ σ d nz) in omega arith))
+          ]
 
       go : (word_weight x < degree_of (generator_weight s) τ)
           ⊎ ((word_weight x ≡ degree_of (generator_weight s) τ)
-            ⊎ (degree_of (generator_weight s) τ < word_weight x))
+          ⊎ (degree_of (generator_weight s) τ < word_weight x))
           → word_weight x ≤ degree_of (generator_weight s) τ
       go (inl h) = omega arith
       go (inr (inl h)) = omega (arith, h)
       go (inr (inr h)) =
           absurd (n (subst (IsZero s.prime) (sym (coefficient-evaluation s α x))
-              (linear_sum_zero same_monomial (IsLess s) (monomial_laws (generator_weight s)) s.prime
-                (image s x) α (each h))))
+          (linear_sum_zero same_monomial (IsLess s) (monomial_laws (generator_weight s)) s.prime
+          (image s x) α (each h))))
 
   -- so each word of a labelled polynomial weighs at most its signature's degree
   pub labelled_limited : (τ : Monomial) (f : Polynomial) (α : Element) → IsLabelled s τ f α

@@ -35,9 +35,9 @@ module _ (s : Setting) where
   evaluation-minus α c β y =
       coefficient-evaluation (minus s.prime α c β) y
       ∙ (linear_sum-append (image s y) α (scale ((s.prime - 1) * c) β)
-        ∙ ap₂ (λ a b. a + b) (sym (coefficient-evaluation α y))
-        (linear_sum-scale (image s y) ((s.prime - 1) * c) β
-          ∙ ap (λ n. (s.prime - 1) * c * n) (sym (coefficient-evaluation β y))))
+      ∙ ap₂ (λ a b. a + b) (sym (coefficient-evaluation α y))
+      (linear_sum-scale (image s y) ((s.prime - 1) * c) β
+      ∙ ap (λ n. (s.prime - 1) * c * n) (sym (coefficient-evaluation β y))))
 
   pub evaluation-times : (u : Word) (α : Element) (v : Word) (y : Word)
       → coefficient (evaluation s (element_times u α v)) y ≡ coefficient
@@ -45,12 +45,12 @@ module _ (s : Setting) where
   evaluation-times u α v y =
       coefficient-evaluation (element_times u α v) y
       ∙ (linear_sum-map_keys (image s y) (λ σ. times u σ v) α
-        ∙ (linear_sum-ext (λ σ. image s y (times u σ v))
-          (λ σ. linear_sum (λ w. is_at same_word y (u ++ (w ++ v)))
-            (polynomial_times σ.left (generator s σ.generator) σ.right)) α each
-          ∙ sym (linear_sum-map_keys (is_at same_word y) (λ w. u ++ (w ++ v)) (evaluation s α)
-            ∙ linear_sum-substitute (λ w. is_at same_word y (u ++ (w ++ v)))
-            (λ σ. polynomial_times σ.left (generator s σ.generator) σ.right) α)))
+      ∙ (linear_sum-ext (λ σ. image s y (times u σ v))
+      (λ σ. linear_sum (λ w. is_at same_word y (u ++ (w ++ v)))
+      (polynomial_times σ.left (generator s σ.generator) σ.right)) α each
+      ∙ sym (linear_sum-map_keys (is_at same_word y) (λ w. u ++ (w ++ v)) (evaluation s α)
+      ∙ linear_sum-substitute (λ w. is_at same_word y (u ++ (w ++ v)))
+      (λ σ. polynomial_times σ.left (generator s σ.generator) σ.right) α)))
     where
       regroup : (a x b : Word) → (u ++ a) ++ (x ++ (b ++ v)) ≡ u ++ ((a ++ (x ++ b)) ++ v)
       regroup a x b = simp append_assoc
@@ -61,29 +61,34 @@ module _ (s : Setting) where
       each σ =
           linear_sum-map_keys (is_at same_word y) (λ w. (u ++ σ.left) ++ (w ++ (σ.right ++ v)))
           (generator s σ.generator) ∙ (linear_sum-ext
-            (λ x. is_at same_word y ((u ++ σ.left) ++ (x ++ (σ.right ++ v))))
-            (λ x. is_at same_word y (u ++ ((σ.left ++ (x ++ σ.right)) ++ v)))
-            (generator s σ.generator) (λ x. ap (is_at same_word y) (regroup σ.left x σ.right))
-            ∙ sym (linear_sum-map_keys (λ w. is_at same_word y (u ++ (w ++ v)))
-              (λ w. σ.left ++ (w ++ σ.right)) (generator s σ.generator)))
+          (λ x. is_at same_word y ((u ++ σ.left) ++ (x ++ (σ.right ++ v))))
+          (λ x. is_at same_word y (u ++ ((σ.left ++ (x ++ σ.right)) ++ v)))
+          (generator s σ.generator) (λ x. ap (is_at same_word y) (regroup σ.left x σ.right))
+          ∙ sym (linear_sum-map_keys (λ w. is_at same_word y (u ++ (w ++ v)))
+          (λ w. σ.left ++ (w ++ σ.right)) (generator s σ.generator)))
 
   -- equal polynomials have equal multiples
   pub same_times : (u : Word) (f g : Polynomial) (v : Word) → 0 < s.prime → SamePolynomial s f g
       → SamePolynomial s (polynomial_times u f v) (polynomial_times u g v)
   same_times u f g v h e =
-      record { at = λ y. ap (λ n. n % s.prime)
-        (linear_sum-map_keys (is_at same_word y) (λ w. u ++ (w ++ v)) f)
-        ∙ (linear_sum_same same_word IsWordLess word_laws s.prime
-          (λ w. is_at same_word y (u ++ (w ++ v))) f g h e
-          ∙ sym (ap (λ n. n % s.prime) (linear_sum-map_keys (is_at same_word y) (λ w. u ++ (w ++ v))
-              g))) }
+      record {
+        at = λ y. ap (λ n. n % s.prime)
+            (linear_sum-map_keys (is_at same_word y) (λ w. u ++ (w ++ v)) f)
+            ∙ (linear_sum_same same_word IsWordLess word_laws s.prime
+            (λ w. is_at same_word y (u ++ (w ++ v))) f g h e
+            ∙ sym (ap (λ n. n % s.prime) (linear_sum-map_keys (is_at same_word y)
+            (λ w. u ++ (w ++ v))
+            g)));
+      }
 
   pub evaluation_times : (u : Word) (α : Element) (f : Polynomial) (v : Word) → 0 < s.prime
       → SamePolynomial s (evaluation s α) f
       → SamePolynomial s (evaluation s (element_times u α v)) (polynomial_times u f v)
   evaluation_times u α f v h e =
-      record { at = λ y. ap (λ n. n % s.prime) (evaluation-times u α v y)
-        ∙ (same_times u (evaluation s α) f v h e).at y }
+      record {
+        at = λ y. ap (λ n. n % s.prime) (evaluation-times u α v y)
+            ∙ (same_times u (evaluation s α) f v h e).at y;
+      }
 
   pub evaluation_zero : (α : Element)
       → ((σ : Monomial) → IsZero s.prime (coefficient_by same_monomial α σ))
@@ -91,7 +96,7 @@ module _ (s : Setting) where
   evaluation_zero α z y =
       subst (IsZero s.prime) (sym (coefficient-evaluation α y))
       (linear_sum_zero same_monomial (IsLess s) (monomial_laws (generator_weight s)) s.prime
-        (image s y) α (λ σ. inl (z σ)))
+      (image s y) α (λ σ. inl (z σ)))
 
   pub polynomial_times_leads : (u : Word) (f : Polynomial) (v w : Word) → IsLeadingWord s f w
       → IsLeadingWord s (polynomial_times u f v) (u ++ (w ++ v))
@@ -147,19 +152,21 @@ module _ (s : Setting) where
       each : ¬ HasGenerator σ → (τ : Monomial) → IsZero s.prime (coefficient_by same_monomial α τ)
           ⊎ IsZero s.prime (is_at same_monomial σ (times u τ v))
       each nm τ =
-          elim (zero_dec s.prime (coefficient_by same_monomial α τ))
-          [ inl z ↦ inl z | inr nz ↦ inr
-            (subst (IsZero s.prime) (sym (at_other same_monomial (IsLess s)
-                  (monomial_laws (generator_weight s)) σ (times u τ v) (other nm τ nz)))
-              (zero_number s.prime)) ]
+          elim (zero_dec s.prime (coefficient_by same_monomial α τ)) [
+            | inl z ↦ inl z
+            | inr nz ↦ inr
+                (subst (IsZero s.prime) (sym (at_other same_monomial (IsLess s)
+                (monomial_laws (generator_weight s)) σ (times u τ v) (other nm τ nz)))
+                (zero_number s.prime))
+          ]
 
       go : HasGenerator σ ⊎ ¬ HasGenerator σ → HasGenerator σ
       go (inl m) = m
       go (inr nm) =
           absurd (n (subst (IsZero s.prime)
-              (sym (linear_sum-map_keys (is_at same_monomial σ) (λ τ. times u τ v) α))
-              (linear_sum_zero same_monomial (IsLess s) (monomial_laws (generator_weight s)) s.prime
-                (λ τ. is_at same_monomial σ (times u τ v)) α (each nm))))
+          (sym (linear_sum-map_keys (is_at same_monomial σ) (λ τ. times u τ v) α))
+          (linear_sum_zero same_monomial (IsLess s) (monomial_laws (generator_weight s)) s.prime
+          (λ τ. is_at same_monomial σ (times u τ v)) α (each nm))))
 
   pub in_minus : (α : Element) (c : ℕ) (β : Element) → IsIn s α HasGenerator → IsIn s β HasGenerator
       → IsIn s (minus s.prime α c β) HasGenerator
@@ -175,10 +182,10 @@ module _ (s : Setting) where
       go (inl z) (inr nz) = k σ nz
       go (inl z) (inl y) =
           absurd (n (subst (IsZero s.prime)
-              (sym (coefficient-minus same_monomial (IsLess s) (monomial_laws (generator_weight s))
-                  s.prime α c β σ)) (zero_add s.prime (coefficient_by same_monomial α σ)
-                ((s.prime - 1) * c * coefficient_by same_monomial β σ) z
-                (zero_mul_left s.prime ((s.prime - 1) * c) (coefficient_by same_monomial β σ) y))))
+          (sym (coefficient-minus same_monomial (IsLess s) (monomial_laws (generator_weight s))
+          s.prime α c β σ)) (zero_add s.prime (coefficient_by same_monomial α σ)
+          ((s.prime - 1) * c * coefficient_by same_monomial β σ) z
+          (zero_mul_left s.prime ((s.prime - 1) * c) (coefficient_by same_monomial β σ) y))))
 
   -- a monomial less, or nothing at all, is left where the greatest monomial is struck out
   pub strike_top : (α : Element) (c : ℕ) (δ : Element) (τ : Monomial) → 0 < s.prime
@@ -188,31 +195,31 @@ module _ (s : Setting) where
       ⊎ ((σ : Monomial) × IsLess s σ τ × IsSignatureOf s (minus s.prime α c δ) σ)
   strike_top α c δ τ h d e q =
       go (top same_monomial (IsLess s) (monomial_laws (generator_weight s)) s.prime
-        (minus s.prime α c δ))
+      (minus s.prime α c δ))
     where
       at_top : IsZero s.prime (coefficient_by same_monomial (minus s.prime α c δ) τ)
       at_top =
           subst (IsZero s.prime) (sym (coefficient-minus same_monomial (IsLess s)
-              (monomial_laws (generator_weight s)) s.prime α c δ τ ∙ omega arith))
+          (monomial_laws (generator_weight s)) s.prime α c δ τ ∙ omega arith))
           (zero_from_same s.prime (coefficient_by same_monomial α τ)
-            (c * coefficient_by same_monomial δ τ) h q)
+          (c * coefficient_by same_monomial δ τ) h q)
 
       over : (σ : Monomial) → IsLess s τ σ
           → IsZero s.prime (coefficient_by same_monomial (minus s.prime α c δ) σ)
       over σ l =
           subst (IsZero s.prime) (sym (coefficient-minus same_monomial (IsLess s)
-              (monomial_laws (generator_weight s)) s.prime α c δ σ))
+          (monomial_laws (generator_weight s)) s.prime α c δ σ))
           (zero_add s.prime (coefficient_by same_monomial α σ)
-            ((s.prime - 1) * c * coefficient_by same_monomial δ σ) (d.above σ l)
-            (zero_mul_left s.prime ((s.prime - 1) * c) (coefficient_by same_monomial δ σ)
-              (e.above σ l)))
+          ((s.prime - 1) * c * coefficient_by same_monomial δ σ) (d.above σ l)
+          (zero_mul_left s.prime ((s.prime - 1) * c) (coefficient_by same_monomial δ σ)
+          (e.above σ l)))
 
       place : (σ : Monomial) → IsSignatureOf s (minus s.prime α c δ) σ → IsLess s σ τ
           ⊎ ((σ ≡ τ) ⊎ IsLess s τ σ) → IsLess s σ τ
       place σ f (inl l) = l
       place σ f (inr (inl i)) =
           absurd (f.nonzero (subst (λ ρ. IsZero s.prime
-                (coefficient_by same_monomial (minus s.prime α c δ) ρ)) (sym i) at_top))
+          (coefficient_by same_monomial (minus s.prime α c δ) ρ)) (sym i) at_top))
       place σ f (inr (inr l)) = absurd (f.nonzero (over σ l))
 
       go : ((σ : Monomial) → IsZero s.prime (coefficient_by same_monomial (minus s.prime α c δ) σ))
@@ -228,15 +235,15 @@ module _ (s : Setting) where
   leads_minus α c β τ σ d e l = record {
     nonzero =
         λ z. d.nonzero (zero_rest s.prime ((s.prime - 1) * c * coefficient_by same_monomial β τ)
-          (coefficient_by same_monomial α τ)
-          (subst (IsZero s.prime) (coefficient-minus same_monomial (IsLess s)
-              (monomial_laws (generator_weight s)) s.prime α c β τ ∙ omega arith) z)
-          (zero_mul_left s.prime ((s.prime - 1) * c) (coefficient_by same_monomial β τ)
-            (e.above τ l)));
+        (coefficient_by same_monomial α τ)
+        (subst (IsZero s.prime) (coefficient-minus same_monomial (IsLess s)
+        (monomial_laws (generator_weight s)) s.prime α c β τ ∙ omega arith) z)
+        (zero_mul_left s.prime ((s.prime - 1) * c) (coefficient_by same_monomial β τ)
+        (e.above τ l)));
     above = λ ρ h. subst (IsZero s.prime)
         (sym (coefficient-minus same_monomial (IsLess s) (monomial_laws (generator_weight s))
-            s.prime α c β ρ)) (zero_add s.prime (coefficient_by same_monomial α ρ)
-          ((s.prime - 1) * c * coefficient_by same_monomial β ρ) (d.above ρ h)
-          (zero_mul_left s.prime ((s.prime - 1) * c) (coefficient_by same_monomial β ρ)
-            (e.above ρ ((monomial_laws (generator_weight s)).trans σ τ ρ l h))));
+        s.prime α c β ρ)) (zero_add s.prime (coefficient_by same_monomial α ρ)
+        ((s.prime - 1) * c * coefficient_by same_monomial β ρ) (d.above ρ h)
+        (zero_mul_left s.prime ((s.prime - 1) * c) (coefficient_by same_monomial β ρ)
+        (e.above ρ ((monomial_laws (generator_weight s)).trans σ τ ρ l h))));
   }

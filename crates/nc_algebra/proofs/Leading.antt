@@ -25,8 +25,11 @@ occurs p (t ∷ f) x n = go (key_dec same_word IsWordLess word_laws x t.key) (oc
     go (inl e) h = inl e
     go (inr d) h =
         inr (h (λ z. n (subst (IsZero p)
-              (sym (omega (arith, ap (λ m. t.coefficient * m)
-                (at_other same_word IsWordLess word_laws x t.key d)))) z)))
+        (sym (omega (
+          arith,
+          ap (λ m. t.coefficient * m)
+              (at_other same_word IsWordLess word_laws x t.key d),
+        ))) z)))
 
 abbrev IsAtMost : Word → Word → Type 0
 IsAtMost x y = (x ≡ y) ⊎ IsWordLess x y
@@ -54,11 +57,11 @@ among_most p f (t ∷ g) x n o =
         → (Occurs x g → IsAtMost x (leading_among p f g)) → IsAtMost x (leading_among p f (t ∷ g))
     go true e c d (inl i) h =
         absurd (n (subst (λ y. IsZero p (coefficient f y)) (sym i)
-            (eqb-true (coefficient f t.key % p) 0 e)))
+        (eqb-true (coefficient f t.key % p) 0 e)))
     go true e c d (inr k) h = rw e (h k)
     go false e true d (inl i) h =
         rw (e, d) (inr (subst (λ y. IsWordLess y (leading_among p f g)) (sym i)
-            (word_less_sound t.key (leading_among p f g) d)))
+        (word_less_sound t.key (leading_among p f g) d)))
     go false e true d (inr k) h = rw (e, d) (h k)
     go false e false d (inl i) h = rw (e, d) (inl i)
     go false e false d (inr k) h = rw (e, d) (last d (h k) (word_total t.key (leading_among p f g)))

@@ -69,7 +69,7 @@ module _ {K L : Type 0} where
   substitute-scale φ c (t ∷ f) =
       ap₂ (λ (g h : List (Term L)). g ++ h) (scale-scale c t.coefficient (φ t.key))
       (substitute-scale φ c f) ∙ sym (scale-append c (scale t.coefficient (φ t.key))
-        (substitute f φ))
+      (substitute f φ))
 
 -- ---- evaluation
 
@@ -89,13 +89,13 @@ module _ (s : Setting) where
   evaluation-multiple u [] v = refl
   evaluation-multiple u (t ∷ α) v =
       ap₂ (λ (g h : Polynomial). g ++ h)
-          (ap (scale t.coefficient) (moved u t.key.left t.key.right v (generator s t.key.generator))
-            ∙ sym (map_keys-scale (λ w. u ++ (w ++ v)) t.coefficient
-              (polynomial_times t.key.left (generator s t.key.generator) t.key.right)))
-          (evaluation-multiple u α v)
+      (ap (scale t.coefficient) (moved u t.key.left t.key.right v (generator s t.key.generator))
+      ∙ sym (map_keys-scale (λ w. u ++ (w ++ v)) t.coefficient
+      (polynomial_times t.key.left (generator s t.key.generator) t.key.right)))
+      (evaluation-multiple u α v)
       ∙ sym (map_keys-append (λ w. u ++ (w ++ v))
-            (scale t.coefficient (polynomial_times t.key.left (generator s t.key.generator)
-                t.key.right)) (evaluation s α))
+      (scale t.coefficient (polynomial_times t.key.left (generator s t.key.generator)
+      t.key.right)) (evaluation s α))
 
   bare : (f : Polynomial) → polynomial_times [] f [] ≡ f
   bare [] = refl
@@ -114,18 +114,18 @@ module _ (s : Setting) where
       → factor_value s (map (evaluation s) elements) f ≡ evaluation s (factor_element elements f)
   factor_evaluates elements (Factor.a_generator i) =
       sym (append-nil (scale 1 (polynomial_times [] (generator s i) []))
-        ∙ scale-one (polynomial_times [] (generator s i) []) ∙ bare (generator s i))
+      ∙ scale-one (polynomial_times [] (generator s i) []) ∙ bare (generator s i))
   factor_evaluates elements (Factor.a_line k) = item-values elements k
 
   part_evaluates : (elements : List Element) (part : Part)
       → part_value s (map (evaluation s) elements) part ≡ evaluation s (part_element elements part)
   part_evaluates elements part =
       ap (λ (f : Polynomial). scale part.coefficient (polynomial_times part.left f part.right))
-          (factor_evaluates elements part.of)
+      (factor_evaluates elements part.of)
       ∙ ap (scale part.coefficient) (sym (evaluation-multiple part.left
-              (factor_element elements part.of) part.right))
+      (factor_element elements part.of) part.right))
       ∙ sym (substitute-scale (λ σ. polynomial_times σ.left (generator s σ.generator) σ.right)
-            part.coefficient (element_times part.left (factor_element elements part.of) part.right))
+      part.coefficient (element_times part.left (factor_element elements part.of) part.right))
 
   line_evaluates : (elements : List Element) (line : Line)
       → line_value s (map (evaluation s) elements) line ≡ evaluation s (line_element elements line)
@@ -133,9 +133,9 @@ module _ (s : Setting) where
   line_evaluates elements [] = refl
   line_evaluates elements (part ∷ line) =
       ap₂ (λ (g h : Polynomial). g ++ h) (part_evaluates elements part)
-          (line_evaluates elements line)
+      (line_evaluates elements line)
       ∙ sym (substitute-append (λ σ. polynomial_times σ.left (generator s σ.generator) σ.right)
-            (part_element elements part) (line_element elements line))
+      (part_element elements part) (line_element elements line))
 
   lines_evaluate : (elements : List Element) (lines : List Line)
       → values_after s (map (evaluation s) elements) lines ≡ map (evaluation s)
@@ -144,9 +144,9 @@ module _ (s : Setting) where
   lines_evaluate elements [] = refl
   lines_evaluate elements (line ∷ lines) =
       ap (λ (values : List Polynomial). values_after s values lines)
-          (ap (λ (f : Polynomial). map (evaluation s) elements ++ f ∷ [])
-            (line_evaluates elements line)
-            ∙ sym (map-append (evaluation s) elements (line_element elements line ∷ [])))
+      (ap (λ (f : Polynomial). map (evaluation s) elements ++ f ∷ [])
+      (line_evaluates elements line)
+      ∙ sym (map-append (evaluation s) elements (line_element elements line ∷ [])))
       ∙ lines_evaluate (elements ++ line_element elements line ∷ []) lines
 
   -- the value of the last line is what its element evaluates to
@@ -154,7 +154,7 @@ module _ (s : Setting) where
       → evaluation s (lines_element lines) ≡ lines_value s lines
   value_evaluates lines =
       sym (ap (λ (values : List Polynomial). item [] values (length lines))
-        (lines_evaluate [] lines) ∙ item-values (elements_after [] lines) (length lines))
+      (lines_evaluate [] lines) ∙ item-values (elements_after [] lines) (length lines))
 
 -- ---- generators
 
@@ -187,10 +187,13 @@ module _ (s : Setting) where
       → coefficient_by same_monomial α σ ≡ 0
   no_coefficient σ [] a n = refl
   no_coefficient σ (t ∷ α) a n =
-      omega (arith, ap (λ m. t.coefficient * m)
-        (at_other same_monomial (IsLess s) (monomial_laws (generator_weight s)) σ t.key
-          (λ e. n (subst (λ (τ : Monomial). IsGenerator s τ.generator) (sym e) a.0))),
-        no_coefficient σ α a.1 n)
+      omega (
+        arith,
+        ap (λ m. t.coefficient * m)
+            (at_other same_monomial (IsLess s) (monomial_laws (generator_weight s)) σ t.key
+            (λ e. n (subst (λ (τ : Monomial). IsGenerator s τ.generator) (sym e) a.0))),
+        no_coefficient σ α a.1 n,
+      )
 
   pub generated_is_in : (α : Element) → AreGenerated α → IsIn s α (λ σ. IsGenerator s σ.generator)
   generated_is_in α a σ n = go (generator_dec s σ.generator)
@@ -207,7 +210,7 @@ module _ (s : NamedSetting) where
   part_generated elements reaches part a h =
       generated-scale s.setting part.coefficient _
       (generated-times s.setting part.left (factor_element elements part.of) part.right
-        (by_factor part.of h.factor))
+      (by_factor part.of h.factor))
     where
       by_factor : (f : Factor) → Rattle.nc_algebra.specs.Certificates.IsFactor s.setting
           (length reaches) f → AreGenerated s.setting (factor_element elements f)
@@ -236,17 +239,19 @@ module _ (s : NamedSetting) where
   lines_generated elements reaches [] a h = a
   lines_generated elements reaches (line ∷ lines) a h =
       lines_generated (elements ++ line_element elements line ∷ [])
-          (reaches ++ line_reach s.setting reaches line ∷ []) lines
+      (reaches ++ line_reach s.setting reaches line ∷ []) lines
       (all_pushed elements (line_element elements line) a
-            (line_generated elements reaches line a
-              (recursion_from_All (IsPart s reaches) line h.0))) h.1
+      (line_generated elements reaches line a
+      (recursion_from_All (IsPart s reaches) line h.0))) h.1
 
 pub cofactors : CofactorLaw
 cofactors c h =
-    let s = c.setting in
-    (generated_is_in s.setting (lines_element c.lines)
+    let s = c.setting in (
+      generated_is_in s.setting (lines_element c.lines)
           (generated_item s.setting (elements_after [] c.lines) (length c.lines)
-            (lines_generated s [] [] c.lines tt h.lines)), value_evaluates s.setting c.lines)
+          (lines_generated s [] [] c.lines tt h.lines)),
+      value_evaluates s.setting c.lines,
+    )
 
 -- ---- an element as one line
 
@@ -256,7 +261,7 @@ unfolding line_value
 terms_value s values [] = refl
 terms_value s values (t ∷ α) =
     ap (λ (f : Polynomial). scale t.coefficient
-      (polynomial_times t.key.left (generator s t.key.generator) t.key.right) ++ f)
+    (polynomial_times t.key.left (generator s t.key.generator) t.key.right) ++ f)
     (terms_value s values α)
 
 pub element_as_line : ElementLines

@@ -26,8 +26,12 @@ pub nothing_above : (w : Word) (f : Polynomial) → AllLess w f → (x : Word) �
     → coefficient f x ≡ 0
 nothing_above w [] a x o = refl
 nothing_above w (t ∷ f) a x o =
-    omega (arith, ap (λ n. t.coefficient * n)
-      (at_other same_word IsWordLess word_laws x t.key (apart o)), nothing_above w f a.1 x o)
+    omega (
+      arith,
+      ap (λ n. t.coefficient * n)
+          (at_other same_word IsWordLess word_laws x t.key (apart o)),
+      nothing_above w f a.1 x o,
+    )
   where
     apart : IsUpFrom w x → x ≢ t.key
     apart (inl e) i = word_irrefl w (subst (λ y. IsWordLess y w) (sym i ∙ e) a.0)
@@ -36,8 +40,11 @@ nothing_above w (t ∷ f) a x o =
 pub first_coefficient : (t : Term Word) (f : Polynomial) → AllLess t.key f
     → coefficient (t ∷ f) t.key ≡ t.coefficient
 first_coefficient t f a =
-    omega (arith, ap (λ n. t.coefficient * n) (at_self same_word IsWordLess word_laws t.key),
-      nothing_above t.key f a t.key (inl refl))
+    omega (
+      arith,
+      ap (λ n. t.coefficient * n) (at_self same_word IsWordLess word_laws t.key),
+      nothing_above t.key f a t.key (inl refl),
+    )
 
 pub other_coefficient : (t : Term Word) (f : Polynomial) (x : Word) → x ≢ t.key
     → coefficient (t ∷ f) x ≡ coefficient f x
@@ -62,7 +69,7 @@ module _ (p : ℕ) where
         (subst (IsZero p) (first_coefficient t f n.1) z);
     above = λ x l. subst (IsZero p)
         (sym (other_coefficient t f x (λ e. word_irrefl t.key (subst (IsWordLess t.key) e l))
-            ∙ nothing_above t.key f n.1 x (inr l))) (zero_number p);
+        ∙ nothing_above t.key f n.1 x (inr l))) (zero_number p);
   }
 
   unique_up : (f g : Polynomial) → IsDescending f → AllByRecursion (λ t. t.coefficient < p) f
@@ -76,8 +83,10 @@ module _ (p : ℕ) where
       ap₂ (λ x y. x ∷ y) term (unique_up f g n.2 a.1 m.2 b.1 tails)
     where
       moved : IsLeadingKey same_word IsWordLess p (u ∷ g) t.key
-      moved = record { nonzero = λ z. (normal_leads t f n a.0).nonzero (e.at t.key ∙ z);
-            above = λ x l. sym (e.at x) ∙ (normal_leads t f n a.0).above x l }
+      moved = record {
+        nonzero = λ z. (normal_leads t f n a.0).nonzero (e.at t.key ∙ z);
+        above = λ x l. sym (e.at x) ∙ (normal_leads t f n a.0).above x l;
+      }
 
       keys : t.key ≡ u.key
       keys = lead_unique same_word IsWordLess word_laws p (u ∷ g) t.key u.key moved
@@ -86,8 +95,8 @@ module _ (p : ℕ) where
       coefs : t.coefficient ≡ u.coefficient
       coefs = sym (mod-eq_of_lt a.0)
           ∙ (ap (λ c. c % p) (sym (first_coefficient t f n.1))
-            ∙ (e.at t.key ∙ (ap (λ x. coefficient (u ∷ g) x % p) keys
-                ∙ (ap (λ c. c % p) (first_coefficient u g m.1) ∙ mod-eq_of_lt b.0))))
+          ∙ (e.at t.key ∙ (ap (λ x. coefficient (u ∷ g) x % p) keys
+          ∙ (ap (λ c. c % p) (first_coefficient u g m.1) ∙ mod-eq_of_lt b.0))))
 
       term : t ≡ u
       term = λ i. record { coefficient = coefs i; key = keys i }
@@ -98,7 +107,7 @@ module _ (p : ℕ) where
           go : (x ≡ t.key) ⊎ (x ≢ t.key) → coefficient f x % p ≡ coefficient g x % p
           go (inl i) =
               ap (λ c. c % p) (nothing_above t.key f n.1 x (inl i)
-                ∙ sym (nothing_above u.key g m.1 x (inl (i ∙ keys))))
+              ∙ sym (nothing_above u.key g m.1 x (inl (i ∙ keys))))
           go (inr d) =
               ap (λ c. c % p) (sym (other_coefficient t f x d))
               ∙ (e.at x ∙ ap (λ c. c % p) (other_coefficient u g x (λ i. d (i ∙ sym keys))))
@@ -119,7 +128,7 @@ module _ (p : ℕ) where
   pub scaled : (c a s : ℕ) → ((c % p) * a + s) % p ≡ (c * a + s) % p
   scaled c a s =
       add-mod ((c % p) * a) s p ∙ (ap (λ n. (n + s % p) % p) (mul-mod_first c a p)
-        ∙ sym (add-mod (c * a) s p))
+      ∙ sym (add-mod (c * a) s p))
 
   -- what a term before f adds
   led_same : (c : ℕ) (v : Word) (f : Polynomial) (x : Word)
@@ -131,8 +140,8 @@ module _ (p : ℕ) where
           % p ≡ (c * is_at same_word x v + coefficient f x) % p
       go true e =
           sym (sym (scaled c (is_at same_word x v) (coefficient f x))
-            ∙ ap (λ n. n % p) (let z : c % p ≡ 0 = eqb-true (c % p) 0 e in
-              omega (arith, ap (λ n. n * is_at same_word x v) z)))
+          ∙ ap (λ n. n % p) (let z : c % p ≡ 0 = eqb-true (c % p) 0 e in
+          omega (arith, ap (λ n. n * is_at same_word x v) z)))
       go false e = scaled c (is_at same_word x v) (coefficient f x)
 
   led_less : (w : Word) (c : ℕ) (v : Word) (f : Polynomial) → IsWordLess v w → AllLess w f
@@ -225,12 +234,12 @@ module _ (p : ℕ) where
       go Less m h =
           add-mod (u.coefficient * is_at same_word x u.key) (coefficient (with_term p t f) x) p
           ∙ (ap (λ n. ((u.coefficient * is_at same_word x u.key) % p + n) % p) h
-            ∙ (sym (add-mod (u.coefficient * is_at same_word x u.key) (coefficient (t ∷ f) x) p)
-              ∙ ap (λ n. n % p) (omega arith)))
+          ∙ (sym (add-mod (u.coefficient * is_at same_word x u.key) (coefficient (t ∷ f) x) p)
+          ∙ ap (λ n. n % p) (omega arith)))
       go Equal m h =
           led_same (t.coefficient + u.coefficient) u.key f x
           ∙ ap (λ n. n % p) (let e : is_at same_word x t.key ≡ is_at same_word x
-            u.key = ap (is_at same_word x) m in omega (arith, ap (λ n. t.coefficient * n) e))
+          u.key = ap (is_at same_word x) m in omega (arith, ap (λ n. t.coefficient * n) e))
       go Greater m h = led_same t.coefficient t.key (u ∷ f) x
 
   pub normal_form_descends : (f : Polynomial) → IsDescending (normal_form p f)
@@ -252,8 +261,8 @@ module _ (p : ℕ) where
   normal_form_at (t ∷ f) x =
       with_term_same t (normal_form p f) x
       ∙ (add-mod (t.coefficient * is_at same_word x t.key) (coefficient (normal_form p f) x) p
-        ∙ (ap (λ n. ((t.coefficient * is_at same_word x t.key) % p + n) % p) (normal_form_at f x)
-          ∙ sym (add-mod (t.coefficient * is_at same_word x t.key) (coefficient f x) p)))
+      ∙ (ap (λ n. ((t.coefficient * is_at same_word x t.key) % p + n) % p) (normal_form_at f x)
+      ∙ sym (add-mod (t.coefficient * is_at same_word x t.key) (coefficient f x) p)))
 
 -- ---- the normal form lists no other words
 
@@ -288,9 +297,11 @@ module _ (P : Word → Type 0) (p : ℕ) where
 
 -- it is a normal form
 pub normal_form_normal : (p : ℕ) (f : Polynomial) → 0 < p → IsNormal p (normal_form p f)
-normal_form_normal p f some =
-    (normal_form_descends p f, All-from_recursion (λ t. t.coefficient < p) (normal_form p f)
-      (normal_form_residues p f some))
+normal_form_normal p f some = (
+  normal_form_descends p f,
+  All-from_recursion (λ t. t.coefficient < p) (normal_form p f)
+      (normal_form_residues p f some),
+)
 
 -- of the same polynomial
 pub normal_form_same : (p : ℕ) (f : Polynomial) → SameSum same_word p (normal_form p f) f
@@ -302,7 +313,7 @@ pub normal_form_only : (p : ℕ) (f g : Polynomial) → 0 < p → IsNormal p g �
 normal_form_only p f g some n e =
     normal_unique p g (normal_form p f) n (normal_form_normal p f some)
     (same-trans same_word p g f (normal_form p f) e
-      (same-sym same_word p (normal_form p f) f (normal_form_same p f)))
+    (same-sym same_word p (normal_form p f) f (normal_form_same p f)))
 
 -- a normal form is its own
 pub normal_form-normal : (p : ℕ) (f : Polynomial) → 0 < p → IsNormal p f → normal_form p f ≡ f

@@ -12,7 +12,7 @@ shape : (a k q m r i p : ℕ) → a * k ≡ m + 1 → q ≡ m + r → p ≡ (m +
     → a * (q * k * i) ≡ r * i + p * (m * i)
 shape a k q m r i p e d c =
     regroup ∙ (ap (λ n. n * (q * i)) e
-      ∙ (ap (λ n. (m + 1) * (n * i)) d ∙ (spread ∙ sym (ap (λ n. r * i + n * (m * i)) c))))
+    ∙ (ap (λ n. (m + 1) * (n * i)) d ∙ (spread ∙ sym (ap (λ n. r * i + n * (m * i)) c))))
   where
     regroup : a * (q * k * i) ≡ (a * k) * (q * i)
     regroup = omega arith
@@ -24,7 +24,7 @@ shape a k q m r i p e d c =
 step : (p a i : ℕ) → 0 < a → a < p → (p % a) * i % p ≡ 1 → a * ((p - 1) * (p / a) * i) % p ≡ 1
 step p a i l h e =
     ap (λ n. n % p) (form (p - 1) (a * (p / a) - 1) (omega arith)
-      (omega (arith, div-add-mod p a, mod-lt p l)))
+    (omega (arith, div-add-mod p a, mod-lt p l)))
     ∙ (add-mul-mod_self_left ((p % a) * i) p ((a * (p / a) - 1) * i) ∙ e)
   where
     form : (q m : ℕ) → p ≡ q + 1 → a * (p / a) ≡ m + 1
@@ -51,8 +51,8 @@ inverse_below p prime = nat_ind (λ a. 0 < a → a < p → (i : ℕ) × (a * i %
             no_divisor (inr d) = omega arith
         go (inr (inr b)) (suc r) e =
             let below : p % a < a =
-                mod-lt p l in let t : (i : ℕ) × ((p % a) * i % p ≡ 1) =
-                before (p % a) below (omega arith) (omega arith) in
+            mod-lt p l in let t : (i : ℕ) × ((p % a) * i % p ≡ 1) =
+            before (p % a) below (omega arith) (omega arith) in
             ((p - 1) * (p / a) * t.0, step p a t.0 l h t.1)
 
 pub field_from_prime : (p : ℕ) → IsPrime p → IsField p
@@ -61,8 +61,8 @@ field_from_prime p prime = record { above_one = prime.above_one; inverse = each 
     each : (a : ℕ) → ¬ IsZero p a → (i : ℕ) × (a * i % p ≡ 1)
     each a n =
         let below : a % p < p =
-            mod-lt a (omega (arith, prime.above_one)) in let t : (i : ℕ) × ((a % p) * i % p ≡ 1) =
-            inverse_below p prime (a % p) (positive (a % p) n) below in
+        mod-lt a (omega (arith, prime.above_one)) in let t : (i : ℕ) × ((a % p) * i % p ≡ 1) =
+        inverse_below p prime (a % p) (positive (a % p) n) below in
         (t.0, sym (mul-mod_first a t.0 p) ∙ t.1)
       where
         positive : (m : ℕ) → ¬ (m ≡ 0) → 0 < m

@@ -25,7 +25,7 @@ module _ (s : Setting) where
   evaluation-substitute g φ y =
       coefficient-evaluation s (substitute g φ) y
       ∙ (linear_sum-substitute (image s y) φ g ∙ linear_sum-ext (λ w. linear_sum (image s y) (φ w))
-        (λ w. coefficient (evaluation s (φ w)) y) g (λ w. sym (coefficient-evaluation s (φ w) y)))
+      (λ w. coefficient (evaluation s (φ w)) y) g (λ w. sym (coefficient-evaluation s (φ w) y)))
 
   in_substitute : (g : Polynomial) (φ : Word → Element)
       → ((w : Word) → IsIn s (φ w) (HasGenerator s)) → IsIn s (substitute g φ) (HasGenerator s)
@@ -40,9 +40,9 @@ module _ (s : Setting) where
       go (inl m) = m
       go (inr nm) =
           absurd (n (subst (IsZero s.prime)
-              (sym (linear_sum-substitute (is_at same_monomial σ) φ g))
-              (linear_sum_zero same_word IsWordLess word_laws s.prime
-                (λ w. coefficient_by same_monomial (φ w) σ) g (λ w. inr (each nm w)))))
+          (sym (linear_sum-substitute (is_at same_monomial σ) φ g))
+          (linear_sum_zero same_word IsWordLess word_laws s.prime
+          (λ w. coefficient_by same_monomial (φ w) σ) g (λ w. inr (each nm w)))))
 
   -- the one side of a trivial syzygy: a label times the words of the other polynomial
   abbrev right_side : Element → Word → Polynomial → Element
@@ -58,7 +58,7 @@ module _ (s : Setting) where
       leads_substitute same_word IsWordLess word_laws same_monomial (IsLess s)
       (monomial_laws (generator_weight s)) s.prime field g w (λ w. element_times [] α (m ++ w))
       (λ w. times [] σ (m ++ w)) (λ x y h. monomial_right (generator_weight s) [] (m ++ x) (m ++ y)
-        σ (word_front m x y h)) (λ x. element_times_leads s [] α (m ++ x) σ d) e
+      σ (word_front m x y h)) (λ x. element_times_leads s [] α (m ++ x) σ d) e
 
   left_leads : IsField s.prime → (g : Polynomial) (w : Word) (m : Word) (α : Element) (σ : Monomial)
       → IsLeadingWord s g w → IsSignatureOf s α σ
@@ -67,7 +67,7 @@ module _ (s : Setting) where
       leads_substitute same_word IsWordLess word_laws same_monomial (IsLess s)
       (monomial_laws (generator_weight s)) s.prime field g w (λ w. element_times (w ++ m) α [])
       (λ w. times (w ++ m) σ []) (λ x y h. monomial_left (generator_weight s) (x ++ m) (y ++ m) [] σ
-        (word_back x y m h)) (λ x. element_times_leads s (x ++ m) α [] σ d) e
+      (word_back x y m h)) (λ x. element_times_leads s (x ++ m) α [] σ d) e
 
   -- both sides evaluate to g m g'
   sides_agree : 0 < s.prime → (g g' : Polynomial) (α α' : Element) (m : Word)
@@ -80,26 +80,26 @@ module _ (s : Setting) where
       right y =
           ap (λ n. n % s.prime) (evaluation-substitute g' (λ w. element_times [] α (m ++ w)) y)
           ∙ (linear_sum_cong same_word IsWordLess word_laws s.prime
-            (λ w. coefficient (evaluation s (element_times [] α (m ++ w))) y)
-            (λ w. coefficient (polynomial_times [] g (m ++ w)) y) g' pos
-            (λ w. (evaluation_times s [] α g (m ++ w) pos e).at y)
-            ∙ ap (λ n. n % s.prime) (linear_sum-ext
-              (λ w. coefficient (polynomial_times [] g (m ++ w)) y)
-              (λ w. linear_sum (λ x. is_at same_word y ([] ++ (x ++ (m ++ w)))) g) g'
-              (λ w. linear_sum-map_keys (is_at same_word y) (λ x. [] ++ (x ++ (m ++ w))) g)))
+          (λ w. coefficient (evaluation s (element_times [] α (m ++ w))) y)
+          (λ w. coefficient (polynomial_times [] g (m ++ w)) y) g' pos
+          (λ w. (evaluation_times s [] α g (m ++ w) pos e).at y)
+          ∙ ap (λ n. n % s.prime) (linear_sum-ext
+          (λ w. coefficient (polynomial_times [] g (m ++ w)) y)
+          (λ w. linear_sum (λ x. is_at same_word y ([] ++ (x ++ (m ++ w)))) g) g'
+          (λ w. linear_sum-map_keys (is_at same_word y) (λ x. [] ++ (x ++ (m ++ w))) g)))
 
       left : (y : Word) → coefficient (evaluation s (left_side g m α')) y % s.prime ≡ linear_sum
           (λ x. linear_sum (λ w. is_at same_word y ((x ++ m) ++ (w ++ []))) g') g % s.prime
       left y =
           ap (λ n. n % s.prime) (evaluation-substitute g (λ x. element_times (x ++ m) α' []) y)
           ∙ (linear_sum_cong same_word IsWordLess word_laws s.prime
-            (λ x. coefficient (evaluation s (element_times (x ++ m) α' [])) y)
-            (λ x. coefficient (polynomial_times (x ++ m) g' []) y) g pos
-            (λ x. (evaluation_times s (x ++ m) α' g' [] pos e').at y)
-            ∙ ap (λ n. n % s.prime) (linear_sum-ext
-              (λ x. coefficient (polynomial_times (x ++ m) g' []) y)
-              (λ x. linear_sum (λ w. is_at same_word y ((x ++ m) ++ (w ++ []))) g') g
-              (λ x. linear_sum-map_keys (is_at same_word y) (λ w. (x ++ m) ++ (w ++ [])) g')))
+          (λ x. coefficient (evaluation s (element_times (x ++ m) α' [])) y)
+          (λ x. coefficient (polynomial_times (x ++ m) g' []) y) g pos
+          (λ x. (evaluation_times s (x ++ m) α' g' [] pos e').at y)
+          ∙ ap (λ n. n % s.prime) (linear_sum-ext
+          (λ x. coefficient (polynomial_times (x ++ m) g' []) y)
+          (λ x. linear_sum (λ w. is_at same_word y ((x ++ m) ++ (w ++ []))) g') g
+          (λ x. linear_sum-map_keys (is_at same_word y) (λ w. (x ++ m) ++ (w ++ [])) g')))
 
       regroup : (x w : Word) → [] ++ (x ++ (m ++ w)) ≡ (x ++ m) ++ (w ++ [])
       regroup x w = simp (append_assoc, append-nil)
@@ -111,8 +111,8 @@ module _ (s : Setting) where
           linear_sum-ext (λ w. linear_sum (λ x. is_at same_word y ([] ++ (x ++ (m ++ w)))) g)
           (λ w. linear_sum (λ x. is_at same_word y ((x ++ m) ++ (w ++ []))) g) g'
           (λ w. linear_sum-ext (λ x. is_at same_word y ([] ++ (x ++ (m ++ w))))
-            (λ x. is_at same_word y ((x ++ m) ++ (w ++ []))) g
-            (λ x. ap (is_at same_word y) (regroup x w)))
+          (λ x. is_at same_word y ((x ++ m) ++ (w ++ []))) g
+          (λ x. ap (is_at same_word y) (regroup x w)))
           ∙ linear_sum_swap (λ w x. is_at same_word y ((x ++ m) ++ (w ++ []))) g' g
 
       side : (y : Word) → coefficient (evaluation s (right_side α m g')) y % s.prime ≡ coefficient
@@ -125,25 +125,25 @@ module _ (s : Setting) where
   difference_vanishes pos α β e y =
       subst (IsZero s.prime) (sym (evaluation-minus s α 1 β y ∙ omega arith))
       (zero_from_same s.prime (coefficient (evaluation s α) y) (coefficient (evaluation s β) y) pos
-        (e.at y))
+      (e.at y))
 
   -- the relation behind a trivial signature
   pub trivial_relation : IsField s.prime
       → (ρ : Monomial) (g g' : Polynomial) (w w' : Word) (σ σ' : Monomial) (α α' : Element)
       (m : Word) → IsLeadingWord s g w → IsLeadingWord s g' w' → IsLabelled s σ g α
       → IsLabelled s σ' g' α' → (IsLess s (times (w ++ m) σ' []) (times [] σ (m ++ w'))
-        × (ρ ≡ times [] σ (m ++ w'))) ⊎ (IsLess s (times [] σ (m ++ w')) (times (w ++ m) σ' [])
-        × (ρ ≡ times (w ++ m) σ' [])) → Relation s ρ
+      × (ρ ≡ times [] σ (m ++ w'))) ⊎ (IsLess s (times [] σ (m ++ w')) (times (w ++ m) σ' [])
+      × (ρ ≡ times (w ++ m) σ' [])) → Relation s ρ
   trivial_relation field ρ g g' w w' σ σ' α α' m d d' l l' (inl (less, is)) = record {
     element = minus s.prime (right_side α m g') 1 (left_side g m α');
     lies = in_minus s (right_side α m g') 1 (left_side g m α')
         (in_substitute g' (λ w. element_times [] α (m ++ w)) (λ w. in_times s [] α (m ++ w) l.lies))
         (in_substitute g (λ w. element_times (w ++ m) α' [])
-          (λ w. in_times s (w ++ m) α' [] l'.lies));
+        (λ w. in_times s (w ++ m) α' [] l'.lies));
     leads = subst (IsSignatureOf s (minus s.prime (right_side α m g') 1 (left_side g m α')))
         (sym is) (leads_minus s (right_side α m g') 1 (left_side g m α') (times [] σ (m ++ w'))
-          (times (w ++ m) σ' []) (right_leads field α σ m g' w' l.leads d')
-          (left_leads field g w m α' σ' d l'.leads) less);
+        (times (w ++ m) σ' []) (right_leads field α σ m g' w' l.leads d')
+        (left_leads field g w m α' σ' d l'.leads) less);
     vanishes =
         difference_vanishes (omega (arith, field.above_one)) (right_side α m g') (left_side g m α')
         (sides_agree (omega (arith, field.above_one)) g g' α α' m l.evaluates l'.evaluates);
@@ -152,15 +152,17 @@ module _ (s : Setting) where
     element = minus s.prime (left_side g m α') 1 (right_side α m g');
     lies = in_minus s (left_side g m α') 1 (right_side α m g')
         (in_substitute g (λ w. element_times (w ++ m) α' [])
-          (λ w. in_times s (w ++ m) α' [] l'.lies))
+        (λ w. in_times s (w ++ m) α' [] l'.lies))
         (in_substitute g' (λ w. element_times [] α (m ++ w))
-          (λ w. in_times s [] α (m ++ w) l.lies));
+        (λ w. in_times s [] α (m ++ w) l.lies));
     leads = subst (IsSignatureOf s (minus s.prime (left_side g m α') 1 (right_side α m g')))
         (sym is) (leads_minus s (left_side g m α') 1 (right_side α m g') (times (w ++ m) σ' [])
-          (times [] σ (m ++ w')) (left_leads field g w m α' σ' d l'.leads)
-          (right_leads field α σ m g' w' l.leads d') less);
+        (times [] σ (m ++ w')) (left_leads field g w m α' σ' d l'.leads)
+        (right_leads field α σ m g' w' l.leads d') less);
     vanishes =
         difference_vanishes (omega (arith, field.above_one)) (left_side g m α') (right_side α m g')
-        (record { at = λ y. sym ((sides_agree (omega (arith, field.above_one)) g g' α α' m
-                l.evaluates l'.evaluates).at y) });
+        (record {
+          at = λ y. sym ((sides_agree (omega (arith, field.above_one)) g g' α α' m
+              l.evaluates l'.evaluates).at y);
+        });
   }

@@ -57,8 +57,12 @@ module _ {K L : Type 0} where
       → linear_sum F (substitute f φ) ≡ linear_sum (λ x. linear_sum F (φ x)) f
   linear_sum-substitute F φ [] = refl
   linear_sum-substitute F φ (t ∷ f) =
-      omega (arith, linear_sum-append F (scale t.coefficient (φ t.key)) (substitute f φ),
-        linear_sum-scale F t.coefficient (φ t.key), linear_sum-substitute F φ f)
+      omega (
+        arith,
+        linear_sum-append F (scale t.coefficient (φ t.key)) (substitute f φ),
+        linear_sum-scale F t.coefficient (φ t.key),
+        linear_sum-substitute F φ f,
+      )
 
   -- a double sum in either order
   pub linear_sum_swap : (H : K → L → ℕ) (f : List (Term K)) (g : List (Term L))
@@ -80,12 +84,17 @@ module _ {K L : Type 0} where
 pub zero_from_same : (p a b : ℕ) → 0 < p → a % p ≡ b % p → IsZero p (a + (p - 1) * b)
 zero_from_same p a b h e =
     mod-eq-zero_of_dvd p (subst (λ n. p ∣ n) (sym (form (p - 1) (omega arith)))
-      (dvd-mul_right p (a / p + (p - 1) * (b / p) + b % p)))
+    (dvd-mul_right p (a / p + (p - 1) * (b / p) + b % p)))
   where
     form : (q : ℕ) → p ≡ q + 1 → a + q * b ≡ p * (a / p + q * (b / p) + b % p)
     form q d =
-        omega (arith, ap (λ n. q * n) (sym (div-add-mod b p)), div-add-mod a p, e,
-          ap (λ n. n * (b % p)) d)
+        omega (
+          arith,
+          ap (λ n. q * n) (sym (div-add-mod b p)),
+          div-add-mod a p,
+          e,
+          ap (λ n. n * (b % p)) d,
+        )
 
 pub same_from_zero : (p a b : ℕ) → 0 < p → IsZero p (a + (p - 1) * b) → a % p ≡ b % p
 same_from_zero p a b h z =
@@ -101,7 +110,7 @@ same_from_zero p a b h z =
     mod_left : (b + t) % p ≡ b % p
     mod_left =
         add-mod b t p ∙ (ap (λ n. (b % p + n) % p) z
-          ∙ (ap (λ n. n % p) (add-zero (b % p)) ∙ mod-mod b p))
+        ∙ (ap (λ n. n % p) (add-zero (b % p)) ∙ mod-mod b p))
 
 pub zero_dec : (p n : ℕ) → IsZero p n ⊎ ¬ IsZero p n
 zero_dec p n = go (n % p) refl
@@ -162,14 +171,20 @@ module _ {K : Type 0} (same : K → K → Bool) (less : K → K → Type 0) (law
 
   pub coef_without_self : (k : K) (f : List (Term K)) → coefficient_by same (without same k f) k ≡ 0
   coef_without_self k f =
-      omega (arith, linear_sum-without (is_at same k) k f,
-        ap (λ n. coefficient_by same f k * n) (at_self k))
+      omega (
+        arith,
+        linear_sum-without (is_at same k) k f,
+        ap (λ n. coefficient_by same f k * n) (at_self k),
+      )
 
   pub coef_without_other : (k x : K) (f : List (Term K)) → x ≢ k
       → coefficient_by same (without same k f) x ≡ coefficient_by same f x
   coef_without_other k x f n =
-      omega (arith, linear_sum-without (is_at same x) k f,
-        ap (λ n. coefficient_by same f k * n) (at_other x k n))
+      omega (
+        arith,
+        linear_sum-without (is_at same x) k f,
+        ap (λ n. coefficient_by same f k * n) (at_other x k n),
+      )
 
   without_head : (t : Term K) (f : List (Term K))
       → without same t.key (t ∷ f) ≡ without same t.key f
@@ -201,9 +216,9 @@ module _ {K : Type 0} (same : K → K → Bool) (less : K → K → Type 0) (law
   linear_sum_zero_up p F (suc n) (t ∷ f) l h =
       subst (IsZero p) (sym (rest_weigh F t f))
       (zero_add p (coefficient_by same (t ∷ f) t.key * F t.key)
-        (linear_sum F (without same t.key f)) (product (h t.key))
-        (linear_sum_zero_up p F n (without same t.key f) (omega (arith, length_without t.key f))
-          (λ x. others x (key_dec x t.key))))
+      (linear_sum F (without same t.key f)) (product (h t.key))
+      (linear_sum_zero_up p F n (without same t.key f) (omega (arith, length_without t.key f))
+      (λ x. others x (key_dec x t.key))))
     where
       product : IsZero p (coefficient_by same (t ∷ f) t.key) ⊎ IsZero p (F t.key)
           → IsZero p (coefficient_by same (t ∷ f) t.key * F t.key)
@@ -214,7 +229,7 @@ module _ {K : Type 0} (same : K → K → Bool) (less : K → K → Type 0) (law
           → IsZero p (coefficient_by same (without same t.key f) x) ⊎ IsZero p (F x)
       others x (inl e) =
           inl (subst (λ y. IsZero p (coefficient_by same (without same t.key f) y)) (sym e)
-            (subst (IsZero p) (sym (rest_self t f)) (zero_number p)))
+          (subst (IsZero p) (sym (rest_self t f)) (zero_number p)))
       others x (inr n) =
           elim (h x) [ inl z ↦ inl (subst (IsZero p) (sym (rest_other t f x n)) z) | inr z ↦ inr z ]
 
@@ -226,18 +241,23 @@ module _ {K : Type 0} (same : K → K → Bool) (less : K → K → Type 0) (law
   pub linear_sum_one : (p : ℕ) (F : K → ℕ) (f : List (Term K)) (k : K)
       → ((x : K) → x ≢ k → IsZero p (coefficient_by same f x) ⊎ IsZero p (F x)) → (r : ℕ)
       × (linear_sum F f ≡ coefficient_by same f k * F k + r) × IsZero p r
-  linear_sum_one p F f k h =
-      (linear_sum F (without same k f), linear_sum-without F k f,
-        linear_sum_zero p F (without same k f) (λ x. others x (key_dec x k)))
+  linear_sum_one p F f k h = (
+    linear_sum F (without same k f),
+    linear_sum-without F k f,
+    linear_sum_zero p F (without same k f) (λ x. others x (key_dec x k)),
+  )
     where
       others : (x : K) → (x ≡ k) ⊎ (x ≢ k) → IsZero p (coefficient_by same (without same k f) x)
           ⊎ IsZero p (F x)
       others x (inl e) =
           inl (subst (λ y. IsZero p (coefficient_by same (without same k f) y)) (sym e)
-            (subst (IsZero p) (sym (coef_without_self k f)) (zero_number p)))
+          (subst (IsZero p) (sym (coef_without_self k f)) (zero_number p)))
       others x (inr n) =
-          elim (h x n) [ inl z ↦ inl (subst (IsZero p) (sym (coef_without_other k x f n)) z) | inr z
-            ↦ inr z ]
+          elim (h x n) [
+            | inl z ↦ inl (subst (IsZero p) (sym (coef_without_other k x f n)) z)
+            | inr z
+                ↦ inr z
+          ]
 
   pub coefficient-minus : (p : ℕ) (f : List (Term K)) (c : ℕ) (g : List (Term K)) (x : K)
       → coefficient_by same (minus p f c g) x ≡ coefficient_by same f x + (p - 1) * c
@@ -252,13 +272,13 @@ module _ {K : Type 0} (same : K → K → Bool) (less : K → K → Type 0) (law
   linear_sum_same p F f g h s =
       same_from_zero p (linear_sum F f) (linear_sum F g) h
       (subst (IsZero p) (linear_sum-append F f (scale (p - 1) g)
-          ∙ ap (λ n. linear_sum F f + n) (linear_sum-scale F (p - 1) g))
-        (linear_sum_zero p F (f ++ scale (p - 1) g) (λ x. inl (each x))))
+      ∙ ap (λ n. linear_sum F f + n) (linear_sum-scale F (p - 1) g))
+      (linear_sum_zero p F (f ++ scale (p - 1) g) (λ x. inl (each x))))
     where
       each : (x : K) → IsZero p (coefficient_by same (f ++ scale (p - 1) g) x)
       each x =
           subst (IsZero p) (sym (linear_sum-append (is_at same x) f (scale (p - 1) g)
-              ∙ ap (λ n. coefficient_by same f x + n) (linear_sum-scale (is_at same x) (p - 1) g)))
+          ∙ ap (λ n. coefficient_by same f x + n) (linear_sum-scale (is_at same x) (p - 1) g)))
           (zero_from_same p (coefficient_by same f x) (coefficient_by same g x) h (s.at x))
 
   pub linear_sum-add : (F G : K → ℕ) (c : ℕ) (f : List (Term K))
@@ -271,8 +291,8 @@ module _ {K : Type 0} (same : K → K → Bool) (less : K → K → Type 0) (law
   linear_sum_cong p F G f h e =
       same_from_zero p (linear_sum F f) (linear_sum G f) h
       (subst (IsZero p) (linear_sum-add F G (p - 1) f)
-        (linear_sum_zero p (λ x. F x + (p - 1) * G x) f
-          (λ x. inr (zero_from_same p (F x) (G x) h (e x)))))
+      (linear_sum_zero p (λ x. F x + (p - 1) * G x) f
+      (λ x. inr (zero_from_same p (F x) (G x) h (e x)))))
 
   -- a sum is zero or has a greatest key
   top_up : (p : ℕ) (n : ℕ) (f : List (Term K)) → length f ≤ n
@@ -297,7 +317,7 @@ module _ {K : Type 0} (same : K → K → Bool) (less : K → K → Type 0) (law
       differs : (k : K) → IsLeadingKey same less p (without same t.key f) k → k ≢ t.key
       differs k d e =
           d.nonzero (subst (IsZero p) (sym (ap (λ y. coefficient_by same (without same t.key f) y) e
-                ∙ rest_self t f)) (zero_number p))
+          ∙ rest_self t f)) (zero_number p))
 
       above : (k : K) → IsLeadingKey same less p (without same t.key f) k
           → IsZero p (coefficient_by same (t ∷ f) t.key) ⊎ less t.key k → (x : K) → less k x
@@ -312,16 +332,21 @@ module _ {K : Type 0} (same : K → K → Bool) (less : K → K → Type 0) (law
           → IsZero p (coefficient_by same (t ∷ f) t.key) ⊎ less t.key k
           → IsLeadingKey same less p (t ∷ f) k
       keep k d o =
-          record { nonzero = λ z. d.nonzero
-            (subst (IsZero p) (sym (rest_other t f k (differs k d))) z);
-            above = λ x h. above k d o x h (key_dec x t.key) }
+          record {
+            nonzero = λ z. d.nonzero
+                (subst (IsZero p) (sym (rest_other t f k (differs k d))) z);
+            above = λ x h. above k d o x h (key_dec x t.key);
+          }
 
       self : ¬ IsZero p (coefficient_by same (t ∷ f) t.key)
           → ((x : K) → less t.key x → IsZero p (coefficient_by same (without same t.key f) x))
           → IsLeadingKey same less p (t ∷ f) t.key
       self n h =
-          record { nonzero = n; above = λ x b. back x
-            (λ e. laws.irrefl t.key (subst (less t.key) e b)) (h x b) }
+          record {
+            nonzero = n;
+            above = λ x b. back x
+                (λ e. laws.irrefl t.key (subst (less t.key) e b)) (h x b);
+          }
 
       pick : ¬ IsZero p (coefficient_by same (t ∷ f) t.key) → (k : K)
           → IsLeadingKey same less p (without same t.key f) k → less t.key k
@@ -367,7 +392,7 @@ module _ {K : Type 0} (same : K → K → Bool) (less : K → K → Type 0) (law
 pub same_plus_zero : (p a b r : ℕ) → a ≡ b + r → IsZero p r → a % p ≡ b % p
 same_plus_zero p a b r e z =
     ap (λ n. n % p) e ∙ (add-mod b r p
-      ∙ (ap (λ n. (b % p + n) % p) z ∙ (ap (λ n. n % p) (add-zero (b % p)) ∙ mod-mod b p)))
+    ∙ (ap (λ n. (b % p + n) % p) z ∙ (ap (λ n. n % p) (add-zero (b % p)) ∙ mod-mod b p)))
 
 pub zero_by_same : (p a b : ℕ) → a % p ≡ b % p → IsZero p b → IsZero p a
 zero_by_same p a b e z = e ∙ z
@@ -379,9 +404,9 @@ domain p field a b n z = product (field.inverse a n)
     product : (c : ℕ) × (a * c % p ≡ 1) → IsZero p b
     product (c, e) =
         sym (same_plus_zero p (a * c * b) b (p * ((a * c / p) * b))
-          (omega (arith, ap (λ n. n * b) (sym (div-add-mod (a * c) p)), ap (λ n. n * b) e))
-          (zero_mul p p ((a * c / p) * b)
-            (mod-eq-zero_of_dvd p (subst (λ n. p ∣ n) (mul-one p) (dvd-mul_right p 1)))))
+        (omega (arith, ap (λ n. n * b) (sym (div-add-mod (a * c) p)), ap (λ n. n * b) e))
+        (zero_mul p p ((a * c / p) * b)
+        (mod-eq-zero_of_dvd p (subst (λ n. p ∣ n) (mul-one p) (dvd-mul_right p 1)))))
         ∙ subst (IsZero p) (omega arith) (zero_mul p (a * b) c z)
 
 module _ {K L : Type 0} (same : K → K → Bool) (less : K → K → Type 0) (laws : KeyLaws same less)
@@ -410,7 +435,7 @@ module _ {K L : Type 0} (same : K → K → Bool) (less : K → K → Type 0) (l
           [ inl z ↦ inl z | inr nz ↦ inr (below x n (below_lead same less laws p g k x d nz)) ]
 
       go : (r : ℕ) × (linear_sum (λ x. coefficient_by same' (φ x) (ψ k)) g ≡ coefficient_by same g k
-            * coefficient_by same' (φ k) (ψ k) + r) × IsZero p r
+          * coefficient_by same' (φ k) (ψ k) + r) × IsZero p r
           → coefficient_by same' (substitute g φ) (ψ k) % p ≡ coefficient_by same g k
           * coefficient_by same' (φ k) (ψ k) % p
       go (r, e, z) = same_plus_zero p _ _ r (coefficient-substitute g φ (ψ k) ∙ e) z
@@ -423,7 +448,7 @@ module _ {K L : Type 0} (same : K → K → Bool) (less : K → K → Type 0) (l
   leads_substitute p field g k φ ψ up leads d = record {
     nonzero =
         λ z. (leads k).nonzero (domain p field (coefficient_by same g k) _ d.nonzero
-          (sym (coefficient_substitute_leading p g k φ ψ up leads d) ∙ z));
+        (sym (coefficient_substitute_leading p g k φ ψ up leads d) ∙ z));
     above = λ y h. subst (IsZero p) (sym (coefficient-substitute g φ y))
         (linear_sum_zero same less laws p (λ x. coefficient_by same' (φ x) y) g (each y h));
   }
@@ -445,8 +470,8 @@ module _ {K L : Type 0} (same : K → K → Bool) (less : K → K → Type 0) (l
       → coefficient_by same' (map_keys φ g) (φ k) % p ≡ coefficient_by same g k % p
   coefficient_map_keys p g k φ up =
       go (linear_sum_one same less laws p (λ x. is_at same' (φ k) (φ x)) g k
-        (λ x n. inr (subst (IsZero p) (sym (at_other same' less' laws' (φ k) (φ x)
-              (λ e. apart x n e (laws.total x k)))) (zero_number p))))
+      (λ x n. inr (subst (IsZero p) (sym (at_other same' less' laws' (φ k) (φ x)
+      (λ e. apart x n e (laws.total x k)))) (zero_number p))))
     where
       apart : (x : K) → x ≢ k → φ k ≡ φ x → less x k ⊎ ((x ≡ k) ⊎ less k x) → ⊥
       apart x n e (inl h) = laws'.irrefl (φ k) (subst (λ y. less' y (φ k)) (sym e) (up x k h))
@@ -454,12 +479,12 @@ module _ {K L : Type 0} (same : K → K → Bool) (less : K → K → Type 0) (l
       apart x n e (inr (inr h)) = laws'.irrefl (φ k) (subst (less' (φ k)) (sym e) (up k x h))
 
       go : (r : ℕ) × (linear_sum (λ x. is_at same' (φ k) (φ x)) g ≡ coefficient_by same g k
-            * is_at same' (φ k) (φ k) + r) × IsZero p r
+          * is_at same' (φ k) (φ k) + r) × IsZero p r
           → coefficient_by same' (map_keys φ g) (φ k) % p ≡ coefficient_by same g k % p
       go (r, e, z) =
           same_plus_zero p _ _ r (linear_sum-map_keys (is_at same' (φ k)) φ g
-            ∙ (e ∙ ap (λ n. n + r) (ap (λ n. coefficient_by same g k * n)
-                (at_self same' less' laws' (φ k)) ∙ mul-one _))) z
+          ∙ (e ∙ ap (λ n. n + r) (ap (λ n. coefficient_by same g k * n)
+          (at_self same' less' laws' (φ k)) ∙ mul-one _))) z
 
   pub leads_map_keys : (p : ℕ) (g : List (Term K)) (k : K) (φ : K → L)
       → ((x y : K) → less x y → less' (φ x) (φ y)) → IsLeadingKey same less p g k
@@ -477,11 +502,13 @@ module _ {K L : Type 0} (same : K → K → Bool) (less : K → K → Type 0) (l
       other : (y : L) (x : K) → less' (φ x) y → IsZero p (is_at same' y (φ x))
       other y x h =
           subst (IsZero p) (sym (at_other same' less' laws' y (φ x)
-              (λ e. laws'.irrefl y (subst (λ z. less' z y) (sym e) h)))) (zero_number p)
+          (λ e. laws'.irrefl y (subst (λ z. less' z y) (sym e) h)))) (zero_number p)
 
       each : (y : L) → less' (φ k) y → (x : K) → IsZero p (coefficient_by same g x)
           ⊎ IsZero p (is_at same' y (φ x))
       each y h x =
-          elim (zero_dec p (coefficient_by same g x))
-          [ inl z ↦ inl z | inr nz ↦ inr
-            (other y x (below y h x (below_lead same less laws p g k x d nz))) ]
+          elim (zero_dec p (coefficient_by same g x)) [
+            | inl z ↦ inl z
+            | inr nz ↦ inr
+                (other y x (below y h x (below_lead same less laws p g k x d nz)))
+          ]

@@ -24,7 +24,7 @@ is_name_byte b = is_ascii_alphanumeric b || (b == 95)
 abbrev pub is_name : List ℕ → Bool
 is_name bytes =
     nat_le (length bytes) 16 && (is_ascii_alphabetic (slice_index bytes 0)
-      && list_all is_name_byte bytes)
+    && list_all is_name_byte bytes)
 
 -- ---- alphabets
 

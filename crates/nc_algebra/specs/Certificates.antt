@@ -186,8 +186,12 @@ lines_element lines = item [] (elements_after [] lines) (length lines)
 -- a term as a part
 abbrev pub term_part : Term Monomial → Part
 term_part t =
-    record { coefficient = t.coefficient;
-      left = t.key.left; of = Factor.a_generator t.key.generator; right = t.key.right }
+    record {
+      coefficient = t.coefficient;
+      left = t.key.left;
+      of = Factor.a_generator t.key.generator;
+      right = t.key.right;
+    }
 
 -- the terms of an element as the parts of one line, and no line where there is no term
 abbrev pub element_lines : Element → List Line

@@ -75,7 +75,7 @@ pub record SigLaw (s : Setting) : Type 0 where
 abbrev pub FiniteBound : Type 0
 FiniteBound = (s : Setting) (b : Bound) (letters : List Letter) →
     ((σ : Monomial) → Contains (monomials_within s b letters) σ
-          ↔ (IsWithinBound s b σ × IsOver letters σ.left × IsOver letters σ.right))
+    ↔ (IsWithinBound s b σ × IsOver letters σ.left × IsOver letters σ.right))
     × (IsDistinct letters → IsDistinct (monomials_within s b letters))
 
 -- each polynomial has one normal form, and it is computed

@@ -26,4 +26,4 @@ pub record IsField (p : ℕ) : Type 0 where
 abbrev pub is_listed_prime : ℕ → Bool
 is_listed_prime n =
     nat_eq n 2 || (nat_eq n 3 || (nat_eq n 5
-        || (nat_eq n 7 || (nat_eq n 101 || (nat_eq n 251 || (nat_eq n 32003 || nat_eq n 65521))))))
+    || (nat_eq n 7 || (nat_eq n 101 || (nat_eq n 251 || (nat_eq n 32003 || nat_eq n 65521))))))

@@ -35,10 +35,10 @@ scalar_into p c d f g m e = record {
       e.at x
       ∙ (ap (λ n. n % p) (minus_at p f ((c * d) % p) m x)
       ∙ (plus_same p (coefficient f x) ((p - 1) * ((c * d) % p) * coefficient m x)
-            ((p - 1) * c * (d * coefficient m x)) (each (p - 1) (coefficient m x))
+      ((p - 1) * c * (d * coefficient m x)) (each (p - 1) (coefficient m x))
       ∙ ap (λ n. n % p) (sym (minus_at p f c (scale d m) x
-              ∙ ap (λ n. coefficient f x + (p - 1) * c * n)
-              (linear_sum-scale (is_at same_word x) d m)))));
+      ∙ ap (λ n. coefficient f x + (p - 1) * c * n)
+      (linear_sum-scale (is_at same_word x) d m)))));
 }
   where
     regroup : (q y : ℕ) → q * (c * d) * y ≡ q * c * (d * y)
@@ -56,20 +56,20 @@ pub part_taken : (s : Setting) (values : List Polynomial) (part : Part) (p c k :
     (f old new : Polynomial) → p ≡ s.prime → k ≡ (c * part.coefficient) % p → u ≡ part.left
     → f ≡ factor_value s values part.of → v ≡ part.right →
     SameSum same_word p new (minus p old k (polynomial_times u f v))
-        → SameSum same_word s.prime new (minus s.prime old c (part_value s values part))
+    → SameSum same_word s.prime new (minus s.prime old c (part_value s values part))
 part_taken s values part p c k u v f old new prime scalar left factor right e =
     let product : Polynomial =
-        polynomial_times part.left (factor_value s values part.of) part.right in
+    polynomial_times part.left (factor_value s values part.of) part.right in
     let is : polynomial_times u f v ≡ product =
     ap (λ (w : Word). polynomial_times w f v) left
-        ∙ (ap (λ (g : Polynomial). polynomial_times part.left g v) factor
-          ∙ ap (λ (w : Word). polynomial_times part.left (factor_value s values part.of) w) right)
-        in
+    ∙ (ap (λ (g : Polynomial). polynomial_times part.left g v) factor
+    ∙ ap (λ (w : Word). polynomial_times part.left (factor_value s values part.of) w) right)
+    in
     scalar_into s.prime c part.coefficient old new product
     (subst (λ (m : Polynomial). SameSum same_word s.prime new
-            (minus s.prime old ((c * part.coefficient) % s.prime) m)) is
+    (minus s.prime old ((c * part.coefficient) % s.prime) m)) is
     (subst (λ n. SameSum same_word s.prime new (minus s.prime old n (polynomial_times u f v)))
-          (scalar ∙ ap (λ n. (c * part.coefficient) % n) prime)
+    (scalar ∙ ap (λ n. (c * part.coefficient) % n) prime)
     (subst (λ n. SameSum same_word n new (minus n old k (polynomial_times u f v))) prime e)))
 
 -- one part more
@@ -81,7 +81,7 @@ module _ (s : Setting) (values : List Polynomial) where
   line_value-append (part ∷ line) more =
       ap (λ (f : Polynomial). part_value s values part ++ f) (line_value-append line more)
       ∙ sym (append_assoc (part_value s values part) (line_value s values line)
-        (line_value s values more))
+      (line_value s values more))
 
   one_value : (part : Part) → line_value s values (part ∷ []) ≡ part_value s values part
   unfolding line_value
@@ -95,8 +95,10 @@ module _ (s : Setting) (values : List Polynomial) where
   pub left_begins : (f : Polynomial) (c : ℕ) (line : Line) → IsLeft f c line 0 f
   unfolding line_value
   left_begins f c line =
-      record { at = λ x. ap (λ n. n % s.prime)
-        (sym (minus_at s.prime f c [] x ∙ none (coefficient f x) ((s.prime - 1) * c))) }
+      record {
+        at = λ x. ap (λ n. n % s.prime)
+            (sym (minus_at s.prime f c [] x ∙ none (coefficient f x) ((s.prime - 1) * c)));
+      }
     where
       none : (a q : ℕ) → a + q * 0 ≡ a
       none a q = omega arith
@@ -113,11 +115,11 @@ module _ (s : Setting) (values : List Polynomial) where
         taken.at x
         ∙ (ap (λ n. n % s.prime) (minus_at s.prime old c (part_value s values part) x)
         ∙ (same_plus s.prime (coefficient old x) (coefficient f x + k * a) (k * b)
-              (before.at x ∙ ap (λ n. n % s.prime)
-                (minus_at s.prime f c (line_value s values (take i line)) x))
+        (before.at x ∙ ap (λ n. n % s.prime)
+        (minus_at s.prime f c (line_value s values (take i line)) x))
         ∙ ap (λ n. n % s.prime) (regroup (coefficient f x) k a b
-              ∙ (ap (λ n. coefficient f x + k * n) (sym (one_more x))
-                ∙ sym (minus_at s.prime f c (line_value s values (take (i + 1) line)) x)))));
+        ∙ (ap (λ n. coefficient f x + k * n) (sym (one_more x))
+        ∙ sym (minus_at s.prime f c (line_value s values (take (i + 1) line)) x)))));
   }
     where
       regroup : (e k a b : ℕ) → (e + k * a) + k * b ≡ e + k * (a + b)
@@ -131,10 +133,10 @@ module _ (s : Setting) (values : List Polynomial) where
       one_more x =
           ap (λ (l : Line). coefficient (line_value s values l) x) more
           ∙ (ap (λ (g : Polynomial). coefficient g x) (line_value-append (take i line) (part ∷ [])
-                  ∙ ap (λ (g : Polynomial). line_value s values (take i line) ++ g)
-                  (one_value part))
+          ∙ ap (λ (g : Polynomial). line_value s values (take i line) ++ g)
+          (one_value part))
           ∙ linear_sum-append (is_at same_word x) (line_value s values (take i line))
-              (part_value s values part))
+          (part_value s values part))
 
   pub left_ends : (f : Polynomial) (c : ℕ) (line : Line) (i : ℕ) (g : Polynomial) → 0 < s.prime
       → length line ≤ i → IsLeft f c line i g
@@ -142,7 +144,7 @@ module _ (s : Setting) (values : List Polynomial) where
   left_ends f c line i g some long h =
       normal_form_equal s.prime g (minus s.prime f c (line_value s values line)) some
       (subst (λ (l : Line). SameSum same_word s.prime g (minus s.prime f c (line_value s values l)))
-        (take_all i line long) h)
+      (take_all i line long) h)
 
 -- ---- differences of equal polynomials
 
@@ -152,9 +154,9 @@ difference_same p f c g h some e = normal_form_equal p (minus p f c g) (minus p 
   at = λ x.
       ap (λ n. n % p) (minus_at p f c g x)
       ∙ (plus_same p (coefficient f x) ((p - 1) * c * coefficient g x)
-            ((p - 1) * c * coefficient h x) (sym (mul-mod_second ((p - 1) * c) (coefficient g x) p)
-              ∙ (ap (λ n. ((p - 1) * c * n) % p) (e.at x)
-                ∙ mul-mod_second ((p - 1) * c) (coefficient h x) p))
+      ((p - 1) * c * coefficient h x) (sym (mul-mod_second ((p - 1) * c) (coefficient g x) p)
+      ∙ (ap (λ n. ((p - 1) * c * n) % p) (e.at x)
+      ∙ mul-mod_second ((p - 1) * c) (coefficient h x) p))
       ∙ ap (λ n. n % p) (sym (minus_at p f c h x)));
 }
 
@@ -164,7 +166,7 @@ pub negative_back : (p : ℕ) (m : Polynomial) → 1 < p
 negative_back p m one = normal_form_equal p (minus p [] ((p - 1) % p) m) m (omega arith) record {
   at = λ x.
       ap (λ n. n % p) (minus_at p [] ((p - 1) % p) m x ∙ ap (λ n. 0 + (p - 1) * n * coefficient m x)
-            (mod-eq_of_lt (omega (arith, one))))
+      (mod-eq_of_lt (omega (arith, one))))
       ∙ whole (coefficient m x);
 }
   where

@@ -16,17 +16,30 @@ y = record { index = 1; extra = 0 } ∷ []
 -- x x - y over the field 101
 abbrev setting : Setting
 setting =
-    record { prime = 101; generators = (record { coefficient = 1;
-          key = record { index = 0; extra = 0 } ∷ x } ∷ record { coefficient = 100; key = y } ∷ [])
-      ∷ [] }
+    record {
+      prime = 101;
+      generators = (record {
+        coefficient = 1;
+        key = record { index = 0; extra = 0 } ∷ x;
+      } ∷ record { coefficient = 100; key = y } ∷ [])
+          ∷ [];
+    }
 
 -- f, then x V(1) - V(1) x, then -V(2)
 abbrev lines : List Line
 lines =
     (record { coefficient = 1; left = []; of = Factor.a_generator 1; right = [] } ∷ [])
-    ∷ (record { coefficient = 1; left = x;
-            of = Factor.a_line 1; right = [] } ∷ record { coefficient = 100;
-            left = []; of = Factor.a_line 1; right = x } ∷ [])
+    ∷ (record {
+      coefficient = 1;
+      left = x;
+      of = Factor.a_line 1;
+      right = [];
+    } ∷ record {
+      coefficient = 100;
+      left = [];
+      of = Factor.a_line 1;
+      right = x;
+    } ∷ [])
     ∷ (record { coefficient = 100; left = []; of = Factor.a_line 2; right = [] } ∷ [])
     ∷ []
 

@@ -29,8 +29,10 @@ module _ (a : Alphabet) where
   fits_more [] r q h x = tt
   fits_more (t ∷ f) r q h x =
       let first : IsWordWithin a r t.key =
-          x.0 in (record { letters = first.letters; short = omega (arith, first.short) },
-            fits_more f r q h x.1)
+      x.0 in (
+        record { letters = first.letters; short = omega (arith, first.short) },
+        fits_more f r q h x.1,
+      )
 
   fits-append : (f g : Polynomial) (r : ℕ) → Fits a f r → Fits a g r → Fits a (f ++ g) r
   fits-append [] g r x y = y
@@ -59,8 +61,10 @@ module _ (a : Alphabet) where
   longest_fits [] x = tt
   longest_fits (t ∷ f) x =
       let first : IsTextWord a t.key =
-          x.0 in (record { letters = first.letters; short = omega arith },
-            fits_more f (longest f) (longest (t ∷ f)) (omega arith) (longest_fits f x.1))
+      x.0 in (
+        record { letters = first.letters; short = omega arith },
+        fits_more f (longest f) (longest (t ∷ f)) (omega arith) (longest_fits f x.1),
+      )
 
   pub item_fits : (values : List Polynomial) (reaches : List ℕ) (k : ℕ)
       → AllZip (Fits a) values reaches → Fits a (item [] values k) (item 0 reaches k)
@@ -90,7 +94,7 @@ module _ (s : NamedSetting) (is : IsSetting s) where
   generator_fits i g =
       longest_fits s.alphabet (generator s.setting i)
       (recursion_from_All (λ t. IsTextWord s.alphabet t.key) (generator s.setting i)
-        (generator_text i g).polynomial.words)
+      (generator_text i g).polynomial.words)
 
   factor_fits : (values : List Polynomial) (reaches : List ℕ) (f : Factor)
       → AllZip (Fits s.alphabet) values reaches → IsFactor s.setting (length reaches) f
@@ -103,11 +107,11 @@ module _ (s : NamedSetting) (is : IsSetting s) where
       → Fits s.alphabet (part_value s.setting values part) (part_reach s.setting reaches part)
   part_fits values reaches part x h =
       fits-scale s.alphabet part.coefficient
-          (polynomial_times part.left (factor_value s.setting values part.of) part.right)
-          (part_reach s.setting reaches part)
+      (polynomial_times part.left (factor_value s.setting values part.of) part.right)
+      (part_reach s.setting reaches part)
       (fits-times s.alphabet part.left part.right (factor_value s.setting values part.of)
-            (factor_reach s.setting reaches part.of) (part_reach s.setting reaches part) h.left
-            h.right (omega arith) (factor_fits values reaches part.of x h.factor))
+      (factor_reach s.setting reaches part.of) (part_reach s.setting reaches part) h.left
+      h.right (omega arith) (factor_fits values reaches part.of x h.factor))
 
   pub line_fits : (values : List Polynomial) (reaches : List ℕ) (line : Line)
       → AllZip (Fits s.alphabet) values reaches → AllByRecursion (IsPart s reaches) line
@@ -117,11 +121,11 @@ module _ (s : NamedSetting) (is : IsSetting s) where
   line_fits values reaches (part ∷ line) x h =
       let most : ℕ = line_reach s.setting reaches (part ∷ line) in
       fits-append s.alphabet (part_value s.setting values part) (line_value s.setting values line)
-          most
+      most
       (fits_more s.alphabet (part_value s.setting values part) (part_reach s.setting reaches part)
-            most (omega arith) (part_fits values reaches part x h.0))
+      most (omega arith) (part_fits values reaches part x h.0))
       (fits_more s.alphabet (line_value s.setting values line) (line_reach s.setting reaches line)
-            most (omega arith) (line_fits values reaches line x h.1))
+      most (omega arith) (line_fits values reaches line x h.1))
 
   -- the values of lines have no words longer than their reaches
   pub lines_fit : (values : List Polynomial) (reaches : List ℕ) (lines : List Line)
@@ -132,7 +136,7 @@ module _ (s : NamedSetting) (is : IsSetting s) where
   lines_fit values reaches [] x h = x
   lines_fit values reaches (line ∷ lines) x h =
       lines_fit (values ++ line_value s.setting values line ∷ [])
-          (reaches ++ line_reach s.setting reaches line ∷ []) lines
+      (reaches ++ line_reach s.setting reaches line ∷ []) lines
       (all_fit-push s.alphabet values reaches (line_value s.setting values line)
-            (line_reach s.setting reaches line) x
-            (line_fits values reaches line x (recursion_from_All (IsPart s reaches) line h.0))) h.1
+      (line_reach s.setting reaches line) x
+      (line_fits values reaches line x (recursion_from_All (IsPart s reaches) line h.0))) h.1

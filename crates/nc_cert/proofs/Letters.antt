@@ -26,7 +26,7 @@ module _ (c : Certificate) (h : IsCertificate c) where
   value_has [] r x = tt
   value_has (t ∷ f) r x =
       let first : IsWordWithin c.setting.alphabet r t.key =
-          x.0 in (first.letters, value_has f r x.1)
+      x.0 in (first.letters, value_has f r x.1)
 
   last_has : AllByRecursion (λ t. IsWordIn c.setting.alphabet t.key)
       (lines_value c.setting.setting c.lines)
@@ -34,28 +34,28 @@ module _ (c : Certificate) (h : IsCertificate c) where
       let values : List Polynomial = values_of c.setting.setting c.lines in
       let reaches : List ℕ = reaches_after c.setting.setting [] c.lines in
       value_has (item [] values (length c.lines)) (item 0 reaches (length c.lines))
-          (item_fits c.setting.alphabet values reaches (length c.lines)
-            (lines_fit c.setting h.setting [] [] c.lines tt h.lines))
+      (item_fits c.setting.alphabet values reaches (length c.lines)
+      (lines_fit c.setting h.setting [] [] c.lines tt h.lines))
 
   -- the words of the rest are over the alphabet
   rest_has : AllByRecursion (λ t. IsWordIn c.setting.alphabet t.key)
       (rest_of c.setting.setting c.claim c.lines)
   rest_has =
       normal_form_listed (IsWordIn c.setting.alphabet) c.setting.setting.prime
-          (minus c.setting.setting.prime c.claim 1 (lines_value c.setting.setting c.lines))
+      (minus c.setting.setting.prime c.claim 1 (lines_value c.setting.setting c.lines))
       (minus_has (IsWordIn c.setting.alphabet) c.claim ((c.setting.setting.prime - 1) * 1)
-            (lines_value c.setting.setting c.lines)
-            (recursion_from_All (λ t. IsWordIn c.setting.alphabet t.key) c.claim h.claim.words)
-            last_has)
+      (lines_value c.setting.setting c.lines)
+      (recursion_from_All (λ t. IsWordIn c.setting.alphabet t.key) c.claim h.claim.words)
+      last_has)
 
   -- so each of its letters has a name
   pub rest_named : All (λ t. All (λ x. x.index < length c.setting.alphabet.names) t.key)
       (rest_of c.setting.setting c.claim c.lines)
   rest_named =
       All-weaker (λ t. IsWordIn c.setting.alphabet t.key)
-          (λ t. All (λ x. x.index < length c.setting.alphabet.names) t.key)
-          (λ t k. All-weaker (IsLetterIn c.setting.alphabet)
-            (λ x. x.index < length c.setting.alphabet.names) (λ x l. l.0) t.key k)
-          (rest_of c.setting.setting c.claim c.lines)
+      (λ t. All (λ x. x.index < length c.setting.alphabet.names) t.key)
+      (λ t k. All-weaker (IsLetterIn c.setting.alphabet)
+      (λ x. x.index < length c.setting.alphabet.names) (λ x l. l.0) t.key k)
+      (rest_of c.setting.setting c.claim c.lines)
       (All-from_recursion (λ t. IsWordIn c.setting.alphabet t.key)
-            (rest_of c.setting.setting c.claim c.lines) rest_has)
+      (rest_of c.setting.setting c.claim c.lines) rest_has)

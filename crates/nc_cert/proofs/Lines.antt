@@ -30,8 +30,11 @@ module _ (s : Setting) where
   unfolding values_after
   length-values_after values [] = omega arith
   length-values_after values (line ∷ lines) =
-      omega (arith, length-values_after (values ++ line_value s values line ∷ []) lines,
-        length_push values (line_value s values line))
+      omega (
+        arith,
+        length-values_after (values ++ line_value s values line ∷ []) lines,
+        length_push values (line_value s values line),
+      )
 
   -- the value of the last line, over those before it
   pub last_value : (lines : List Line) (line : Line)
@@ -39,10 +42,10 @@ module _ (s : Setting) where
   last_value lines line =
       let value : Polynomial = line_value s (values_of s lines) line in
       let many : length (lines ++ line ∷ []) ≡ suc (length (values_of s lines)) =
-          omega (arith, length_push lines line, length-values_after [] lines) in
+      omega (arith, length_push lines line, length-values_after [] lines) in
       ap (item [] (values_of s (lines ++ line ∷ []))) many
       ∙ (ap (λ (values : List Polynomial). get_or values (length (values_of s lines)) [])
-            (values_after-push [] lines line)
+      (values_after-push [] lines line)
       ∙ get_or-append_seam (values_of s lines) value [] [])
 
 module _ (s : NamedSetting) where

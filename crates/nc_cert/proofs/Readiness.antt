@@ -39,25 +39,26 @@ module _ (s : NamedSetting) (is : IsSetting s) where
   factor_ready : (values : List Polynomial) (reaches : List ℕ) (f : Factor)
       → AllZip (Fits s.alphabet) values reaches → IsFactor s.setting (length reaches) f →
       AreResidues s.setting.prime (factor_value s.setting (map (normal_form s.setting.prime) values)
-            f) × Fits s.alphabet (factor_value s.setting (map (normal_form s.setting.prime) values)
-            f) (factor_reach s.setting reaches f)
+      f) × Fits s.alphabet (factor_value s.setting (map (normal_form s.setting.prime) values)
+      f) (factor_reach s.setting reaches f)
   factor_ready values reaches (Factor.a_generator i) x h =
       ((generator_text s is i h).polynomial.normal.1, generator_fits s is i h)
   factor_ready values reaches (Factor.a_line k) x h =
       let value : Polynomial = item [] values k in
       let some : 0 < s.setting.prime = omega (arith, above_one s is) in
       subst (λ (f : Polynomial). AreResidues s.setting.prime f
-            × Fits s.alphabet f (item 0 reaches k)) (sym (item-normal s.setting.prime values k))
-      ((normal_form_normal s.setting.prime value some).1,
-            normal_form_listed (IsWordWithin s.alphabet (item 0 reaches k)) s.setting.prime value
-            (item_fits s.alphabet values reaches k x))
+      × Fits s.alphabet f (item 0 reaches k)) (sym (item-normal s.setting.prime values k)) (
+        (normal_form_normal s.setting.prime value some).1,
+        normal_form_listed (IsWordWithin s.alphabet (item 0 reaches k)) s.setting.prime value
+            (item_fits s.alphabet values reaches k x),
+      )
 
   short_products : (u v : Word) (f : Polynomial) (r : ℕ) → length u + r + length v ≤ 100000
       → Fits s.alphabet f r → AllByRecursion (λ t. length u + length t.key + length v ≤ 200000) f
   short_products u v [] r h x = tt
   short_products u v (t ∷ f) r h x =
       let first : IsWordWithin s.alphabet r t.key =
-          x.0 in (omega (arith, first.short), short_products u v f r h x.1)
+      x.0 in (omega (arith, first.short), short_products u v f r h x.1)
 
   same_many : (values : List Polynomial) (reaches : List ℕ)
       → AllZip (Fits s.alphabet) values reaches → length values ≡ length reaches
@@ -80,9 +81,9 @@ module _ (s : NamedSetting) (is : IsSetting s) where
             h.factor;
         residues = ready.0;
         short = All-from_recursion (λ t. length part.left + length t.key + length part.right
-              ≤ 200000) (factor_value s.setting kept part.of)
+            ≤ 200000) (factor_value s.setting kept part.of)
             (short_products part.left part.right (factor_value s.setting kept part.of)
-              (factor_reach s.setting reaches part.of) h.short ready.1);
+            (factor_reach s.setting reaches part.of) h.short ready.1);
       }
 
   parts_ready : (values : List Polynomial) (reaches : List ℕ) (line : Line)
@@ -125,10 +126,10 @@ module _ (s : Setting) (some : 0 < s.prime) (values : List Polynomial) where
   same_part : (part : Part) → SamePolynomial s (part_value s kept part) (part_value s values part)
   same_part part =
       same-scale s.prime part.coefficient
-          (polynomial_times part.left (factor_value s kept part.of) part.right)
-          (polynomial_times part.left (factor_value s values part.of) part.right)
+      (polynomial_times part.left (factor_value s kept part.of) part.right)
+      (polynomial_times part.left (factor_value s values part.of) part.right)
       (same_times s part.left (factor_value s kept part.of) (factor_value s values part.of)
-            part.right some (same_factor part.of))
+      part.right some (same_factor part.of))
 
   pub same_line : (line : Line) → SamePolynomial s (line_value s kept line)
       (line_value s values line)

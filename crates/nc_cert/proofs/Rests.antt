@@ -20,10 +20,11 @@ module _ (s : NamedSetting) (is : IsSetting s) where
       → claim ≡ rest_of s.setting claim []
   rest_of_claim claim h =
       sym (normal_form_equal s.setting.prime
-        (minus s.setting.prime claim 1 (lines_value s.setting [])) claim some record
-        { at = λ x. ap (λ n. n % s.setting.prime) (minus_at s.setting.prime claim 1 [] x
-            ∙ none (coefficient claim x) ((s.setting.prime - 1) * 1)) }
-        ∙ normal_form-normal s.setting.prime claim some h)
+      (minus s.setting.prime claim 1 (lines_value s.setting [])) claim some record {
+        at = λ x. ap (λ n. n % s.setting.prime) (minus_at s.setting.prime claim 1 [] x
+            ∙ none (coefficient claim x) ((s.setting.prime - 1) * 1));
+      }
+      ∙ normal_form-normal s.setting.prime claim some h)
     where
       some : 0 < s.setting.prime
       some = omega (arith, above_one s is)
@@ -34,14 +35,14 @@ module _ (s : NamedSetting) (is : IsSetting s) where
   -- and else the claim minus the last line, over the values before it
   pub rest_of_lines : (claim : Polynomial) (lines : List Line) (last : Line)
       → normal_form s.setting.prime (minus s.setting.prime claim 1
-        (line_value s.setting (normals s is lines) last)) ≡ rest_of s.setting claim
+      (line_value s.setting (normals s is lines) last)) ≡ rest_of s.setting claim
       (lines ++ last ∷ [])
   rest_of_lines claim lines last =
       difference_same s.setting.prime claim 1 (line_value s.setting (normals s is lines) last)
-          (line_value s.setting (values_of s.setting lines) last) (omega (arith, above_one s is))
-          (same_line s.setting (omega (arith, above_one s is)) (values_of s.setting lines) last)
+      (line_value s.setting (values_of s.setting lines) last) (omega (arith, above_one s is))
+      (same_line s.setting (omega (arith, above_one s is)) (values_of s.setting lines) last)
       ∙ ap (λ (f : Polynomial). normal_form s.setting.prime (minus s.setting.prime claim 1 f))
-          (sym (last_value s.setting lines last))
+      (sym (last_value s.setting lines last))
 
 -- ---- nothing is left exactly of a valid certificate
 
@@ -50,11 +51,11 @@ pub valid_from_nothing : (c : Certificate) (rest : Polynomial) → IsCertificate
     → IsValid c.setting.setting c.claim c.lines
 valid_from_nothing c rest h e none =
     (valid_by_rest c.setting.setting c.claim c.lines
-      (omega (arith, above_one c.setting h.setting))).1 (sym e ∙ none)
+    (omega (arith, above_one c.setting h.setting))).1 (sym e ∙ none)
 
 pub nothing_from_valid : (c : Certificate) (rest : Polynomial) → IsCertificate c
     → rest ≡ rest_of c.setting.setting c.claim c.lines → IsValid c.setting.setting c.claim c.lines
     → rest ≡ []
 nothing_from_valid c rest h e valid =
     e ∙ (valid_by_rest c.setting.setting c.claim c.lines
-      (omega (arith, above_one c.setting h.setting))).0 valid
+    (omega (arith, above_one c.setting h.setting))).0 valid

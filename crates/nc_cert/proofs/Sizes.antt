@@ -30,9 +30,9 @@ products_is a [] b = omega arith
 products_is a (t ∷ f) b =
     sum_by-cons (λ t. 1 + length a + length t.key + length b) t f
     ∙ (step (length a) (length t.key) (length b) (length f) (letter_count f) (products_charge a f b)
-          (products_is a f b)
+    (products_is a f b)
     ∙ ap (λ n. suc (length f) * (1 + length a + length b) + n)
-        (sym (sum_by-cons (λ t. length t.key) t f)))
+    (sym (sum_by-cons (λ t. length t.key) t f)))
   where
     step : (k l m n r c : ℕ) → c ≡ n * (1 + k + m) + r
         → 1 + k + l + m + c ≡ suc n * (1 + k + m) + (l + r)
@@ -54,7 +54,7 @@ pub charge_few : (n k m r : ℕ) → k ≤ 200000 → m ≤ 200000 → r ≤ 200
     → n * (1 + k + m) + r ≤ 600001 * n
 charge_few n k m r left right few =
     let each : 1 + k + m ≤ 400001 =
-        omega (arith, left, right) in omega (arith, mul-le-mul_left n each, few)
+    omega (arith, left, right) in omega (arith, mul-le-mul_left n each, few)
 
 -- ---- what a part multiplies
 
@@ -73,4 +73,4 @@ pub generator_letters : (s : Setting) (i j : ℕ) (letters : List ℕ) → i ≡
 generator_letters s i j letters is e =
     ap (λ (l : List ℕ). get_or l j 0) e
     ∙ (item_letters s.generators (suc j)
-      ∙ ap letter_count (sym (ap (generator s) is ∙ generator_item s (suc j))))
+    ∙ ap letter_count (sym (ap (generator s) is ∙ generator_item s (suc j))))

@@ -23,7 +23,7 @@ module _ (charge : Part → ℕ) (line : Line) (i : ℕ) (part : Part) (within :
     after = drop (suc i) line;
     parts = sym (take-append-drop i line)
         ∙ ap (λ (l : Line). take i line ++ l) (drop-cons line i part within
-          ∙ ap (λ (p : Part). p ∷ drop (suc i) line) (sym at));
+        ∙ ap (λ (p : Part). p ∷ drop (suc i) line) (sym at));
     within = omega (arith, is, before);
     beyond = beyond;
     charge_is = ap (λ n. n + charge part) is;

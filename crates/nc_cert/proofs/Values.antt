@@ -27,18 +27,18 @@ module _ (s : NamedSetting) (is : IsSetting s) where
   ready_behind lines line more h =
       line_ready s is (values_of s.setting lines) (reaches_after s.setting [] lines) line
       (lines_fit s is [] [] lines tt (lines_before s [] lines (line ∷ more) h))
-          (line_behind s [] lines line more h)
+      (line_behind s [] lines line more h)
 
   -- the normal form of a line's value, computed over those before it
   value_behind : (lines : List Line) (line : Line)
       → normal_form s.setting.prime (minus s.setting.prime []
-        ((s.setting.prime - 1) % s.setting.prime) (line_value s.setting (normals lines) line))
+      ((s.setting.prime - 1) % s.setting.prime) (line_value s.setting (normals lines) line))
       ≡ normal_form s.setting.prime (line_value s.setting (values_of s.setting lines) line)
   value_behind lines line =
       negative_back s.setting.prime (line_value s.setting (normals lines) line) (above_one s is)
       ∙ normal_form_equal s.setting.prime (line_value s.setting (normals lines) line)
-          (line_value s.setting (values_of s.setting lines) line) (omega (arith, above_one s is))
-          (same_line s.setting (omega (arith, above_one s is)) (values_of s.setting lines) line)
+      (line_value s.setting (values_of s.setting lines) line) (omega (arith, above_one s is))
+      (same_line s.setting (omega (arith, above_one s is)) (values_of s.setting lines) line)
 
   pub split : (lines : List Line) (i : ℕ) (line : Line) → i < length lines
       → line ≡ get_or lines i line → lines ≡ take i lines ++ line ∷ drop (suc i) lines
@@ -58,15 +58,15 @@ module _ (s : NamedSetting) (is : IsSetting s) where
   pub value_step : (lines : List Line) (i : ℕ) (line : Line) (value : Polynomial) → i < length lines
       → line ≡ get_or lines i line →
       value ≡ normal_form s.setting.prime
-          (minus s.setting.prime [] ((s.setting.prime - 1) % s.setting.prime)
-            (line_value s.setting (normals (take i lines)) line)) →
+      (minus s.setting.prime [] ((s.setting.prime - 1) % s.setting.prime)
+      (line_value s.setting (normals (take i lines)) line)) →
       normals (take i lines) ++ value ∷ [] ≡ normals (take (i + 1) lines)
   value_step lines i line value within at e =
       ap (λ (f : Polynomial). normals (take i lines) ++ f ∷ [])
-          (e ∙ value_behind (take i lines) line)
+      (e ∙ value_behind (take i lines) line)
       ∙ (sym (map-append (normal_form s.setting.prime) (values_of s.setting (take i lines))
-              (line_value s.setting (values_of s.setting (take i lines)) line ∷ []))
+      (line_value s.setting (values_of s.setting (take i lines)) line ∷ []))
       ∙ ap (map (normal_form s.setting.prime))
-          (sym (values_after-push s.setting [] (take i lines) line)
-            ∙ ap (values_of s.setting) (sym (take_more lines i line within
-                ∙ ap (λ (l : Line). take i lines ++ l ∷ []) (sym at)))))
+      (sym (values_after-push s.setting [] (take i lines) line)
+      ∙ ap (values_of s.setting) (sym (take_more lines i line within
+      ∙ ap (λ (l : Line). take i lines ++ l ∷ []) (sym at)))))

@@ -46,8 +46,8 @@ IsVerdict = IsVerdictWithin 100000000
 abbrev pub IsTaken : ℕ → Setting → List Line → Taken → Type 0
 IsTaken limit s lines (takens.All kept) =
     (kept.values.items ≡ map (normal_form s.prime) (values_of s lines))
-        × (kept.letters.items ≡ map letter_count kept.values.items)
-        × (kept.spent ≡ total (charges_of s lines)) × (kept.spent ≤ limit)
+    × (kept.letters.items ≡ map letter_count kept.values.items)
+    × (kept.spent ≡ total (charges_of s lines)) × (kept.spent ≤ limit)
 IsTaken limit s lines (takens.TooMuch line charge) =
     IsTooMuch limit (charges_of s lines) line charge
 

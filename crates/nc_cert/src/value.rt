@@ -37,9 +37,9 @@ fn sub_part(
     requires residues { AreResidues setting.now.setting.prime sum.old }
     requires ready { IsReadyPart setting.now.setting values.now part.now }
     ensures difference { OnOk result
-          (SameSum same_word setting.now.setting.prime sum.new
-            (minus setting.now.setting.prime sum.old c
-              (part_value setting.now.setting values.now part.now))) }
+        (SameSum same_word setting.now.setting.prime sum.new
+        (minus setting.now.setting.prime sum.old c
+        (part_value setting.now.setting values.now part.now))) }
     ensures residues { AreResidues setting.now.setting.prime sum.new }
 {
     let p = setting.prime();
@@ -68,8 +68,8 @@ pub(crate) fn minus_line(
     requires residues { AreResidues setting.now.setting.prime f }
     requires ready { All (IsReadyPart setting.now.setting values.now) line.now }
     ensures { IfOk result (λ g. g ≡ normal_form setting.now.setting.prime
-            (minus setting.now.setting.prime f c
-              (line_value setting.now.setting values.now line.now))) }
+        (minus setting.now.setting.prime f c
+        (line_value setting.now.setting values.now line.now))) }
 {
     let mut sum = Accumulator::of(f);
     for part in line.parts() {

@@ -14,8 +14,12 @@ length-before f [] i s l = absurd (omega arith)
 length-before f (x ∷ xs) zero s l = refl
 length-before f (x ∷ []) (suc i) s l = absurd (omega arith)
 length-before f (x ∷ y ∷ ys) (suc i) s l =
-    omega (arith, length-append (f x) (flat_map f (take i (y ∷ ys))),
-          length-before f (y ∷ ys) i s.1 (omega arith), s.0)
+    omega (
+      arith,
+      length-append (f x) (flat_map f (take i (y ∷ ys))),
+      length-before f (y ∷ ys) i s.1 (omega arith),
+      s.0,
+    )
 
 -- there is an item j in chunk i
 pub record StandsAt {X T : Type 0} (f : X → List T) (xs : List X) (i j : ℕ) : Type 0 where
@@ -33,8 +37,8 @@ stands_at f (x ∷ y ∷ ys) zero j s small l =
     record { chunk = omega arith; item = λ e. omega (arith, s.0) }
 stands_at f (x ∷ y ∷ ys) (suc i) j s small l =
     let deeper =
-        stands_at f (y ∷ ys) i j s.1 small
-        (omega (arith, length-append (f x) (flat_map f (y ∷ ys)), s.0)) in
+    stands_at f (y ∷ ys) i j s.1 small
+    (omega (arith, length-append (f x) (flat_map f (y ∷ ys)), s.0)) in
     record { chunk = omega (arith, deeper.chunk); item = deeper.item }
 
 pub stands_there : {X T : Type 0} (f : X → List T) (xs : List X) (n : ℕ) → IsChunked f xs
@@ -47,9 +51,9 @@ pub found : {X T : Type 0} (f : X → List T) (xs : List X) (n : ℕ) (e : X) (d
 found f xs n e d s l =
     let there = stands_there f xs n s l in
     let before : length (flat_map f (take (n / 256) xs)) + n % 256 ≡ n =
-        omega (arith, length-before f xs (n / 256) s there.chunk) in
+    omega (arith, length-before f xs (n / 256) s there.chunk) in
     ap (λ k. get_or (flat_map f xs) k d) (sym before) ∙ get_or-flat_map f xs (n / 256) (n % 256) e d
-        there.chunk (there.item e)
+    there.chunk (there.item e)
 
 -- a full chunk in front
 pub chunked-cons : {X T : Type 0} (f : X → List T) (x : X) (xs : List X) → length (f x) ≡ 256
@@ -68,8 +72,10 @@ pub last_set : {X T : Type 0} (f : X → List T) (xs : List X) (i : ℕ) (y : X)
     → length (f y) ≤ 256 → LastSet f xs i y more
 last_set f [] i y more s last same small = absurd (omega arith)
 last_set f (x ∷ []) zero y more s last same small =
-    record { items = append-nil (f y) ∙ same x ∙ ap (λ l. l ++ more) (sym (append-nil (f x)));
-          chunked = small }
+    record {
+      items = append-nil (f y) ∙ same x ∙ ap (λ l. l ++ more) (sym (append-nil (f x)));
+      chunked = small;
+    }
 last_set f (x ∷ []) (suc i) y more s last same small = absurd (omega arith)
 last_set f (x ∷ z ∷ zs) zero y more s last same small = absurd (omega arith)
 last_set f (x ∷ z ∷ zs) (suc i) y more s last same small =
@@ -101,9 +107,11 @@ chunked-push f (x ∷ []) y s full none = go (cases_lt (length (f x)) 256)
     go (inr more) = (omega arith, omega (arith, ap length none))
 chunked-push f (x ∷ z ∷ zs) y s full none =
     chunked-cons f x ((z ∷ zs) ++ y ∷ []) s.0
-        (chunked-push f (z ∷ zs) y s.1
-          (λ r. full (record { some = omega arith;
-                room = λ i e last. room-cons f x (z ∷ zs) r i e last })) none)
+    (chunked-push f (z ∷ zs) y s.1
+    (λ r. full (record {
+      some = omega arith;
+      room = λ i e last. room-cons f x (z ∷ zs) r i e last;
+    })) none)
 
 -- an item behind the last one, or none
 pub record Pushed {X T A E : Type 0} (f : X → List T) (xs ys : List X) (item : T)
@@ -117,17 +125,21 @@ pub push_last : {X T A E : Type 0} (f : X → List T) (xs : List X) (i : ℕ) (z
     → OnOk r (f y ≡ f z ++ item ∷ []) → OnErr r (f y ≡ f z) → Pushed f xs (set xs i y) item r
 push_last f xs i z y item (Ok a) s room last read added kept =
     let there =
-        λ (e : _). added ∙ ap (λ x. f x ++ item ∷ []) (get_or_read xs i z (omega arith) read e) in
+    λ (e : _). added ∙ ap (λ x. f x ++ item ∷ []) (get_or_read xs i z (omega arith) read e) in
     let it =
-        last_set f xs i y (item ∷ []) s last there
-        (omega (arith, ap length (there y), length-append (f (get_or xs i y)) (item ∷ []),
-            room.room i y last)) in
+    last_set f xs i y (item ∷ []) s last there
+    (omega (
+      arith,
+      ap length (there y),
+      length-append (f (get_or xs i y)) (item ∷ []),
+      room.room i y last,
+    )) in
     record { chunked = it.chunked; added = it.items; kept = tt }
 push_last f xs i z y item (Err b) s room last read added kept =
     let there = λ (e : _). kept ∙ ap f (get_or_read xs i z (omega arith) read e) in
     let it =
-        last_set f xs i y [] s last (λ e. there e ∙ sym (append-nil (f (get_or xs i e))))
-        (omega (arith, ap length (there y), room.room i y last)) in
+    last_set f xs i y [] s last (λ e. there e ∙ sym (append-nil (f (get_or xs i e))))
+    (omega (arith, ap length (there y), room.room i y last)) in
     record { chunked = it.chunked; added = tt; kept = it.items ∙ append-nil (flat_map f xs) }
 
 -- the same chunks at other places

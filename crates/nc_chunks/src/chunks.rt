@@ -32,9 +32,8 @@ impl<T> Model for Chunks<T> {
 
     ghost view = { λ c. flat_map arc_value c.chunks.items };
 
-    ghost invariant =
-        { λ c. IsChunked arc_value c.chunks.items
-          × (c.len ≡ length (flat_map arc_value c.chunks.items)) };
+    ghost invariant = { λ c. IsChunked arc_value c.chunks.items
+        × (c.len ≡ length (flat_map arc_value c.chunks.items)) };
 }
 
 impl<T> Chunks<T> {
@@ -123,9 +122,9 @@ fn push_last<T: Drop>(
     requires room { HasRoom arc_value chunks.old.items }
     ensures chunked { IsChunked arc_value chunks.new.items }
     ensures added { OnOk result (flat_map arc_value chunks.new.items ≡ flat_map arc_value
-            chunks.old.items ++ item ∷ []) }
+        chunks.old.items ++ item ∷ []) }
     ensures kept { OnErr result (flat_map arc_value chunks.new.items ≡ flat_map arc_value
-            chunks.old.items) }
+        chunks.old.items) }
     ensures value_returned { IfErr result (λ e. e.value ≡ item) }
 {
     let last = chunks.len() - 1;

@@ -56,7 +56,7 @@ module _ (s : Setting) where
         degrees =
             All-from_recursion (λ (t : Term Sig). HasDegree s t.key) h.normal
             (keys_kept compare_sigs sig_laws (HasDegree s) s.prime (signed α) h.normal
-              (signed_degrees α) h.same h.descends h.residues);
+            (signed_degrees α) h.same h.descends h.residues);
       }
 
   -- and a number of terms
@@ -68,9 +68,17 @@ some_residue p prime = omega (arith, (field_from_prime p prime).above_one)
 
 pub labels_exist : LabelsExist
 labels_exist s prime run listed α is =
-    let r = sum_exists s (some_residue s.prime prime) α in
-    (r.0, record { label = α; is = is;
-        same = r.1.same; descends = r.1.descends; residues = r.1.residues; degrees = r.1.degrees })
+    let r = sum_exists s (some_residue s.prime prime) α in (
+      r.0,
+      record {
+        label = α;
+        is = is;
+        same = r.1.same;
+        descends = r.1.descends;
+        residues = r.1.residues;
+        degrees = r.1.degrees;
+      },
+    )
 
 -- ---- the first label with too many terms
 
@@ -118,8 +126,11 @@ module _ (s : Setting) (some : 0 < s.prime) (run : State) (limit : ℕ) where
   syzygy_few : (j n : ℕ) (α : Element) → 1 ≤ j → ¬ SyzygyMany (j - 1)
       → IsLabelIn s.prime run (SyzygyOf j) α → HasTerms s.prime α n → n ≤ limit
   syzygy_few j n α l none is h =
-      few α n (λ m. none (α, subst (λ i. IsLabelIn s.prime run (SyzygyOf i) α) (sym (back j l)) is,
-          m)) h
+      few α n (λ m. none (
+        α,
+        subst (λ i. IsLabelIn s.prime run (SyzygyOf i) α) (sym (back j l)) is,
+        m,
+      )) h
 
   syzygy_dec : (i : ℕ) → Decided (SyzygyMany i)
   syzygy_dec i = go (slice_get run.syzygies (i + 1 - 1)) refl
@@ -138,8 +149,8 @@ module _ (s : Setting) (some : 0 < s.prime) (run : State) (limit : ℕ) where
           at (inl m) = inl (trace_label s.prime (labels_of s.prime run.entries) h.trace, own, m)
           at (inr n) =
               inr (λ (α, is, m). n (subst IsMany
-                  (label_once s.prime run (SyzygyOf (i + 1)) α
-                    (trace_label s.prime (labels_of s.prime run.entries) h.trace) is own) m))
+              (label_once s.prime run (SyzygyOf (i + 1)) α
+              (trace_label s.prime (labels_of s.prime run.entries) h.trace) is own) m))
 
   -- ---- there is a first one, or none
 
@@ -158,21 +169,39 @@ module _ (s : Setting) (some : 0 < s.prime) (run : State) (limit : ℕ) where
   all_within entries syzygies Claim α n is h = absurd is
 
   first_found : ((k : ℕ) × (k < length run.entries) × EntryMany k
-        × ((j : ℕ) → j < k → ¬ EntryMany j)) ⊎ ((k : ℕ) → k < length run.entries → ¬ EntryMany k)
+      × ((j : ℕ) → j < k → ¬ EntryMany j)) ⊎ ((k : ℕ) → k < length run.entries → ¬ EntryMany k)
       → ((k : ℕ) × (k < length run.syzygies) × SyzygyMany k × ((j : ℕ) → j < k → ¬ SyzygyMany j))
       ⊎ ((k : ℕ) → k < length run.syzygies → ¬ SyzygyMany k) → Found
   first_found (inl (k, l, (n, h, more), before)) y =
-      inr (EntryOf (k + 1), n, (omega arith, omega (arith, l), h, more,
-          λ j m one b t. entry_few j m one (before (j - 1) (omega (arith, one, b))) t))
+      inr (
+        EntryOf (k + 1),
+        n,
+        (
+          omega arith,
+          omega (arith, l),
+          h,
+          more,
+          λ j m one b t. entry_few j m one (before (j - 1) (omega (arith, one, b))) t,
+        ),
+      )
   first_found (inr none) (inl (k, l, (α, is, (n, h, more)), before)) =
-      inr (SyzygyOf (k + 1), n, (omega arith, omega (arith, l), (α, is, h), more,
+      inr (
+        SyzygyOf (k + 1),
+        n,
+        (
+          omega arith,
+          omega (arith, l),
+          (α, is, h),
+          more,
           λ j m β one b i t. syzygy_few j m β one (before (j - 1) (omega (arith, one, b))) i t,
-          λ j m one within t. entry_few j m one (none (j - 1) (omega (arith, one, within))) t))
+          λ j m one within t. entry_few j m one (none (j - 1) (omega (arith, one, within))) t,
+        ),
+      )
   first_found (inr none) (inr none') = inl (all_within none none')
 
   found : Found
   found = first_found (least EntryMany
-        (λ k. many_dec (label_at (labels_of s.prime run.entries) (k + 1))) (length run.entries))
+      (λ k. many_dec (label_at (labels_of s.prime run.entries) (k + 1))) (length run.entries))
       (least SyzygyMany syzygy_dec (length run.syzygies))
 
   -- ---- not both
@@ -180,8 +209,15 @@ module _ (s : Setting) (some : 0 < s.prime) (run : State) (limit : ℕ) where
   not_both : (named : Listed) (n : ℕ) → AllWithin s.prime run limit
       → IsFirstOf s.prime run limit named n → ⊥
   not_both (EntryOf k) n all (l, within, h, more, before) =
-      omega (arith, more, all (EntryOf k) (label_at (labels_of s.prime run.entries) k) n (l, within,
-          refl) h)
+      omega (
+        arith,
+        more,
+        all (EntryOf k) (label_at (labels_of s.prime run.entries) k) n (
+          l,
+          within,
+          refl,
+        ) h,
+      )
   not_both (SyzygyOf k) n all (l, within, (α, is, h), more, before, entries) =
       omega (arith, more, all (SyzygyOf k) α n is h)
   not_both Claim n all f = absurd f
@@ -190,19 +226,37 @@ module _ (s : Setting) (some : 0 < s.prime) (run : State) (limit : ℕ) where
 
   one_alone : (named named' : Listed) (n n' : ℕ) → IsFirstOf s.prime run limit named n
       → IsFirstOf s.prime run limit named' n' → (named ≡ named') × (n ≡ n')
-  one_alone (EntryOf k) (EntryOf k') n n' (l, within, h, more, before) (l', within', h', more',
-        before') = go (nat_order k k')
+  one_alone (EntryOf k) (EntryOf k') n n' (l, within, h, more, before) (
+    l',
+    within',
+    h',
+    more',
+    before',
+  ) = go (nat_order k k')
     where
       go : (k < k') ⊎ ((k ≡ k') ⊎ (k' < k)) → (EntryOf k ≡ EntryOf k') × (n ≡ n')
       go (inl b) = absurd (omega (arith, more, before' k n l b h))
-      go (inr (inl e)) =
-          (ap EntryOf e, terms_once s.prime (label_at (labels_of s.prime run.entries) k) n n' h
-            (subst (λ i. EntryTerms s.prime run i n') (sym e) h'))
+      go (inr (inl e)) = (
+        ap EntryOf e,
+        terms_once s.prime (label_at (labels_of s.prime run.entries) k) n n' h
+            (subst (λ i. EntryTerms s.prime run i n') (sym e) h'),
+      )
       go (inr (inr b)) = absurd (omega (arith, more', before k' n' l' b h'))
-  one_alone (EntryOf k) (SyzygyOf k') n n' (l, within, h, more, before) (l', within', h', more',
-        before', entries') = absurd (omega (arith, more, entries' k n l within h))
-  one_alone (SyzygyOf k) (EntryOf k') n n' (l, within, h, more, before, entries) (l', within', h',
-        more', before') = absurd (omega (arith, more', entries k' n' l' within' h'))
+  one_alone (EntryOf k) (SyzygyOf k') n n' (l, within, h, more, before) (
+    l',
+    within',
+    h',
+    more',
+    before',
+    entries',
+  ) = absurd (omega (arith, more, entries' k n l within h))
+  one_alone (SyzygyOf k) (EntryOf k') n n' (l, within, h, more, before, entries) (
+    l',
+    within',
+    h',
+    more',
+    before',
+  ) = absurd (omega (arith, more', entries k' n' l' within' h'))
   one_alone (SyzygyOf k) (SyzygyOf k') n n' (l, within, (α, is, h), more, before, entries)
       (l', within', (α', is', h'), more', before', entries') = go (nat_order k k')
     where
@@ -210,10 +264,12 @@ module _ (s : Setting) (some : 0 < s.prime) (run : State) (limit : ℕ) where
       go (inl b) = absurd (omega (arith, more, before' k n α l b is h))
       go (inr (inl e)) =
           let one : α' ≡ α =
-              label_once s.prime run (SyzygyOf k) α' α
-              (subst (λ i. IsLabelIn s.prime run (SyzygyOf i) α') (sym e) is') is in
-          (ap SyzygyOf e, terms_once s.prime α n n' h
-                (subst (λ (β : Element). HasTerms s.prime β n') one h'))
+          label_once s.prime run (SyzygyOf k) α' α
+          (subst (λ i. IsLabelIn s.prime run (SyzygyOf i) α') (sym e) is') is in (
+            ap SyzygyOf e,
+            terms_once s.prime α n n' h
+                (subst (λ (β : Element). HasTerms s.prime β n') one h'),
+          )
       go (inr (inr b)) = absurd (omega (arith, more', before k' n' α' l' b is' h'))
   one_alone (EntryOf k) Claim n n' f g = absurd g
   one_alone (SyzygyOf k) Claim n n' f g = absurd g
@@ -222,5 +278,8 @@ module _ (s : Setting) (some : 0 < s.prime) (run : State) (limit : ℕ) where
 pub one_first : OneFirst
 one_first s prime run limit =
     let some : 0 < s.prime =
-        some_residue s.prime prime in (found s some run limit, not_both s some run limit,
-          one_alone s some run limit)
+    some_residue s.prime prime in (
+      found s some run limit,
+      not_both s some run limit,
+      one_alone s some run limit,
+    )

@@ -28,7 +28,7 @@ use Rattle.std.proofs.Common.{Bool, Err, IfErr, IfOk, List, Ok, Option, Result, 
 
 module _ (P : NamedProblem) (problem : IsProblem P) (n : ℕ) (listed : Listed) (t : Trace)
     (has : HasTrace P.problem n listed t) (marks : List Bool) (limit : ℕ) (exact : (j : ℕ) → 1 ≤ j
-      → IsMarked marks j ↔ Names t j) where
+    → IsMarked marks j ↔ Names t j) where
   module _ {run : State} {last : Option Monomial} (runs : SequentialRun P.problem n run last) where
     is_there : IsTraceIn run listed t
     is_there =
@@ -39,7 +39,7 @@ module _ (P : NamedProblem) (problem : IsProblem P) (n : ℕ) (listed : Listed) 
     need needs =
         needs_reached run.entries marks t
         (λ j m. let some : 1 ≤ j = (names_within P problem runs listed t j is_there m).0 in
-          (some, (exact j some).1 m)) needs
+        (some, (exact j some).1 m)) needs
 
     needed : {j : ℕ} → IsReached run.entries marks j → Needs run.entries t j
     needed reached = reached_needs run.entries marks t (λ j some m. (exact j some).0 m) reached
@@ -50,28 +50,36 @@ module _ (P : NamedProblem) (problem : IsProblem P) (n : ℕ) (listed : Listed) 
     counted j (inl e) = inl e
     counted j (inr (t', is, needs)) =
         inr (need (subst (λ (x : Trace). Needs run.entries x j)
-            (trace_once run listed t' t is is_there) needs))
+        (trace_once run listed t' t is is_there) needs))
 
   -- where not all labels are made
   pub fill_fails : (e : CofactorFault) → FailsToFill P.problem n marks limit e
       → FailsToExpand P.problem n listed limit e
   fill_fails OutOfMemory f = tt
   fill_fails (TooMany named terms) f =
-      record { run = f.run; last = f.last;
-        runs = f.runs; many = subst (λ (l : Listed). IsTooMany P.problem.setting.prime f.run listed
-          limit l terms) (sym f.names) many }
+      record {
+        run = f.run;
+        last = f.last;
+        runs = f.runs;
+        many = subst (λ (l : Listed). IsTooMany P.problem.setting.prime f.run listed
+            limit l terms) (sym f.names) many;
+      }
     where
       lesser : (j i : ℕ) → j < f.number → EntryTerms P.problem.setting.prime f.run j i
           → (listed ≡ EntryOf j) ⊎ IsReached f.run.entries marks j → i ≤ limit
       lesser j i l terms (inl same) =
           absurd (let b : f.number < j = (needs_earlier P problem f.runs j t
-              (subst (λ (x : Listed). IsTraceIn f.run x t) same (is_there f.runs))
-              (needed f.runs f.reached)).1 in omega (arith, b, l))
+          (subst (λ (x : Listed). IsTraceIn f.run x t) same (is_there f.runs))
+          (needed f.runs f.reached)).1 in omega (arith, b, l))
       lesser j i l terms (inr reached) = f.lesser j i reached l terms
 
       many : IsTooMany P.problem.setting.prime f.run listed limit (EntryOf f.number) terms
-      many = (inr (t, is_there f.runs, needed f.runs f.reached), f.has, f.many,
-            λ j i c l ts. lesser j i l ts (counted f.runs j c))
+      many = (
+        inr (t, is_there f.runs, needed f.runs f.reached),
+        f.has,
+        f.many,
+        λ j i c l ts. lesser j i l ts (counted f.runs j c),
+      )
 
   -- ---- the item
 
@@ -89,9 +97,14 @@ module _ (P : NamedProblem) (problem : IsProblem P) (n : ℕ) (listed : Listed) 
     pub item_expands : (m : List (Term Sig)) → HasLabel P.problem n listed m → length m ≤ limit
         → IsExpanded P.problem n listed limit m
     item_expands m l few =
-        record { run = h.run; last = h.last;
-          runs = h.runs; is = own; within = record
-          { entries = λ j i c terms. entries j i terms (counted h.runs j c); item = item } }
+        record {
+          run = h.run;
+          last = h.last;
+          runs = h.runs;
+          is = own;
+          within = record
+              { entries = λ j i c terms. entries j i terms (counted h.runs j c); item = item };
+        }
       where
         own : IsLabelOf P.problem.setting h.run listed m
         own = subst (λ (r : State). IsLabelOf P.problem.setting r listed m)
@@ -101,19 +114,19 @@ module _ (P : NamedProblem) (problem : IsProblem P) (n : ℕ) (listed : Listed) 
             → HasTerms P.problem.setting.prime α i → i ≤ limit
         item α i is terms =
             let same : i ≡ length m =
-                terms_once P.problem.setting.prime α i (length m) terms
-                (label_count P.problem.setting h.run listed m own α is) in
+            terms_once P.problem.setting.prime α i (length m) terms
+            (label_count P.problem.setting h.run listed m own α is) in
             omega (arith, same, few)
 
         entries : (j i : ℕ) → EntryTerms P.problem.setting.prime h.run j i → (listed ≡ EntryOf j)
             ⊎ IsReached h.run.entries marks j → i ≤ limit
         entries j i terms (inl e) =
             let o : IsLabelOf P.problem.setting h.run (EntryOf j) m =
-                subst (λ (x : Listed). IsLabelOf P.problem.setting h.run x m) e own in
+            subst (λ (x : Listed). IsLabelOf P.problem.setting h.run x m) e own in
             let same : i ≡ length m =
-                terms_once P.problem.setting.prime
-                (label_at (labels_of P.problem.setting.prime h.run.entries) j) i (length m) terms
-                (label_terms P problem n h.run j m o) in
+            terms_once P.problem.setting.prime
+            (label_at (labels_of P.problem.setting.prime h.run.entries) j) i (length m) terms
+            (label_terms P problem n h.run j m o) in
             omega (arith, same, few)
         entries j i terms (inr reached) =
             few_filled P problem n marks limit labels h j i reached terms
@@ -122,9 +135,13 @@ module _ (P : NamedProblem) (problem : IsProblem P) (n : ℕ) (listed : Listed) 
         → FailsToExpand P.problem n listed limit e
     item_fails OutOfMemory f = tt
     item_fails (TooMany named terms) f =
-        record { run = h.run; last = h.last;
-          runs = h.runs; many = subst (λ (l : Listed). IsTooMany P.problem.setting.prime h.run
-            listed limit l terms) (sym f.names) (many listed refl) }
+        record {
+          run = h.run;
+          last = h.last;
+          runs = h.runs;
+          many = subst (λ (l : Listed). IsTooMany P.problem.setting.prime h.run
+              listed limit l terms) (sym f.names) (many listed refl);
+        }
       where
         own : IsLabelOf P.problem.setting h.run listed f.label
         own = subst (λ (r : State). IsLabelOf P.problem.setting r listed f.label)
@@ -134,14 +151,14 @@ module _ (P : NamedProblem) (problem : IsProblem P) (n : ℕ) (listed : Listed) 
         terms_are =
             subst (λ i. HasTerms P.problem.setting.prime own.label i) (sym f.count)
             (has_terms P.problem.setting own.label f.label
-              (label_sum P.problem.setting h.run listed f.label own))
+            (label_sum P.problem.setting h.run listed f.label own))
 
         lesser : (k j i : ℕ) → listed ≡ EntryOf k → j < k
             → EntryTerms P.problem.setting.prime h.run j i → (listed ≡ EntryOf j)
             ⊎ IsReached h.run.entries marks j → i ≤ limit
         lesser k j i e l terms (inl d) =
             absurd (let same : EntryOf k ≡ EntryOf j = sym e ∙ d in let one : k ≡ j = cc in
-              omega (arith, one, l))
+            omega (arith, one, l))
         lesser k j i e l terms (inr reached) =
             few_filled P problem n marks limit labels h j i reached terms
 
@@ -158,13 +175,20 @@ module _ (P : NamedProblem) (problem : IsProblem P) (n : ℕ) (listed : Listed) 
             → IsTooMany P.problem.setting.prime h.run listed limit l terms
         many (EntryOf k) e =
             let is : IsLabelIn P.problem.setting.prime h.run (EntryOf k) own.label =
-                subst (λ (l : Listed). IsLabelIn P.problem.setting.prime h.run l own.label) e
-                own.is in
-            (inl e, subst (λ (α : Element). HasTerms P.problem.setting.prime α terms) is.2
-                  terms_are, f.many, λ j i c l ts. lesser k j i e l ts (counted h.runs j c))
-        many (SyzygyOf k) e =
-            (e, (own.label, own.is, terms_are), f.many,
-              λ j i c ts. others k j i e ts (counted h.runs j c))
+            subst (λ (l : Listed). IsLabelIn P.problem.setting.prime h.run l own.label) e
+            own.is in (
+              inl e,
+              subst (λ (α : Element). HasTerms P.problem.setting.prime α terms) is.2
+                  terms_are,
+              f.many,
+              λ j i c l ts. lesser k j i e l ts (counted h.runs j c),
+            )
+        many (SyzygyOf k) e = (
+          e,
+          (own.label, own.is, terms_are),
+          f.many,
+          λ j i c ts. others k j i e ts (counted h.runs j c),
+        )
         many Claim e = absurd (subst (λ (l : Listed). IsTraceIn h.run l t) e (is_there h.runs))
 
     -- ---- what the code gives

@@ -46,145 +46,163 @@ pub none_filled : (P : Problem) (n : ℕ) (marks : List Bool) (stack : List (Opt
     → AreFilledTo P n marks stack labels limit
 none_filled P n marks stack labels limit none h =
     subst (λ (l : List (List (Term Sig))). AreFilledTo P n marks stack l limit) (sym none) (record {
-  run = h.run;
-  last = h.last;
-  runs = h.runs;
-  size = h.size;
-  height = omega (arith, h.height);
-  slots = λ k o l within at. h.slots k o (omega (arith, l)) within at;
-  places = λ k some within. absurd (omega (arith, some, within));
-})
+      run = h.run;
+      last = h.last;
+      runs = h.runs;
+      size = h.size;
+      height = omega (arith, h.height);
+      slots = λ k o l within at. h.slots k o (omega (arith, l)) within at;
+      places = λ k some within. absurd (omega (arith, some, within));
+    })
 
 module _ (P : NamedProblem) (problem : IsProblem P) (n : ℕ) (marks : List Bool)
     (labels : List (List (Term Sig))) (limit : ℕ) where
   module _ (stack : List (Option Trace)) (h : AreFilledTo P.problem n marks stack labels limit)
-      where
-    -- a label in its place
-    there : (j : ℕ) → IsReached h.run.entries marks j → j ≤ length labels → (m : List (Term Sig))
-        × (slice_get labels (j - 1) ≡ Some m) × IsLabelOf P.problem.setting h.run (EntryOf j) m
-    there j reached within =
-        let f : IsFilledAt P.problem h.run labels limit j =
-            h.places j (reached_within P problem h.runs marks h.size reached).0 within reached in
-        (f.label, f.at, f.is)
+    where
+      -- a label in its place
+      there : (j : ℕ) → IsReached h.run.entries marks j → j ≤ length labels → (m : List (Term Sig))
+          × (slice_get labels (j - 1) ≡ Some m) × IsLabelOf P.problem.setting h.run (EntryOf j) m
+      there j reached within =
+          let f : IsFilledAt P.problem h.run labels limit j =
+          h.places j (reached_within P problem h.runs marks h.size reached).0 within reached in
+          (f.label, f.at, f.is)
 
-    -- each label that is there has few terms
-    few_there : (j i : ℕ) → IsReached h.run.entries marks j → j ≤ length labels
-        → EntryTerms P.problem.setting.prime h.run j i → i ≤ limit
-    few_there j i reached within terms =
-        let f : IsFilledAt P.problem h.run labels limit j =
-            h.places j (reached_within P problem h.runs marks h.size reached).0 within reached in
-        let same : i ≡ length f.label =
-            terms_once P.problem.setting.prime
-            (label_at (labels_of P.problem.setting.prime h.run.entries) j) i (length f.label) terms
-            (label_terms P problem n h.run j f.label f.is) in
-        omega (arith, same, f.few)
+      -- each label that is there has few terms
+      few_there : (j i : ℕ) → IsReached h.run.entries marks j → j ≤ length labels
+          → EntryTerms P.problem.setting.prime h.run j i → i ≤ limit
+      few_there j i reached within terms =
+          let f : IsFilledAt P.problem h.run labels limit j =
+          h.places j (reached_within P problem h.runs marks h.size reached).0 within reached in
+          let same : i ≡ length f.label =
+          terms_once P.problem.setting.prime
+          (label_at (labels_of P.problem.setting.prime h.run.entries) j) i (length f.label) terms
+          (label_terms P problem n h.run j f.label f.is) in
+          omega (arith, same, f.few)
 
-    -- ---- the next entry
+      -- ---- the next entry
 
-    module _ (rest : List (Option Trace)) (o : Option Trace) (popped : stack ≡ rest ++ o ∷ []) where
-      heights : length labels + (length rest + 1) ≡ length h.run.entries
-      heights = omega (arith, h.height, ap length popped, length-append rest (o ∷ []))
+      module _ (rest : List (Option Trace)) (o : Option Trace) (popped : stack ≡ rest ++ o ∷ [])
+        where
+          heights : length labels + (length rest + 1) ≡ length h.run.entries
+          heights = omega (arith, h.height, ap length popped, length-append rest (o ∷ []))
 
-      slot : IsFound h.run marks (length labels + 1) o
-      slot =
-          let at : slice_get stack (length rest) ≡ Some o =
+          slot : IsFound h.run marks (length labels + 1) o
+          slot =
+              let at : slice_get stack (length rest) ≡ Some o =
               subst (λ (l : List (Option Trace)). slice_get l (length rest) ≡ Some o) (sym popped)
               (last_there rest o) in
-          h.slots (length labels + 1) o (omega arith) (omega (arith, heights))
+              h.slots (length labels + 1) o (omega arith) (omega (arith, heights))
               (subst (λ i. slice_get stack i ≡ Some o) (omega (arith, heights)) at)
 
-      -- what its trace names is in its place
-      pub slot_named : (x : Trace) → o ≡ Some x
-          → AreNamedLabels P.problem n (EntryOf (length labels + 1)) x labels
-      slot_named x e =
-          let s : IsFound h.run marks (length labels + 1) (Some x) =
+          -- what its trace names is in its place
+          pub slot_named : (x : Trace) → o ≡ Some x
+              → AreNamedLabels P.problem n (EntryOf (length labels + 1)) x labels
+          slot_named x e =
+              let s : IsFound h.run marks (length labels + 1) (Some x) =
               subst (IsFound h.run marks (length labels + 1)) e slot in
-          record { run = h.run; last = h.last;
-                runs = h.runs; is = s.0; named = λ j m. named j s.0 s.1 m }
-        where
-          named : (j : ℕ) → IsTraceIn h.run (EntryOf (length labels + 1)) x
-              → IsReached h.run.entries marks (length labels + 1) → Names x j
-              → (m : List (Term Sig)) × (slice_get labels (j - 1) ≡ Some m)
-              × IsLabelOf P.problem.setting h.run (EntryOf j) m
-          named j (y, some, at, same) reached m =
-              let by : Names y.trace j = subst (λ (z : Trace). Names z j) (sym same) m in
-              let b : (1 ≤ j) × (j < length labels + 1) =
+              record {
+                run = h.run;
+                last = h.last;
+                runs = h.runs;
+                is = s.0;
+                named = λ j m. named j s.0 s.1 m;
+              }
+            where
+              named : (j : ℕ) → IsTraceIn h.run (EntryOf (length labels + 1)) x
+                  → IsReached h.run.entries marks (length labels + 1) → Names x j
+                  → (m : List (Term Sig)) × (slice_get labels (j - 1) ≡ Some m)
+                  × IsLabelOf P.problem.setting h.run (EntryOf j) m
+              named j (y, some, at, same) reached m =
+                  let by : Names y.trace j = subst (λ (z : Trace). Names z j) (sym same) m in
+                  let b : (1 ≤ j) × (j < length labels + 1) =
                   names_earlier P.problem (problem_field P problem) h.runs (length labels + 1) j y
                   some at by in
-              there j (IsReached.through reached y at by) (omega (arith, b.1))
+                  there j (IsReached.through reached y at by) (omega (arith, b.1))
 
-      -- its label is one place more
-      pub slot_fills : (m : List (Term Sig)) → IsNewLabel P.problem n limit (length labels + 1) o m
-          → AreFilledTo P.problem n marks rest (labels ++ m ∷ []) limit
-      slot_fills m new =
-          record { run = h.run; last = h.last;
-            runs = h.runs; size = h.size; height = omega (arith, heights, longer);
-            slots = slots; places = λ k some within reached. places k some reached
-            (compared k (length labels + 1)) (omega (arith, within, longer)) }
-        where
-          longer : length (labels ++ m ∷ []) ≡ length labels + 1
-          longer = length-append labels (m ∷ [])
+          -- its label is one place more
+          pub slot_fills : (m : List (Term Sig))
+              → IsNewLabel P.problem n limit (length labels + 1) o m
+              → AreFilledTo P.problem n marks rest (labels ++ m ∷ []) limit
+          slot_fills m new =
+              record {
+                run = h.run;
+                last = h.last;
+                runs = h.runs;
+                size = h.size;
+                height = omega (arith, heights, longer);
+                slots = slots;
+                places = λ k some within reached. places k some reached
+                    (compared k (length labels + 1)) (omega (arith, within, longer));
+              }
+            where
+              longer : length (labels ++ m ∷ []) ≡ length labels + 1
+              longer = length-append labels (m ∷ [])
 
-          slots : (k : ℕ) (y : Option Trace) → length (labels ++ m ∷ []) < k
-              → k ≤ length h.run.entries → slice_get rest (length h.run.entries - k) ≡ Some y
-              → IsFound h.run marks k y
-          slots k y l within at =
-              h.slots k y (omega (arith, l, longer)) within
-              (subst (λ (s : List (Option Trace)). slice_get s (length h.run.entries - k) ≡ Some y)
-                (sym popped) (earlier_there rest o (length h.run.entries - k) y at))
+              slots : (k : ℕ) (y : Option Trace) → length (labels ++ m ∷ []) < k
+                  → k ≤ length h.run.entries → slice_get rest (length h.run.entries - k) ≡ Some y
+                  → IsFound h.run marks k y
+              slots k y l within at =
+                  h.slots k y (omega (arith, l, longer)) within
+                  (subst (λ (s : List (Option Trace)). slice_get s (length h.run.entries - k)
+                  ≡ Some y)
+                  (sym popped) (earlier_there rest o (length h.run.entries - k) y at))
 
-          filled : (x : Option Trace) → IsNewLabel P.problem n limit (length labels + 1) x m
-              → IsFound h.run marks (length labels + 1) x
-              → IsReached h.run.entries marks (length labels + 1)
-              → IsFilledAt P.problem h.run (labels ++ m ∷ []) limit (length labels + 1)
-          filled None a b reached = absurd (b reached)
-          filled (Some x) a b reached = record {
-            label = m;
-            at = subst (λ i. slice_get (labels ++ m ∷ []) i ≡ Some m) (omega arith)
-                (last_there labels m);
-            is = subst (λ (r : State). IsLabelOf P.problem.setting r (EntryOf (length labels + 1))
-                  m) (one_run P problem n a.0.runs h.runs) a.0.is;
-            few = a.1;
-          }
+              filled : (x : Option Trace) → IsNewLabel P.problem n limit (length labels + 1) x m
+                  → IsFound h.run marks (length labels + 1) x
+                  → IsReached h.run.entries marks (length labels + 1)
+                  → IsFilledAt P.problem h.run (labels ++ m ∷ []) limit (length labels + 1)
+              filled None a b reached = absurd (b reached)
+              filled (Some x) a b reached = record {
+                label = m;
+                at = subst (λ i. slice_get (labels ++ m ∷ []) i ≡ Some m) (omega arith)
+                    (last_there labels m);
+                is = subst (λ (r : State). IsLabelOf P.problem.setting r (EntryOf (length labels + 1))
+                    m) (one_run P problem n a.0.runs h.runs) a.0.is;
+                few = a.1;
+              }
 
-          places : (k : ℕ) → 1 ≤ k → IsReached h.run.entries marks k → (k < length labels + 1)
-              ⊎ ((k ≡ length labels + 1) ⊎ (length labels + 1 < k)) → k ≤ length labels + 1
-              → IsFilledAt P.problem h.run (labels ++ m ∷ []) limit k
-          places k some reached (inl l) within =
-              let f : IsFilledAt P.problem h.run labels limit k =
+              places : (k : ℕ) → 1 ≤ k → IsReached h.run.entries marks k → (k < length labels + 1)
+                  ⊎ ((k ≡ length labels + 1) ⊎ (length labels + 1 < k)) → k ≤ length labels + 1
+                  → IsFilledAt P.problem h.run (labels ++ m ∷ []) limit k
+              places k some reached (inl l) within =
+                  let f : IsFilledAt P.problem h.run labels limit k =
                   h.places k some (omega (arith, l)) reached in
-              record { label = f.label; at = earlier_there labels m (k - 1) f.label f.at;
-                    is = f.is; few = f.few }
-          places k some reached (inr (inl e)) within =
-              subst (λ i. IsFilledAt P.problem h.run (labels ++ m ∷ []) limit i) (sym e)
-              (filled o new slot (subst (λ i. IsReached h.run.entries marks i) e reached))
-          places k some reached (inr (inr l)) within = absurd (omega (arith, l, within))
+                  record {
+                    label = f.label;
+                    at = earlier_there labels m (k - 1) f.label f.at;
+                    is = f.is;
+                    few = f.few;
+                  }
+              places k some reached (inr (inl e)) within =
+                  subst (λ i. IsFilledAt P.problem h.run (labels ++ m ∷ []) limit i) (sym e)
+                  (filled o new slot (subst (λ i. IsReached h.run.entries marks i) e reached))
+              places k some reached (inr (inr l)) within = absurd (omega (arith, l, within))
 
-      -- where it has too many terms it is the first
-      pub slot_fails : (x : Trace) → o ≡ Some x → (e : CofactorFault)
-          → FailsToSum P.problem n (EntryOf (length labels + 1)) limit e
-          → FailsToFill P.problem n marks limit e
-      slot_fails x e OutOfMemory f = tt
-      slot_fails x e (TooMany named terms) f = record {
-        run = h.run;
-        last = h.last;
-        runs = h.runs;
-        size = h.size;
-        number = length labels + 1;
-        names = f.names;
-        reached = s.1;
-        has = subst (λ i. EntryTerms P.problem.setting.prime h.run (length labels + 1) i)
-            (sym f.count) (label_terms P problem n h.run (length labels + 1) f.label new);
-        many = f.many;
-        lesser = λ j i reached l terms. few_there j i reached (omega (arith, l)) terms;
-      }
-        where
-          s : IsFound h.run marks (length labels + 1) (Some x)
-          s = subst (IsFound h.run marks (length labels + 1)) e slot
+          -- where it has too many terms it is the first
+          pub slot_fails : (x : Trace) → o ≡ Some x → (e : CofactorFault)
+              → FailsToSum P.problem n (EntryOf (length labels + 1)) limit e
+              → FailsToFill P.problem n marks limit e
+          slot_fails x e OutOfMemory f = tt
+          slot_fails x e (TooMany named terms) f = record {
+            run = h.run;
+            last = h.last;
+            runs = h.runs;
+            size = h.size;
+            number = length labels + 1;
+            names = f.names;
+            reached = s.1;
+            has = subst (λ i. EntryTerms P.problem.setting.prime h.run (length labels + 1) i)
+                (sym f.count) (label_terms P problem n h.run (length labels + 1) f.label new);
+            many = f.many;
+            lesser = λ j i reached l terms. few_there j i reached (omega (arith, l)) terms;
+          }
+            where
+              s : IsFound h.run marks (length labels + 1) (Some x)
+              s = subst (IsFound h.run marks (length labels + 1)) e slot
 
-          new : IsLabelOf P.problem.setting h.run (EntryOf (length labels + 1)) f.label
-          new = subst (λ (r : State). IsLabelOf P.problem.setting r (EntryOf (length labels + 1))
-                f.label) (one_run P problem n f.has.runs h.runs) f.has.is
+              new : IsLabelOf P.problem.setting h.run (EntryOf (length labels + 1)) f.label
+              new = subst (λ (r : State). IsLabelOf P.problem.setting r (EntryOf (length labels + 1))
+                  f.label) (one_run P problem n f.has.runs h.runs) f.has.is
 
   -- all are there
   pub all_filled : (stack : List (Option Trace)) → stack ≡ []
@@ -196,7 +214,7 @@ module _ (P : NamedProblem) (problem : IsProblem P) (n : ℕ) (marks : List Bool
     size = h.size;
     places = λ k reached.
         let b : (1 ≤ k) × (k ≤ length h.run.entries) =
-            reached_within P problem h.runs marks h.size reached in
+        reached_within P problem h.runs marks h.size reached in
         h.places k b.0 (omega (arith, b.1, h.height, ap length none)) reached;
   }
 
@@ -207,9 +225,9 @@ pub few_filled : (P : NamedProblem) (problem : IsProblem P) (n : ℕ) (marks : L
 few_filled P problem n marks limit labels h j i reached terms =
     let f : IsFilledAt P.problem h.run labels limit j = h.places j reached in
     let same : i ≡ length f.label =
-        terms_once P.problem.setting.prime
-        (label_at (labels_of P.problem.setting.prime h.run.entries) j) i (length f.label) terms
-        (label_terms P problem n h.run j f.label f.is) in
+    terms_once P.problem.setting.prime
+    (label_at (labels_of P.problem.setting.prime h.run.entries) j) i (length f.label) terms
+    (label_terms P problem n h.run j f.label f.is) in
     omega (arith, same, f.few)
 
 -- ---- the code's loop
@@ -226,16 +244,20 @@ module _ (s : Snapshot) (is : IsSnapshot s) (marks : List Bool) (labels : List (
   -- entries are few
   pub next_few : length labels ≤ 1000000000
   next_few =
-      omega (arith, h.height, snapshot_counts s is,
+      omega (
+        arith,
+        h.height,
+        snapshot_counts s is,
         entries_kept s.problem.problem s.handled s.state is.run,
         ap (λ (r : State). length r.entries)
-        (one_run s.problem is.problem s.handled is.run.runs h.runs))
+            (one_run s.problem is.problem s.handled is.run.runs h.runs),
+      )
 
   -- where the next label fails
   pub next_fails : (rest : List (Option Trace)) (o : Option Trace) → stack ≡ rest ++ o ∷ []
       → (e : CofactorFault) → (e ≡ OutOfMemory)
       ⊎ ((x : Trace) × (o ≡ Some x) × FailsToSum s.problem.problem s.handled
-        (EntryOf (length labels + 1)) limit e)
+      (EntryOf (length labels + 1)) limit e)
       → FailsToFill s.problem.problem s.handled marks limit e
   next_fails rest o popped e (inl no_memory) =
       subst (FailsToFill s.problem.problem s.handled marks limit) (sym no_memory) tt

@@ -29,9 +29,9 @@ module _ (s : Snapshot) (h : IsSnapshot s) (β : Sig)
       let here : m + 1 - 1 ≡ m = omega arith in
       subst (λ n. IsLesserTo s.problem.problem.setting s.state.entries (monomial_of β) (n + 1)) here
       (lesser_before s.problem.problem.setting s.state.entries (facts s h).entries_ascend
-            (monomial_of β) (entry_of e) (listed_at s.state.entries (m + 1 - 1) (entry_of e) at)
+      (monomial_of β) (entry_of e) (listed_at s.state.entries (m + 1 - 1) (entry_of e) at)
       (less_from_sigs s.problem.problem.setting e.sig β own degree
-            (less_from_test (compare_sigs e.sig β) (sym test ∙ t))))
+      (less_from_test (compare_sigs e.sig β) (sym test ∙ t))))
 
   pub upper_half : answer ≡ false
       → IsOtherFrom s.problem.problem.setting s.state.entries (monomial_of β) m
@@ -39,16 +39,16 @@ module _ (s : Snapshot) (h : IsSnapshot s) (β : Sig)
       let here : m + 1 - 1 ≡ m = omega arith in
       subst (IsOtherFrom s.problem.problem.setting s.state.entries (monomial_of β)) here
       (others_behind s.problem.problem.setting s.state.entries (facts s h).entries_ascend
-            (monomial_of β) (entry_of e) (listed_at s.state.entries (m + 1 - 1) (entry_of e) at)
-            (go (monomial_total (generator_weight s.problem.problem.setting) (monomial_of e.sig)
-                (monomial_of β))))
+      (monomial_of β) (entry_of e) (listed_at s.state.entries (m + 1 - 1) (entry_of e) at)
+      (go (monomial_total (generator_weight s.problem.problem.setting) (monomial_of e.sig)
+      (monomial_of β))))
     where
       go : IsLess s.problem.problem.setting (monomial_of e.sig) (monomial_of β)
           ⊎ ((monomial_of e.sig ≡ monomial_of β)
-            ⊎ IsLess s.problem.problem.setting (monomial_of β) (monomial_of e.sig))
+          ⊎ IsLess s.problem.problem.setting (monomial_of β) (monomial_of e.sig))
           → IsAtLeast s.problem.problem.setting (monomial_of β) (entry_of e)
       go (inl l) =
           absurd (false≢true (sym t ∙ (test
-                ∙ ap is_lt (sigs_from_less s.problem.problem.setting e.sig β own degree l))))
+          ∙ ap is_lt (sigs_from_less s.problem.problem.setting e.sig β own degree l))))
       go (inr (inl i)) = inl i
       go (inr (inr l)) = inr l

@@ -48,12 +48,12 @@ module _ (s : Setting) (es es' : List Entry) (same : SameEntries es es') (τ : M
   firsts : SameEntries r.first (take (length r.first) es')
   firsts =
       sym (take_at (map untraced_entry r.first) (map untraced_entry r.rest) (length r.first)
-        (length-map r.first untraced_entry))
+      (length-map r.first untraced_entry))
       ∙ (ap (take (length r.first)) whole ∙ take-map untraced_entry (length r.first) es')
 
   rests : SameEntries r.rest (drop (length r.first) es')
   rests = sym (drop_at (map untraced_entry r.first) (map untraced_entry r.rest) (length r.first)
-        (length-map r.first untraced_entry))
+      (length-map r.first untraced_entry))
       ∙ (ap (drop (length r.first)) whole ∙ drop-map untraced_entry (length r.first) es')
 
   pub moved_rebuilds : Rebuilds s es' τ t f
@@ -65,12 +65,12 @@ module _ (s : Setting) (es es' : List Entry) (same : SameEntries es es') (τ : M
         λ e c. subst (λ (x : Entry). IsLess s x.signature τ)
         (sym (in_place_alike untraced_entry (take (length r.first) es') r.first (sym firsts) e c))
         (r.lesser (in_place untraced_entry (take (length r.first) es') r.first (sym firsts) e c)
-          (in_place_listed untraced_entry (take (length r.first) es') r.first (sym firsts) e c));
+        (in_place_listed untraced_entry (take (length r.first) es') r.first (sym firsts) e c));
     others =
         λ e c. subst (λ (x : Entry). IsAtLeast s τ x)
         (sym (in_place_alike untraced_entry (drop (length r.first) es') r.rest (sym rests) e c))
         (r.others (in_place untraced_entry (drop (length r.first) es') r.rest (sym rests) e c)
-          (in_place_listed untraced_entry (drop (length r.first) es') r.rest (sym rests) e c));
+        (in_place_listed untraced_entry (drop (length r.first) es') r.rest (sym rests) e c));
     start = r.start;
     starts = moved_start s r.first (take (length r.first) es') firsts τ r.starts;
     reduces =
@@ -110,7 +110,7 @@ module _ (s : Snapshot) (h : IsSnapshot s) where
   entry_signed : (e : Entry) (k : Contains s.state.entries e) → (entry e k).signature ≡ e.signature
   entry_signed e k =
       sym (ap (λ (x : Entry). x.signature)
-        (in_place_alike untraced_entry s.state.entries h.run.run.entries es e k))
+      (in_place_alike untraced_entry s.state.entries h.run.run.entries es e k))
 
   abbrev syzygy : (z : Syzygy) → Contains s.state.syzygies z → Syzygy
   syzygy z k = in_place untraced_syzygy s.state.syzygies h.run.run.syzygies hs z k
@@ -123,7 +123,7 @@ module _ (s : Snapshot) (h : IsSnapshot s) where
       → (syzygy z k).signature ≡ z.signature
   syzygy_signed z k =
       sym (ap (λ (x : Syzygy). x.signature)
-        (in_place_alike untraced_syzygy s.state.syzygies h.run.run.syzygies hs z k))
+      (in_place_alike untraced_syzygy s.state.syzygies h.run.run.syzygies hs z k))
 
   -- each is rebuilt over the snapshot's entries
   entry_rebuilt : (e : Entry) (k : Contains s.state.entries e)
@@ -131,7 +131,7 @@ module _ (s : Snapshot) (h : IsSnapshot s) where
       (entry e k).polynomial
   entry_rebuilt e k =
       subst (λ σ. Rebuilds s.problem.problem.setting h.run.run.entries σ (entry e k).trace
-        (entry e k).polynomial) (entry_signed e k)
+      (entry e k).polynomial) (entry_signed e k)
       ((rebuilt s.problem.problem field h.run.runs).entries (entry e k) (entry_listed e k))
 
   syzygy_rebuilt : (z : Syzygy) (k : Contains s.state.syzygies z)
@@ -139,7 +139,7 @@ module _ (s : Snapshot) (h : IsSnapshot s) where
   syzygy_rebuilt z k =
       subst (λ σ. Rebuilds s.problem.problem.setting h.run.run.entries σ (syzygy z k).trace [])
       (syzygy_signed z k) ((rebuilt s.problem.problem field h.run.runs).syzygies (syzygy z k)
-        (syzygy_listed z k))
+      (syzygy_listed z k))
 
   -- what is rebuilt over them is the run's trace
   is_trace : (τ : Monomial) (t t' : Trace) (f f' : Polynomial)
@@ -147,8 +147,8 @@ module _ (s : Snapshot) (h : IsSnapshot s) where
       → Rebuilds s.problem.problem.setting h.run.run.entries τ t' f' → t' ≡ t
   is_trace τ t t' f f' r r' =
       (rebuilds_once s.problem.problem.setting field h.run.run.entries
-        (invariant s.problem.problem field h.run.runs).sound.nonzero τ t' t f' f r'
-        (moved_rebuilds s.problem.problem.setting s.state.entries h.run.run.entries es τ t f r)).0
+      (invariant s.problem.problem field h.run.runs).sound.nonzero τ t' t f' f r'
+      (moved_rebuilds s.problem.problem.setting s.state.entries h.run.run.entries es τ t f r)).0
 
   pub entry_has_trace : (k : ℕ) (e : Entry) → 1 ≤ k → slice_get s.state.entries (k - 1) ≡ Some e
       → (t : Trace) (f : Polynomial)
@@ -160,10 +160,14 @@ module _ (s : Snapshot) (h : IsSnapshot s) where
         run = h.run.run;
         last = h.run.last;
         runs = h.run.runs;
-        is = (entry e listed, some, slice_get_read h.run.run.entries (length h.run.run.entries)
+        is = (
+          entry e listed,
+          some,
+          slice_get_read h.run.run.entries (length h.run.run.entries)
               (k - 1) (entry e listed) refl there.1 (sym there.2),
-              is_trace e.signature t (entry e listed).trace f (entry e listed).polynomial r
-              (entry_rebuilt e listed));
+          is_trace e.signature t (entry e listed).trace f (entry e listed).polynomial r
+              (entry_rebuilt e listed),
+        );
       }
 
   pub syzygy_has_trace : (k : ℕ) (z : Syzygy) → 1 ≤ k → slice_get s.state.syzygies (k - 1) ≡ Some z
@@ -176,9 +180,13 @@ module _ (s : Snapshot) (h : IsSnapshot s) where
         run = h.run.run;
         last = h.run.last;
         runs = h.run.runs;
-        is = (syzygy z listed, some, slice_get_read h.run.run.syzygies (length h.run.run.syzygies)
+        is = (
+          syzygy z listed,
+          some,
+          slice_get_read h.run.run.syzygies (length h.run.run.syzygies)
               (k - 1) (syzygy z listed) refl there.1 (sym there.2),
-              is_trace z.signature t (syzygy z listed).trace f [] r (syzygy_rebuilt z listed));
+          is_trace z.signature t (syzygy z listed).trace f [] r (syzygy_rebuilt z listed),
+        );
       }
 
   -- ---- what was subtracted over the snapshot's entries
@@ -192,16 +200,16 @@ module _ (s : Snapshot) (h : IsSnapshot s) where
       let e : Entry = entry d.entry d.listed in
       let there : Contains h.run.run.entries e = entry_listed d.entry d.listed in
       let low : degree s.problem.problem.setting (times d.left d.entry.signature d.right)
-          ≤ bound_degree s.problem.problem.setting s.problem.problem.bound =
-          degree_within s.problem.problem.setting s.problem.problem.bound
-          (signature_at s.problem.problem.setting s.state.entries w d) within.1 in record {
+      ≤ bound_degree s.problem.problem.setting s.problem.problem.bound =
+      degree_within s.problem.problem.setting s.problem.problem.bound
+      (signature_at s.problem.problem.setting s.state.entries w d) within.1 in record {
         some = omega arith;
         entry = e;
         at = subst (λ i. slice_get h.run.run.entries i ≡ Some e) (omega arith)
             (slice_get_read h.run.run.entries (length h.run.run.entries) d.listed.0 e refl there.1
-              (sym there.2));
+            (sym there.2));
         light = subst (λ σ. degree s.problem.problem.setting (times d.left σ d.right)
-              ≤ bound_degree s.problem.problem.setting s.problem.problem.bound)
+            ≤ bound_degree s.problem.problem.setting s.problem.problem.bound)
             (sym (entry_signed d.entry d.listed)) low;
       }
 
@@ -215,7 +223,7 @@ module _ (s : Snapshot) (h : IsSnapshot s) where
   light : {f rest : Polynomial} {steps : List Step}
       → Reduction s.problem.problem.setting s.state.entries (IsWithin s.problem.problem) f rest
       steps → AllByRecursion (λ step. IsLight s.problem.problem h.run.run.entries step.left
-        step.number step.right) steps
+      step.number step.right) steps
   light (Reduction.finished n) = tt
   light (Reduction.subtract w l d chosen c low q r) = (divisor_light w d chosen.allowed, light r)
   light (Reduction.keep w l n c e r) = light r
@@ -231,36 +239,43 @@ module _ (s : Snapshot) (h : IsSnapshot s) where
       × IsUsableSignature s.problem.problem.setting τ
   listed_usable τ (inl (e, k, i)) =
       subst (λ σ. IsGenerator s.problem.problem.setting σ.generator
-        × IsUsableSignature s.problem.problem.setting σ) i ((facts.entries_within e k).0.0,
-        (facts.entries_within e k).1)
+      × IsUsableSignature s.problem.problem.setting σ) i (
+        (facts.entries_within e k).0.0,
+        (facts.entries_within e k).1,
+      )
   listed_usable τ (inr (z, k, i)) =
       subst (λ σ. IsGenerator s.problem.problem.setting σ.generator
-        × IsUsableSignature s.problem.problem.setting σ) i ((facts.syzygies_within z k).0.0,
-        (facts.syzygies_within z k).1)
+      × IsUsableSignature s.problem.problem.setting σ) i (
+        (facts.syzygies_within z k).0.0,
+        (facts.syzygies_within z k).1,
+      )
 
   module _ (τ : Monomial) (m : ℕ) (a : AreLesser s.problem.problem.setting s.state.entries τ m)
-      where
-    start_from : (t : Trace) (f : Polynomial)
-        → Rebuilds s.problem.problem.setting s.state.entries τ t f
-        → HasStart s.problem.problem.setting s.state.entries τ m
-    start_from t f r =
-        (r.start, t.start, subst (λ l. Starts s.problem.problem.setting l τ r.start t.start)
-          (first_of_rebuilt s.problem.problem.setting s.state.entries τ m a t f r) r.starts)
+    where
+      start_from : (t : Trace) (f : Polynomial)
+          → Rebuilds s.problem.problem.setting s.state.entries τ t f
+          → HasStart s.problem.problem.setting s.state.entries τ m
+      start_from t f r = (
+        r.start,
+        t.start,
+        subst (λ l. Starts s.problem.problem.setting l τ r.start t.start)
+            (first_of_rebuilt s.problem.problem.setting s.state.entries τ m a t f r) r.starts,
+      )
 
-    start_there : (t : Trace) (f : Polynomial) (σ : Monomial) → σ ≡ τ
-        → Rebuilds s.problem.problem.setting h.run.run.entries σ t f
-        → HasStart s.problem.problem.setting s.state.entries τ m
-    start_there t f σ i r =
-        start_from t f (moved_rebuilds s.problem.problem.setting h.run.run.entries s.state.entries
+      start_there : (t : Trace) (f : Polynomial) (σ : Monomial) → σ ≡ τ
+          → Rebuilds s.problem.problem.setting h.run.run.entries σ t f
+          → HasStart s.problem.problem.setting s.state.entries τ m
+      start_there t f σ i r =
+          start_from t f (moved_rebuilds s.problem.problem.setting h.run.run.entries s.state.entries
           (sym es) τ t f (subst (λ ρ. Rebuilds s.problem.problem.setting h.run.run.entries ρ t f) i
-            r))
+          r))
 
-    pub listed_start : IsListedSignature s.state τ
-        → HasStart s.problem.problem.setting s.state.entries τ m
-    listed_start (inl (e, k, i)) =
-        start_there (entry e k).trace (entry e k).polynomial e.signature i (entry_rebuilt e k)
-    listed_start (inr (z, k, i)) =
-        start_there (syzygy z k).trace [] z.signature i (syzygy_rebuilt z k)
+      pub listed_start : IsListedSignature s.state τ
+          → HasStart s.problem.problem.setting s.state.entries τ m
+      listed_start (inl (e, k, i)) =
+          start_there (entry e k).trace (entry e k).polynomial e.signature i (entry_rebuilt e k)
+      listed_start (inr (z, k, i)) =
+          start_there (syzygy z k).trace [] z.signature i (syzygy_rebuilt z k)
 
   -- ---- the entries below an entry of the snapshot
 

@@ -38,8 +38,12 @@ module _ {K : Type 0} (cmp : K → K → Ordering)
   absent k [] b = refl
   absent k (x ∷ f) b =
       let n : k ≢ x.key = λ e. laws.irrefl k (subst (λ y. cmp y k ≡ Less) (sym e) b.0) in
-      omega (arith, ap (λ n. x.coefficient * n)
-            (at_other (eq_by_cmp cmp) (λ x y. cmp x y ≡ Less) laws k x.key n), absent k f b.1)
+      omega (
+        arith,
+        ap (λ n. x.coefficient * n)
+            (at_other (eq_by_cmp cmp) (λ x y. cmp x y ≡ Less) laws k x.key n),
+        absent k f b.1,
+      )
 
   -- a listed term has its coefficient
   pub own : (f : List (Term K)) → Descends cmp f → (t : Term K) → Among t f
@@ -47,14 +51,22 @@ module _ {K : Type 0} (cmp : K → K → Ordering)
   own [] d t h = absurd h
   own (x ∷ f) d t (inl e) =
       subst (λ (y : Term K). coefficient_by (eq_by_cmp cmp) (x ∷ f) y.key ≡ y.coefficient) (sym e)
-      (omega (arith, ap (λ n. x.coefficient * n)
-          (at_self (eq_by_cmp cmp) (λ x y. cmp x y ≡ Less) laws x.key), absent x.key f d.1))
+      (omega (
+        arith,
+        ap (λ n. x.coefficient * n)
+            (at_self (eq_by_cmp cmp) (λ x y. cmp x y ≡ Less) laws x.key),
+        absent x.key f d.1,
+      ))
   own (x ∷ f) d t (inr h) =
       let n : t.key ≢ x.key =
-          λ e. laws.irrefl x.key (subst (λ y. cmp y x.key ≡ Less) e (below_among x.key f t d.1 h))
-          in
-      omega (arith, ap (λ n. x.coefficient * n)
-            (at_other (eq_by_cmp cmp) (λ x y. cmp x y ≡ Less) laws t.key x.key n), own f d.2 t h)
+      λ e. laws.irrefl x.key (subst (λ y. cmp y x.key ≡ Less) e (below_among x.key f t d.1 h))
+      in
+      omega (
+        arith,
+        ap (λ n. x.coefficient * n)
+            (at_other (eq_by_cmp cmp) (λ x y. cmp x y ≡ Less) laws t.key x.key n),
+        own f d.2 t h,
+      )
 
   pub positive : (f : List (Term K)) → Descends cmp f → (t : Term K) → Among t f → 0 < t.coefficient
   positive [] d t h = absurd h
@@ -72,8 +84,11 @@ module _ {K : Type 0} (cmp : K → K → Ordering)
       go rest (inl e) = subst P (sym e) a.0
       go rest (inr d) =
           rest (λ z. n (subst (IsZero p)
-              (omega (arith, ap (λ n. x.coefficient * n)
-                  (at_other (eq_by_cmp cmp) (λ x y. cmp x y ≡ Less) laws k x.key d))) z))
+          (omega (
+            arith,
+            ap (λ n. x.coefficient * n)
+                (at_other (eq_by_cmp cmp) (λ x y. cmp x y ≡ Less) laws k x.key d),
+          )) z))
 
   -- a listed term of residues has a coefficient other than 0
   pub listed_nonzero : (p : ℕ) (f : List (Term K)) → Descends cmp f
@@ -81,7 +96,7 @@ module _ {K : Type 0} (cmp : K → K → Ordering)
       → ¬ IsZero p (coefficient_by (eq_by_cmp cmp) f t.key)
   listed_nonzero p f d small t h z =
       let one : t.coefficient % p ≡ t.coefficient =
-          mod-eq_of_lt (all_among (λ (y : Term K). y.coefficient < p) f small t h) in
+      mod-eq_of_lt (all_among (λ (y : Term K). y.coefficient < p) f small t h) in
       omega (arith, one, ap (λ n. n % p) (own f d t h), z, positive f d t h)
 
   -- what holds of the keys of a sum holds of those of an equal one
@@ -101,8 +116,11 @@ module _ {K : Type 0} (cmp : K → K → Ordering)
   pub rest_at : (t : Term K) (f : List (Term K)) (x : K) → x ≢ t.key
       → coefficient_by (eq_by_cmp cmp) (t ∷ f) x ≡ coefficient_by (eq_by_cmp cmp) f x
   rest_at t f x n =
-      omega (arith, ap (λ i. t.coefficient * i)
-        (at_other (eq_by_cmp cmp) (λ x y. cmp x y ≡ Less) laws x t.key n))
+      omega (
+        arith,
+        ap (λ i. t.coefficient * i)
+            (at_other (eq_by_cmp cmp) (λ x y. cmp x y ≡ Less) laws x t.key n),
+      )
 
   first_leads : (p : ℕ) (t : Term K) (f : List (Term K)) → Descends cmp (t ∷ f)
       → AllByRecursion (λ t. t.coefficient < p) (t ∷ f)
@@ -124,12 +142,15 @@ module _ {K : Type 0} (cmp : K → K → Ordering)
       absurd (listed_nonzero p (t ∷ f) d a t (inl refl) (e.at t.key ∙ zero_number p))
   one_list p (t ∷ f) (u ∷ g) d a c b e =
       ap₂ (λ x y. x ∷ y) term (one_list p f g d.2 a.1 c.2 b.1
-        (record { at = λ x. rest x (key_dec (eq_by_cmp cmp) (λ x y. cmp x y ≡ Less) laws x t.key)
-            }))
+      (record {
+        at = λ x. rest x (key_dec (eq_by_cmp cmp) (λ x y. cmp x y ≡ Less) laws x t.key);
+      }))
     where
       moved : IsLeadingKey (eq_by_cmp cmp) (λ x y. cmp x y ≡ Less) p (u ∷ g) t.key
-      moved = record { nonzero = λ z. (first_leads p t f d a).nonzero (e.at t.key ∙ z);
-            above = λ x l. sym (e.at x) ∙ (first_leads p t f d a).above x l }
+      moved = record {
+        nonzero = λ z. (first_leads p t f d a).nonzero (e.at t.key ∙ z);
+        above = λ x l. sym (e.at x) ∙ (first_leads p t f d a).above x l;
+      }
 
       keys : t.key ≡ u.key
       keys = lead_unique (eq_by_cmp cmp) (λ x y. cmp x y ≡ Less) laws p (u ∷ g) t.key u.key moved
@@ -138,8 +159,8 @@ module _ {K : Type 0} (cmp : K → K → Ordering)
       coefficients : t.coefficient ≡ u.coefficient
       coefficients =
           sym (mod-eq_of_lt a.0) ∙ (ap (λ n. n % p) (sym (own (t ∷ f) d t (inl refl)))
-            ∙ (e.at t.key ∙ (ap (λ x. coefficient_by (eq_by_cmp cmp) (u ∷ g) x % p) keys
-                ∙ (ap (λ n. n % p) (own (u ∷ g) c u (inl refl)) ∙ mod-eq_of_lt b.0))))
+          ∙ (e.at t.key ∙ (ap (λ x. coefficient_by (eq_by_cmp cmp) (u ∷ g) x % p) keys
+          ∙ (ap (λ n. n % p) (own (u ∷ g) c u (inl refl)) ∙ mod-eq_of_lt b.0))))
 
       term : t ≡ u
       term = λ i. record { coefficient = coefficients i; key = keys i }
@@ -148,8 +169,8 @@ module _ {K : Type 0} (cmp : K → K → Ordering)
           → coefficient_by (eq_by_cmp cmp) f x % p ≡ coefficient_by (eq_by_cmp cmp) g x % p
       rest x (inl i) =
           ap (λ n. n % p) (ap (coefficient_by (eq_by_cmp cmp) f) i
-            ∙ (absent t.key f d.1 ∙ sym (ap (coefficient_by (eq_by_cmp cmp) g) (i ∙ keys)
-                ∙ absent u.key g c.1)))
+          ∙ (absent t.key f d.1 ∙ sym (ap (coefficient_by (eq_by_cmp cmp) g) (i ∙ keys)
+          ∙ absent u.key g c.1)))
       rest x (inr n) =
           ap (λ i. i % p) (sym (rest_at t f x n))
           ∙ (e.at x ∙ ap (λ i. i % p) (rest_at u g x (λ i. n (i ∙ sym keys))))

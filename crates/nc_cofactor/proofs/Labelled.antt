@@ -51,10 +51,10 @@ label_sum s run listed m l =
 
 -- the label of entry j stands in place j
 pub record StandsAt (s : Setting) (run : State) (labels : List (List (Term Sig))) (j : ℕ) : Type 0
-    where
-  pub label : List (Term Sig)
-  pub at : slice_get labels (j - 1) ≡ Some label
-  pub is : IsLabelOf s run (EntryOf j) label
+  where
+    pub label : List (Term Sig)
+    pub at : slice_get labels (j - 1) ≡ Some label
+    pub is : IsLabelOf s run (EntryOf j) label
 
 module _ (P : NamedProblem) (problem : IsProblem P) {n : ℕ} {run : State} {last : Option Monomial}
     (runs : SequentialRun P.problem n run last) (labels : List (List (Term Sig))) where
@@ -63,9 +63,9 @@ module _ (P : NamedProblem) (problem : IsProblem P) {n : ℕ} {run : State} {las
       (label_at (labels_of P.problem.setting.prime run.entries) j)
   labelled_at j e some at =
       subst (λ i. IsLabelled P.problem.setting e.signature e.polynomial
-        (label_at (labels_of P.problem.setting.prime run.entries) i)) (omega arith)
+      (label_at (labels_of P.problem.setting.prime run.entries) i)) (omega arith)
       ((labels_hold P.problem (problem_field P problem) runs).entries e
-        (contains_at run.entries (j - 1) e at))
+      (contains_at run.entries (j - 1) e at))
 
   -- the monomials of a label have at most the degree of its signature
   light : (u : Word) (j : ℕ) (v : Word) → IsLight P.problem run.entries u j v
@@ -76,23 +76,29 @@ module _ (P : NamedProblem) (problem : IsProblem P) {n : ℕ} {run : State} {las
       let σ : Monomial = n.entry.signature in
       let below : (monomial_of t.key ≡ σ) ⊎ IsLess P.problem.setting (monomial_of t.key) σ =
       below_lead same_monomial (IsLess P.problem.setting)
-          (monomial_laws (generator_weight P.problem.setting)) P.problem.setting.prime l.label σ
-          (monomial_of t.key)
+      (monomial_laws (generator_weight P.problem.setting)) P.problem.setting.prime l.label σ
+      (monomial_of t.key)
       (subst (λ (α : Element). IsLabelled P.problem.setting σ n.entry.polynomial α) (sym l.is.2)
-            (labelled_at j n.entry n.some n.at)).leads
+      (labelled_at j n.entry n.some n.at)).leads
       (listed_counts P.problem.setting l.label m (label_sum P.problem.setting run (EntryOf j) m l) t
-            k) in
+      k) in
       let low : degree P.problem.setting (monomial_of t.key) ≤ degree P.problem.setting σ =
-          degrees P.problem.setting (monomial_of t.key) σ below in
-      omega (arith, has, low, degree-times (generator_weight P.problem.setting) u v σ, n.light,
-            problem.limited)
+      degrees P.problem.setting (monomial_of t.key) σ below in
+      omega (
+        arith,
+        has,
+        low,
+        degree-times (generator_weight P.problem.setting) u v σ,
+        n.light,
+        problem.limited,
+      )
 
   placed : (u : Word) (j : ℕ) (v : Word) → IsLight P.problem run.entries u j v
       → StandsAt P.problem.setting run labels j → IsPlaced P.problem.setting labels u j v
   placed u j v n stands =
       let m : List (Term Sig) = stands.label in
       let here : m ≡ get_or labels (j - 1) [] =
-          sym (get_or_from_slice_get labels (j - 1) m [] stands.at) in
+      sym (get_or_from_slice_get labels (j - 1) m [] stands.at) in
       let there : j - 1 < length labels = slice_get_within labels (j - 1) m stands.at in
       record {
         some = n.some;
@@ -101,9 +107,9 @@ module _ (P : NamedProblem) (problem : IsProblem P) {n : ℕ} {run : State} {las
           residues = stands.is.residues;
           degrees = stands.is.degrees;
           light = All-from_recursion (λ (t : Term Sig). word_weight u + t.key.degree + word_weight v
-                ≤ 100000) m (among_all (λ (t : Term Sig). word_weight u + t.key.degree
-                  + word_weight v ≤ 100000) m (λ t k. light u j v n m stands.is t k
-                  (degree_is t k)));
+              ≤ 100000) m (among_all (λ (t : Term Sig). word_weight u + t.key.degree
+              + word_weight v ≤ 100000) m (λ t k. light u j v n m stands.is t k
+              (degree_is t k)));
         });
       }
     where
@@ -111,9 +117,9 @@ module _ (P : NamedProblem) (problem : IsProblem P) {n : ℕ} {run : State} {las
           → t.key.degree ≡ degree P.problem.setting (monomial_of t.key)
       degree_is t k =
           ap (λ (ρ : Sig). ρ.degree) (all_among
-            (λ (t : Term Sig). HasDegree P.problem.setting t.key) stands.label
-            (recursion_from_All (λ (t : Term Sig). HasDegree P.problem.setting t.key) stands.label
-              stands.is.degrees) t k)
+          (λ (t : Term Sig). HasDegree P.problem.setting t.key) stands.label
+          (recursion_from_All (λ (t : Term Sig). HasDegree P.problem.setting t.key) stands.label
+          stands.is.degrees) t k)
 
   start_placed : (τ : Monomial) (start : Start) → IsWithin P.problem τ
       → IsStartNamed P.problem.setting run.entries τ start
@@ -133,11 +139,11 @@ module _ (P : NamedProblem) (problem : IsProblem P) {n : ℕ} {run : State} {las
         are.residues;
     placed =
         All-from_recursion (λ (step : Step). IsPlaced P.problem.setting labels step.left step.number
-          step.right) steps (among_all (λ (step : Step). IsPlaced P.problem.setting labels step.left
-            step.number step.right) steps (λ step k. placed step.left step.number step.right
-            (all_among (λ (step : Step). IsLight P.problem run.entries step.left step.number
-                step.right) steps are.light step k)
-            (stands step.number (step, among_contains step steps k, refl))));
+        step.right) steps (among_all (λ (step : Step). IsPlaced P.problem.setting labels step.left
+        step.number step.right) steps (λ step k. placed step.left step.number step.right
+        (all_among (λ (step : Step). IsLight P.problem run.entries step.left step.number
+        step.right) steps are.light step k)
+        (stands step.number (step, among_contains step steps k, refl))));
   }
 
   -- the trace can be summed up
@@ -146,18 +152,24 @@ module _ (P : NamedProblem) (problem : IsProblem P) {n : ℕ} {run : State} {las
       → IsSummable P.problem.setting labels t
   summable listed t is stands =
       let g : IsSigned P.problem run listed t =
-          signed P.problem (problem_field P problem) runs listed t is in
+      signed P.problem (problem_field P problem) runs listed t is in
       let are : AreLight P.problem run.entries t.steps =
-          record { residues = g.named.residues;
-            light = among_all (λ (step : Step). IsLight P.problem run.entries step.left step.number
-              step.right) t.steps (λ step k. named_light P.problem run.entries g.signature step.left
-              step.number step.right g.within
-              (all_among (λ (step : Step). IsNamed P.problem.setting run.entries g.signature
-                  step.left step.number step.right) t.steps g.named.steps step k)) } in
+      record {
+        residues = g.named.residues;
+        light = among_all (λ (step : Step). IsLight P.problem run.entries step.left step.number
+            step.right) t.steps (λ step k. named_light P.problem run.entries g.signature step.left
+            step.number step.right g.within
+            (all_among (λ (step : Step). IsNamed P.problem.setting run.entries g.signature
+            step.left step.number step.right) t.steps g.named.steps step k));
+      } in
       let all : AreSummable P.problem.setting labels t.steps =
-          addable_steps t.steps are (λ j k. stands j (inr k)) in
-      record { start = start_placed g.signature t.start g.within g.named.start
-            (λ j k. stands j (inl k)); residues = all.residues; steps = all.placed }
+      addable_steps t.steps are (λ j k. stands j (inr k)) in
+      record {
+        start = start_placed g.signature t.start g.within g.named.start
+            (λ j k. stands j (inl k));
+        residues = all.residues;
+        steps = all.placed;
+      }
 
   -- what stands there is the label of the theory
   alike : (j : ℕ) → StandsAt P.problem.setting run labels j
@@ -165,12 +177,12 @@ module _ (P : NamedProblem) (problem : IsProblem P) {n : ℕ} {run : State} {las
       (label_at (labels_of P.problem.setting.prime run.entries) j)
   alike j stands =
       let here : label_at (elements_of labels) j ≡ element_of stands.label =
-          get_or-map element_of labels (j - 1) []
-          ∙ ap element_of (get_or_from_slice_get labels (j - 1) stands.label [] stands.at) in
+      get_or-map element_of labels (j - 1) []
+      ∙ ap element_of (get_or_from_slice_get labels (j - 1) stands.label [] stands.at) in
       subst (λ (α : Element). SameSum same_monomial P.problem.setting.prime
-            (label_at (elements_of labels) j) α) stands.is.is.2
+      (label_at (elements_of labels) j) α) stands.is.is.2
       (subst (λ (α : Element). SameSum same_monomial P.problem.setting.prime α stands.is.label)
-            (sym here) stands.is.same)
+      (sym here) stands.is.same)
 
   whole : (t : Trace) (m : List (Term Sig))
       → ((j : ℕ) → Names t j → StandsAt P.problem.setting run labels j)
@@ -179,34 +191,37 @@ module _ (P : NamedProblem) (problem : IsProblem P) {n : ℕ} {run : State} {las
       (trace_label P.problem.setting.prime (labels_of P.problem.setting.prime run.entries) t)
   whole t m stands sum =
       same-trans same_monomial P.problem.setting.prime (element_of m)
-          (trace_label P.problem.setting.prime (elements_of labels) t)
-          (trace_label P.problem.setting.prime (labels_of P.problem.setting.prime run.entries) t)
-          sum.same
+      (trace_label P.problem.setting.prime (elements_of labels) t)
+      (trace_label P.problem.setting.prime (labels_of P.problem.setting.prime run.entries) t)
+      sum.same
       (alike_label P.problem.setting.prime
-            (let one : 1 < P.problem.setting.prime = (problem_field P problem).above_one in
-              omega arith) (elements_of labels) (labels_of P.problem.setting.prime run.entries) t
-            (λ j k. alike j (stands j k)))
+      (let one : 1 < P.problem.setting.prime = (problem_field P problem).above_one in
+      omega arith) (elements_of labels) (labels_of P.problem.setting.prime run.entries) t
+      (λ j k. alike j (stands j k)))
 
   -- the sum of multiples is that of the theory
   pub steps_whole : (steps : List Step) (m : List (Term Sig))
       → ((j : ℕ) → StepsName steps j → StandsAt P.problem.setting run labels j)
       → IsSum P.problem.setting (step_multiples (elements_of labels) steps) m
       → IsSum P.problem.setting (step_multiples (labels_of P.problem.setting.prime run.entries)
-        steps) m
+      steps) m
   steps_whole steps m stands sum = record {
     same =
         same-trans same_monomial P.problem.setting.prime (element_of m)
-            (step_multiples (elements_of labels) steps)
-            (step_multiples (labels_of P.problem.setting.prime run.entries) steps) sum.same
+        (step_multiples (elements_of labels) steps)
+        (step_multiples (labels_of P.problem.setting.prime run.entries) steps) sum.same
         (alike_multiples P.problem.setting.prime
-              (let one : 1 < P.problem.setting.prime = (problem_field P problem).above_one in
-                omega arith) (elements_of labels) (labels_of P.problem.setting.prime run.entries)
-              steps
+        (let one : 1 < P.problem.setting.prime = (problem_field P problem).above_one in
+        omega arith) (elements_of labels) (labels_of P.problem.setting.prime run.entries)
+        steps
         (among_all (λ (t : Step). SameSum same_monomial P.problem.setting.prime
-                (label_at (elements_of labels) t.number)
-                (label_at (labels_of P.problem.setting.prime run.entries) t.number)) steps
-              (λ step k. alike step.number (stands step.number (step, among_contains step steps k,
-                    refl)))));
+        (label_at (elements_of labels) t.number)
+        (label_at (labels_of P.problem.setting.prime run.entries) t.number)) steps
+        (λ step k. alike step.number (stands step.number (
+          step,
+          among_contains step steps k,
+          refl,
+        )))));
     descends = sum.descends;
     residues = sum.residues;
     degrees = sum.degrees;
@@ -218,17 +233,17 @@ module _ (P : NamedProblem) (problem : IsProblem P) {n : ℕ} {run : State} {las
       → IsTraceSum P.problem.setting labels t m → IsLabelOf P.problem.setting run listed m
   labelled (EntryOf k) t m (e, some, at, is) stands sum =
       let by : label_at (labels_of P.problem.setting.prime run.entries) k ≡ trace_label
-          P.problem.setting.prime (labels_of P.problem.setting.prime run.entries) t =
+      P.problem.setting.prime (labels_of P.problem.setting.prime run.entries) t =
       label_by_trace P.problem.setting.prime run.entries k e some at
-          (λ j h. names_earlier P.problem (problem_field P problem) runs k j e some at h)
+      (λ j h. names_earlier P.problem (problem_field P problem) runs k j e some at h)
       ∙ ap (λ (x : Trace). trace_label P.problem.setting.prime
-            (labels_of P.problem.setting.prime run.entries) x) is in
+      (labels_of P.problem.setting.prime run.entries) x) is in
       let there : k - 1 < length run.entries = slice_get_within run.entries (k - 1) e at in
       record {
         label = label_at (labels_of P.problem.setting.prime run.entries) k;
         is = (some, omega (arith, there, some), refl);
         same = subst (λ (α : Element). SameSum same_monomial P.problem.setting.prime (element_of m)
-              α) (sym by) (whole t m stands sum);
+            α) (sym by) (whole t m stands sum);
         descends = sum.descends;
         residues = sum.residues;
         degrees = sum.degrees;

@@ -19,9 +19,11 @@ use Rattle.nc_algebra.proofs.Orders.{nat_order}
 -- what the front has the list has, under the same number
 abbrev pub of_front : {X : Type 0} → (m : ℕ) (xs : List X) (x : X) → Contains (take m xs) x
     → Contains xs x
-of_front m xs x c =
-    (c.0, omega (arith, c.1, length-take m xs),
-      sym (get_or-take m xs c.0 x (omega (arith, c.1, length-take m xs))) ∙ c.2)
+of_front m xs x c = (
+  c.0,
+  omega (arith, c.1, length-take m xs),
+  sym (get_or-take m xs c.0 x (omega (arith, c.1, length-take m xs))) ∙ c.2,
+)
 
 pub front_number : {X : Type 0} → (m : ℕ) (xs : List X) (x : X) → (c : Contains (take m xs) x)
     → c.0 < m
@@ -59,7 +61,7 @@ module _ (s : Setting) (entries : List Entry) (τ : Monomial) where
 
 module _ (s : Setting) (entries : List Entry)
     (ascend : (e e' : Entry) (k : Contains entries e) (k' : Contains entries e') → k.0 < k'.0
-      → IsLess s e.signature e'.signature) where
+    → IsLess s e.signature e'.signature) where
   -- two entries at one place are one
   one_place : (e e' : Entry) (k : Contains entries e) (k' : Contains entries e') → k.0 ≡ k'.0
       → e ≡ e'
@@ -108,8 +110,8 @@ module _ (s : Setting) (τ : Monomial) where
       → ((e : Entry) → Contains first e → IsLess s e.signature τ)
       → ((e : Entry) → Contains rest e → IsAtLeast s τ e)
       → ((e : Entry) → Contains (take m (first ++ rest)) e → IsLess s e.signature τ)
-          → ((e : Entry) → Contains (drop m (first ++ rest)) e → IsAtLeast s τ e)
-          → first ≡ take m (first ++ rest)
+      → ((e : Entry) → Contains (drop m (first ++ rest)) e → IsAtLeast s τ e)
+      → first ≡ take m (first ++ rest)
   front_is [] rest zero few low high low' high' = refl
   front_is [] [] (suc m) few low high low' high' = absurd (omega (arith, few))
   front_is [] (x ∷ rest) (suc m) few low high low' high' =
@@ -118,8 +120,8 @@ module _ (s : Setting) (τ : Monomial) where
       absurd (not_both x (low x (0, omega arith, refl)) (high' x (0, omega arith, refl)))
   front_is (x ∷ first) rest (suc m) few low high low' high' =
       ap (λ l. x ∷ l) (front_is first rest m (omega (arith, few))
-            (λ e c. low e (suc c.0, omega (arith, c.1), c.2)) high
-            (λ e c. low' e (suc c.0, omega (arith, c.1), c.2)) high')
+      (λ e c. low e (suc c.0, omega (arith, c.1), c.2)) high
+      (λ e c. low' e (suc c.0, omega (arith, c.1), c.2)) high')
 
 -- what rebuilds has them first
 pub first_of_rebuilt : (s : Setting) (entries : List Entry) (τ : Monomial) (m : ℕ)
@@ -127,7 +129,7 @@ pub first_of_rebuilt : (s : Setting) (entries : List Entry) (τ : Monomial) (m :
     → r.first ≡ take m entries
 first_of_rebuilt s entries τ m a t f r =
     front_is s τ r.first r.rest m (subst (λ l. m ≤ length l) r.splits a.few) r.lesser r.others
-        (subst (λ l. (e : Entry) → Contains (take m l) e → IsLess s e.signature τ) r.splits
-          a.lesser) (subst (λ l. (e : Entry) → Contains (drop m l) e → IsAtLeast s τ e) r.splits
-          a.others)
+    (subst (λ l. (e : Entry) → Contains (take m l) e → IsLess s e.signature τ) r.splits
+    a.lesser) (subst (λ l. (e : Entry) → Contains (drop m l) e → IsAtLeast s τ e) r.splits
+    a.others)
     ∙ ap (take m) (sym r.splits)

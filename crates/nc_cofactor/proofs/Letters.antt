@@ -46,8 +46,8 @@ module _ (P : NamedProblem) where
       × All (λ t. IsWordIn P.alphabet t.key.right) m
   sum_over α o m sum =
       let both : AllByRecursion BothOver m =
-          among_all BothOver m (λ t k. keys_found letters P.problem.setting α o (monomial_of t.key)
-            (listed_counts P.problem.setting α m sum t k)) in (
+      among_all BothOver m (λ t k. keys_found letters P.problem.setting α o (monomial_of t.key)
+      (listed_counts P.problem.setting α m sum t k)) in (
         map_all BothOver (λ (t : Term Sig). IsWordIn P.alphabet t.key.left) m both
             (λ t k. word_in P.alphabet t.key.left k.0),
         map_all BothOver (λ (t : Term Sig). IsWordIn P.alphabet t.key.right) m both
@@ -69,7 +69,7 @@ module _ (P : NamedProblem) (is : IsProblem P) (prime : IsPrime P.problem.settin
   item_over (SyzygyOf k) t (h, some, at, i) =
       subst (TraceOver (letters P)) i
       (syzygy_over P.problem field (letters P) inputs runs h
-        (contains_at run.syzygies (k - 1) h at))
+      (contains_at run.syzygies (k - 1) h at))
   item_over Claim t h = absurd h
 
   labels : AllByRecursion (KeysOver (letters P)) (labels_of P.problem.setting.prime run.entries)
@@ -83,7 +83,7 @@ module _ (P : NamedProblem) (is : IsProblem P) (prime : IsPrime P.problem.settin
   label_over (SyzygyOf k) α (t, is, i) =
       subst (KeysOver (letters P)) (sym i)
       (keys_trace (letters P) P.problem.setting.prime
-        (labels_of P.problem.setting.prime run.entries) labels t (item_over (SyzygyOf k) t is))
+      (labels_of P.problem.setting.prime run.entries) labels t (item_over (SyzygyOf k) t is))
   label_over Claim α h = absurd h
 
   start_in : (start : Start) → StartOver (letters P) start → IsStartIn P.alphabet start

@@ -24,9 +24,9 @@ step_multiples-push ls [] t =
 step_multiples-push ls (x ∷ steps) t =
     let one : Element = scale t.coefficient (element_times t.left (label_at ls t.number) t.right) in
     let other : Element =
-        scale x.coefficient (element_times x.left (label_at ls x.number) x.right) in
+    scale x.coefficient (element_times x.left (label_at ls x.number) x.right) in
     ap (λ (l : Element). l ++ other) (step_multiples-push ls steps t)
-        ∙ append_assoc one (step_multiples ls steps) other
+    ∙ append_assoc one (step_multiples ls steps) other
 
 -- what holds of each entry that a trace names holds of each step's
 pub named_steps : (Q : ℕ → Type 0) (t : Trace) → ((j : ℕ) → Names t j → Q j)
@@ -42,7 +42,7 @@ module _ (p : ℕ) where
   less_steps-push ls α [] t = refl
   less_steps-push ls α (x ∷ steps) t =
       less_steps-push ls (minus p α x.coefficient
-        (element_times x.left (label_at ls x.number) x.right)) steps t
+      (element_times x.left (label_at ls x.number) x.right)) steps t
 
   -- ---- the same labels where a trace names them
 
@@ -59,9 +59,9 @@ module _ (p : ℕ) where
   same_steps ls ls' α [] a = refl
   same_steps ls ls' α (t ∷ steps) a =
       ap (λ (l : Element). less_steps p ls
-        (minus p α t.coefficient (element_times t.left l t.right)) steps) a.0
+      (minus p α t.coefficient (element_times t.left l t.right)) steps) a.0
       ∙ same_steps ls ls' (minus p α t.coefficient
-        (element_times t.left (label_at ls' t.number) t.right)) steps a.1
+      (element_times t.left (label_at ls' t.number) t.right)) steps a.1
 
   same_label : (ls ls' : List Element) (t : Trace)
       → ((j : ℕ) → Names t j → label_at ls j ≡ label_at ls' j)
@@ -88,12 +88,12 @@ module _ (p : ℕ) where
   alike_steps some ls ls' α β [] a e = e
   alike_steps some ls ls' α β (t ∷ steps) a e =
       alike_steps some ls ls' (minus p α t.coefficient
-            (element_times t.left (label_at ls t.number) t.right))
-          (minus p β t.coefficient (element_times t.left (label_at ls' t.number) t.right)) steps a.1
+      (element_times t.left (label_at ls t.number) t.right))
+      (minus p β t.coefficient (element_times t.left (label_at ls' t.number) t.right)) steps a.1
       (same_minus same_monomial p t.coefficient α β
-            (element_times t.left (label_at ls t.number) t.right)
-            (element_times t.left (label_at ls' t.number) t.right) e
-            (same_times p some t.left (label_at ls t.number) (label_at ls' t.number) t.right a.0))
+      (element_times t.left (label_at ls t.number) t.right)
+      (element_times t.left (label_at ls' t.number) t.right) e
+      (same_times p some t.left (label_at ls t.number) (label_at ls' t.number) t.right a.0))
 
   pub alike_label : 0 < p → (ls ls' : List Element) (t : Trace)
       → ((j : ℕ) → Names t j → SameSum same_monomial p (label_at ls j) (label_at ls' j))
@@ -110,13 +110,13 @@ module _ (p : ℕ) where
   alike_multiples some ls ls' [] a = same-refl same_monomial p []
   alike_multiples some ls ls' (t ∷ steps) a =
       same-append same_monomial p (step_multiples ls steps) (step_multiples ls' steps)
-          (scale t.coefficient (element_times t.left (label_at ls t.number) t.right))
-          (scale t.coefficient (element_times t.left (label_at ls' t.number) t.right))
+      (scale t.coefficient (element_times t.left (label_at ls t.number) t.right))
+      (scale t.coefficient (element_times t.left (label_at ls' t.number) t.right))
       (alike_multiples some ls ls' steps a.1)
       (same_scale same_monomial p t.coefficient
-            (element_times t.left (label_at ls t.number) t.right)
-            (element_times t.left (label_at ls' t.number) t.right)
-            (same_times p some t.left (label_at ls t.number) (label_at ls' t.number) t.right a.0))
+      (element_times t.left (label_at ls t.number) t.right)
+      (element_times t.left (label_at ls' t.number) t.right)
+      (same_times p some t.left (label_at ls t.number) (label_at ls' t.number) t.right a.0))
 
   -- ---- the list
 
@@ -125,7 +125,7 @@ module _ (p : ℕ) where
   onto_front ls [] j a b = refl
   onto_front ls (e ∷ es) j a b =
       onto_front (ls ++ (trace_label p ls e.trace ∷ [])) es j a
-          (omega (arith, length-append ls (trace_label p ls e.trace ∷ []), b))
+      (omega (arith, length-append ls (trace_label p ls e.trace ∷ []), b))
       ∙ get_or_append_left ls (trace_label p ls e.trace ∷ []) [] (j - 1) (omega arith)
 
   -- the label at a place, where the trace there names earlier places alone
@@ -139,13 +139,13 @@ module _ (p : ℕ) where
       let same : x ≡ e = cc in
       let longer : length new ≡ length ls + 1 = length-append ls (trace_label p ls x.trace ∷ []) in
       let old : (j : ℕ) → 1 ≤ j → j ≤ length ls
-          → label_at (labels_onto p new es) j ≡ label_at ls j =
-          λ j a b. onto_front ls (x ∷ es) j a b in
+      → label_at (labels_onto p new es) j ≡ label_at ls j =
+      λ j a b. onto_front ls (x ∷ es) j a b in
       onto_front new es (length ls + zero + 1) (omega arith) (omega (arith, longer))
       ∙ (get_or_at ls (trace_label p ls x.trace) [] [] (length ls + zero + 1 - 1) (omega arith)
       ∙ (ap (λ (y : Entry). trace_label p ls y.trace) same
       ∙ sym (same_label (labels_onto p new es) ls e.trace
-            (λ j k. old j (names j k).0 (omega (arith, (names j k).1))))))
+      (λ j k. old j (names j k).0 (omega (arith, (names j k).1))))))
   onto_at ls (x ∷ es) (suc i) e is names =
       let new : List Element = ls ++ (trace_label p ls x.trace ∷ []) in
       let longer : length new ≡ length ls + 1 = length-append ls (trace_label p ls x.trace ∷ []) in

@@ -21,13 +21,13 @@ module _ {X Y : Type 0} (f : X → Y) where
       × (f x ≡ y)
   map_contains xs y c =
       let r : (x : X) × Among x xs × (y ≡ f x) =
-          map_among xs y (contains_among y (map f xs) c) in
+      map_among xs y (contains_among y (map f xs) c) in
       (r.0, among_contains r.0 xs r.1, sym r.2)
 
   pub contains_map : (xs : List X) (x : X) (y : Y) → Contains xs x → f x ≡ y → Contains (map f xs) y
   contains_map xs x y c e =
       subst (Contains (map f xs)) e (among_contains (f x) (map f xs)
-        (among_map xs x (contains_among x xs c)))
+      (among_map xs x (contains_among x xs c)))
 
 -- one number more, above all
 pub rising_push : (xs : List ℕ) (x : ℕ) → IsStrictlyIncreasing xs
@@ -41,9 +41,16 @@ rising_push xs x rises below k within =
     go : (k + 1 < length xs) ⊎ (k + 1 ≡ length xs)
         → get_or (xs ++ x ∷ []) k 0 < get_or (xs ++ x ∷ []) (k + 1) 0
     go (inl l) =
-        omega (arith, rises k l, get_or_append_left xs (x ∷ []) 0 k (omega (arith, l)),
-          get_or_append_left xs (x ∷ []) 0 (k + 1) l)
+        omega (
+          arith,
+          rises k l,
+          get_or_append_left xs (x ∷ []) 0 k (omega (arith, l)),
+          get_or_append_left xs (x ∷ []) 0 (k + 1) l,
+        )
     go (inr e) =
-        omega (arith, below k (omega (arith, e)),
+        omega (
+          arith,
+          below k (omega (arith, e)),
           get_or_append_left xs (x ∷ []) 0 k (omega (arith, e)),
-          get_or_at xs x [] 0 (k + 1) (sym e))
+          get_or_at xs x [] 0 (k + 1) (sym e),
+        )

@@ -35,9 +35,12 @@ module _ {X : Type 0} (number : X → ℕ) where
       whole = take_more xs i t within ∙ ap (λ (x : X). take i xs ++ (x ∷ [])) (sym is)
 
       earlier : SomeHas number (take i xs) j → SomeHas number (take (i + 1) xs) j
-      earlier (x, c, e) =
-          (x, subst (λ (l : List X). Contains l x) (sym whole)
-            (Contains-append_left (take i xs) (t ∷ []) x c), e)
+      earlier (x, c, e) = (
+        x,
+        subst (λ (l : List X). Contains l x) (sym whole)
+            (Contains-append_left (take i xs) (t ∷ []) x c),
+        e,
+      )
 
       this : number t ≡ j → SomeHas number (take (i + 1) xs) j
       this e =
@@ -62,8 +65,11 @@ module _ {X : Type 0} (number : X → ℕ) where
       back : IsMarked first j ⊎ SomeHas number (take (i + 1) xs) j → IsMarked new j
       back (inl f) = (more j one).1 (inl ((so_far j one).1 (inl f)))
       back (inr n) =
-          elim (split n) [ inl k ↦ (more j one).1 (inl ((so_far j one).1 (inr k))) | inr e ↦
-            (more j one).1 (inr e) ]
+          elim (split n) [
+            | inl k ↦ (more j one).1 (inl ((so_far j one).1 (inr k)))
+            | inr e ↦
+                (more j one).1 (inr e)
+          ]
 
   pub marks_end : (first now : List Bool) (xs : List X) (i : ℕ) → length xs ≤ i
       → MarksMore first now (SomeHas number (take i xs)) → MarksMore first now (SomeHas number xs)
@@ -73,9 +79,10 @@ module _ {X : Type 0} (number : X → ℕ) where
 -- numbers by themselves
 pub numbers_mark : (first now : List Bool) (numbers : List ℕ)
     → MarksMore first now (SomeHas (λ n. n) numbers) → MarksMore first now (Contains numbers)
-numbers_mark first now numbers h j one =
-    (λ m. elim ((h j one).0 m) [ inl k ↦ inl k | inr k ↦ inr (subst (Contains numbers) k.2 k.1) ],
-      back)
+numbers_mark first now numbers h j one = (
+  λ m. elim ((h j one).0 m) [ inl k ↦ inl k | inr k ↦ inr (subst (Contains numbers) k.2 k.1) ],
+  back,
+)
   where
     back : IsMarked first j ⊎ Contains numbers j → IsMarked now j
     back (inl k) = (h j one).1 (inl k)
@@ -84,14 +91,15 @@ numbers_mark first now numbers h j one =
 -- where no mark was set before, only these are
 pub only_marked : (old new : List Bool) (named : ℕ → Type 0) → All (λ mark. mark ≡ false) old
     → MarksMore old new named → (j : ℕ) → 1 ≤ j → IsMarked new j ↔ named j
-only_marked old new named none more j one =
-    (λ m. elim ((more j one).0 m) [ inl k ↦ absurd (unmarked k) | inr k ↦ k ],
-      λ k. (more j one).1 (inr k))
+only_marked old new named none more j one = (
+  λ m. elim ((more j one).0 m) [ inl k ↦ absurd (unmarked k) | inr k ↦ k ],
+  λ k. (more j one).1 (inr k),
+)
   where
     unmarked : ¬ IsMarked old j
     unmarked m =
         false≢true (sym (none (j - 1) true (slice_get_within old (j - 1) true m))
-          ∙ get_or_from_slice_get old (j - 1) true true m)
+        ∙ get_or_from_slice_get old (j - 1) true true m)
 
 -- ---- a trace
 
@@ -99,13 +107,19 @@ only_marked old new named none more j one =
 pub steps_low : (t : Trace) (steps : List Step) (count : ℕ) → steps ≡ t.steps
     → ((j : ℕ) → Names t j → (1 ≤ j) × (j ≤ count)) → All (λ step. 1 ≤ step.number) steps
 steps_low t steps count same h k d within =
-    (h (get_or steps k d).number (inr (get_or steps k d,
-          subst (λ (l : List Step). Contains l (get_or steps k d)) same
-          (Contains-get_or steps k d within), refl))).0
+    (h (get_or steps k d).number (inr (
+      get_or steps k d,
+      subst (λ (l : List Step). Contains l (get_or steps k d)) same
+          (Contains-get_or steps k d within),
+      refl,
+    ))).0
 
 pub steps_high : (t : Trace) (steps : List Step) (count : ℕ) → steps ≡ t.steps
     → ((j : ℕ) → Names t j → (1 ≤ j) × (j ≤ count)) → All (λ step. step.number ≤ count) steps
 steps_high t steps count same h k d within =
-    (h (get_or steps k d).number (inr (get_or steps k d,
-          subst (λ (l : List Step). Contains l (get_or steps k d)) same
-          (Contains-get_or steps k d within), refl))).1
+    (h (get_or steps k d).number (inr (
+      get_or steps k d,
+      subst (λ (l : List Step). Contains l (get_or steps k d)) same
+          (Contains-get_or steps k d within),
+      refl,
+    ))).1

@@ -55,20 +55,25 @@ at_contains xs x c = slice_get_read xs (length xs) c.0 x refl c.1 (sym c.2)
 
 module _ (s : Setting) (entries first rest : List Entry) (τ : Monomial)
     (splits : entries ≡ first ++ rest) (lesser : (e : Entry) → Contains first e
-      → IsLess s e.signature τ) where
+    → IsLess s e.signature τ) where
   at_front : (e : Entry) (c : Contains first e) → slice_get entries (c.0 + 1 - 1) ≡ Some e
   at_front e c =
       let within : c.0 < length (first ++ rest) = omega (arith, c.1, length-append first rest) in
       subst (λ (l : List Entry). slice_get l (c.0 + 1 - 1) ≡ Some e) (sym splits)
       (subst (λ n. slice_get (first ++ rest) n ≡ Some e) (omega arith)
       (slice_get_read (first ++ rest) (length (first ++ rest)) c.0 e refl within
-            (sym (get_or_append_left first rest e c.0 c.1 ∙ c.2))))
+      (sym (get_or_append_left first rest e c.0 c.1 ∙ c.2))))
 
   named : (u v : Word) (e : Entry) (c : Contains first e) → (times u e.signature v ≡ τ)
       ⊎ IsLess s (times u e.signature v) τ → IsNamed s entries τ u (c.0 + 1) v
   named u v e c below =
-      record { some = omega arith; entry = e;
-        at = at_front e c; lesser = lesser e c; light = degrees s (times u e.signature v) τ below }
+      record {
+        some = omega arith;
+        entry = e;
+        at = at_front e c;
+        lesser = lesser e c;
+        light = degrees s (times u e.signature v) τ below;
+      }
 
   start_named : IsGenerator s τ.generator → {f : Polynomial} {start : Start}
       → Starts s first τ f start → IsStartNamed s entries τ start
@@ -120,7 +125,7 @@ any_named s entries τ t j a (inr (step, c, e)) = record {
   v = step.right;
   named = subst (λ i. IsNamed s entries τ step.left i step.right) e
       (all_among (λ (y : Step). IsNamed s entries τ y.left y.number y.right) t.steps a.steps step
-        (contains_among step t.steps c));
+      (contains_among step t.steps c));
 }
 
 -- ---- runs
@@ -135,8 +140,12 @@ pub record IsLight (P : Problem) (entries : List Entry) (u : Word) (j : ℕ) (v 
 pub named_light : (P : Problem) (entries : List Entry) (τ : Monomial) (u : Word) (j : ℕ) (v : Word)
     → IsWithin P τ → IsNamed P.setting entries τ u j v → IsLight P entries u j v
 named_light P entries τ u j v within n =
-    record { some = n.some; entry = n.entry;
-      at = n.at; light = omega (arith, n.light, degree_within P.setting P.bound τ within.1) }
+    record {
+      some = n.some;
+      entry = n.entry;
+      at = n.at;
+      light = omega (arith, n.light, degree_within P.setting P.bound τ within.1);
+    }
 
 -- residues, and entries whose multiples are light
 pub record AreLight (P : Problem) (entries : List Entry) (steps : List Step) : Type 0 where
@@ -163,15 +172,20 @@ module _ (P : Problem) (field : IsField P.setting.prime) {n : ℕ} {run : State}
   pub signed : (listed : Listed) (t : Trace) → IsTraceIn run listed t → IsSigned P run listed t
   signed (EntryOf k) t (e, some, at, is) =
       let c = contains_at run.entries (k - 1) e at in
-      record { signature = e.signature;
-            within = (invariant P field runs).within e c;
-            named = subst (AreNamed P.setting run.entries e.signature) is (entry_named e c) }
+      record {
+        signature = e.signature;
+        within = (invariant P field runs).within e c;
+        named = subst (AreNamed P.setting run.entries e.signature) is (entry_named e c);
+      }
   signed (SyzygyOf k) t (h, some, at, is) =
       let c = contains_at run.syzygies (k - 1) h at in
-      record { signature = h.signature;
-            within = syzygy_within h c; named = subst (AreNamed P.setting run.entries h.signature)
+      record {
+        signature = h.signature;
+        within = syzygy_within h c;
+        named = subst (AreNamed P.setting run.entries h.signature)
             is (rebuilds_named P.setting run.entries h.signature h.trace [] (syzygy_within h c).0
-              ((rebuilt P field runs).syzygies h c)) }
+            ((rebuilt P field runs).syzygies h c));
+      }
   signed Claim t h = absurd h
 
   -- an entry with a lesser signature is an earlier one
@@ -186,20 +200,20 @@ module _ (P : Problem) (field : IsField P.setting.prime) {n : ℕ} {run : State}
       go (inl l) = l
       go (inr (inl i)) =
           let same : Some d ≡ Some e =
-              sym at_j ∙ (ap (λ n. slice_get run.entries (n - 1)) i ∙ at_k) in
+          sym at_j ∙ (ap (λ n. slice_get run.entries (n - 1)) i ∙ at_k) in
           let one : d ≡ e = cc in
           absurd (monomial_irrefl (generator_weight P.setting) e.signature
-                (subst (λ (x : Entry). IsLess P.setting x.signature e.signature) one less))
+          (subst (λ (x : Entry). IsLess P.setting x.signature e.signature) one less))
       go (inr (inr l)) =
           absurd (monomial_irrefl (generator_weight P.setting) d.signature
-            (monomial_trans (generator_weight P.setting) d.signature e.signature d.signature less
-              ((rebuilt P field runs).entries_ascend e d (contains_at run.entries (k - 1) e at_k)
-                (contains_at run.entries (j - 1) d at_j) (omega arith))))
+          (monomial_trans (generator_weight P.setting) d.signature e.signature d.signature less
+          ((rebuilt P field runs).entries_ascend e d (contains_at run.entries (k - 1) e at_k)
+          (contains_at run.entries (j - 1) d at_j) (omega arith))))
 
   -- an entry's trace names earlier entries
   pub names_earlier : (k j : ℕ) (e : Entry) → 1 ≤ k → slice_get run.entries (k - 1) ≡ Some e
       → Names e.trace j → (1 ≤ j) × (j < k)
   names_earlier k j e some at h =
       let n = any_named P.setting run.entries e.signature e.trace j
-          (entry_named e (contains_at run.entries (k - 1) e at)) h in
+      (entry_named e (contains_at run.entries (k - 1) e at)) h in
       (n.named.some, earlier j k n.named.entry e n.named.some some n.named.at at n.named.lesser)

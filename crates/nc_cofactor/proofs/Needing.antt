@@ -69,11 +69,11 @@ module _ (P : NamedProblem) (problem : IsProblem P) {n : ℕ} {run : State} {las
       → (1 ≤ j) × (j ≤ length run.entries)
   names_within listed t j is m =
       let g : IsSigned P.problem run listed t =
-          signed P.problem (problem_field P problem) runs listed t is in
+      signed P.problem (problem_field P problem) runs listed t is in
       let x : IsAnyNamed P.problem.setting run.entries g.signature j =
-          any_named P.problem.setting run.entries g.signature t j g.named m in
+      any_named P.problem.setting run.entries g.signature t j g.named m in
       let l : j - 1 < length run.entries =
-          slice_get_within run.entries (j - 1) x.named.entry x.named.at in
+      slice_get_within run.entries (j - 1) x.named.entry x.named.at in
       (x.named.some, omega (arith, l, x.named.some))
 
   pub reached_within : (marks : List Bool) → length marks ≡ length run.entries → {j : ℕ}
@@ -84,7 +84,7 @@ module _ (P : NamedProblem) (problem : IsProblem P) {n : ℕ} {run : State} {las
   reached_within marks size (IsReached.through {j = j} {k = k} reached e at m) =
       let b : (1 ≤ k) × (k ≤ length run.entries) = reached_within marks size reached in
       let d : (1 ≤ j) × (j < k) =
-          names_earlier P.problem (problem_field P problem) runs k j e b.0 at m in
+      names_earlier P.problem (problem_field P problem) runs k j e b.0 at m in
       (d.0, omega (arith, b.1, d.1))
 
   -- what an entry needs are earlier ones
@@ -96,7 +96,7 @@ module _ (P : NamedProblem) (problem : IsProblem P) {n : ℕ} {run : State} {las
   needs_earlier i t is (Needs.through {j = j} {k = k} needs e at m) =
       let b : (1 ≤ k) × (k < i) = needs_earlier i t is needs in
       let d : (1 ≤ j) × (j < k) =
-          names_earlier P.problem (problem_field P problem) runs k j e b.0 at m in
+      names_earlier P.problem (problem_field P problem) runs k j e b.0 at m in
       (d.0, omega (arith, b.1, d.1))
 
   -- ---- the way down
@@ -112,9 +112,9 @@ module _ (P : NamedProblem) (problem : IsProblem P) {n : ℕ} {run : State} {las
       kept = λ j some m. m;
       passed =
           λ j k e l within. absurd (let a : k ≤ left = omega (arith, within, all) in
-            omega (arith, a, l));
+          omega (arith, a, l));
       slots = λ k o l within. absurd (let a : k ≤ left = omega (arith, within, all) in
-            omega (arith, a, l));
+          omega (arith, a, l));
     }
 
     module _ (left : ℕ) (old new : List Bool) (stack : List (Option Trace)) (o : Option Trace)
@@ -123,7 +123,7 @@ module _ (P : NamedProblem) (problem : IsProblem P) {n : ℕ} {run : State} {las
           → IsStep run first left old new o
       step_is slot None e =
           let s : IsSlot P.problem n old new left None =
-              subst (IsSlot P.problem n old new left) e slot in
+          subst (IsSlot P.problem n old new left) e slot in
           record {
             grows = λ j one m. subst (λ (l : List Bool). IsMarked l j) (sym s.1) m;
             lower = λ j one m. inl (subst (λ (l : List Bool). IsMarked l j) s.1 m);
@@ -133,26 +133,27 @@ module _ (P : NamedProblem) (problem : IsProblem P) {n : ℕ} {run : State} {las
           }
       step_is slot (Some x) e =
           let s : IsSlot P.problem n old new left (Some x) =
-              subst (IsSlot P.problem n old new left) e slot in
+          subst (IsSlot P.problem n old new left) e slot in
           let there : IsTraceIn run (EntryOf left) x =
-              subst (λ (r : State). IsTraceIn r (EntryOf left) x)
-              (one_run P problem n s.1.runs runs) s.1.is in
+          subst (λ (r : State). IsTraceIn r (EntryOf left) x)
+          (one_run P problem n s.1.runs runs) s.1.is in
           record {
             grows = λ j one m. (s.2 j one).1 (inl m);
             lower = λ j one m. elim ((s.2 j one).0 m)
                 [ inl k ↦ inl k | inr k ↦ inr (new_reach j x there s.0 k) ];
             slot = subst (IsSlotOf run new left) (sym e) (there, (s.2 left some).1 (inl s.0));
             here = λ j y m at k. (s.2 j (names_earlier P.problem (problem_field P problem) runs left
-                    j y some at k).0).1 (inr (subst (λ (z : Trace). Names z j)
-                    (trace_once run (EntryOf left) y.trace x (y, some, at, refl) there) k));
+                j y some at k).0).1 (inr (subst (λ (z : Trace). Names z j)
+                (trace_once run (EntryOf left) y.trace x (y, some, at, refl) there) k));
           }
         where
           new_reach : (j : ℕ) (x : Trace) → IsTraceIn run (EntryOf left) x → IsMarked old left
               → Names x j → (j < left) × IsReached run.entries first j
           new_reach j x (y, one, at, same) m k =
-              let named : Names y.trace j = subst (λ (z : Trace). Names z j) (sym same) k in
-              ((names_earlier P.problem (problem_field P problem) runs left j y some at named).1,
-                    IsReached.through (way.sound left some m) y at named)
+              let named : Names y.trace j = subst (λ (z : Trace). Names z j) (sym same) k in (
+                (names_earlier P.problem (problem_field P problem) runs left j y some at named).1,
+                IsReached.through (way.sound left some m) y at named,
+              )
 
       goes_on : IsStep run first left old new o → length new ≡ length old
           → IsOnTheWay run first (left - 1) new (stack ++ o ∷ [])
@@ -171,11 +172,13 @@ module _ (P : NamedProblem) (problem : IsProblem P) {n : ℕ} {run : State} {las
               ⊎ ((left ≡ k) ⊎ (k < left)) → IsMarked new j
           passed j k e below within m at h (inl l) =
               let one : 1 ≤ j =
-                  (names_earlier P.problem (problem_field P problem) runs k j e (omega (arith, l))
-                    at h).0 in
-              elim (step.lower k (omega (arith, l)) m)
-                  [ inl old_mark ↦ step.grows j one (way.passed j k e l within old_mark at h) | inr
-                    b ↦ absurd (omega (arith, b.0, l)) ]
+              (names_earlier P.problem (problem_field P problem) runs k j e (omega (arith, l))
+              at h).0 in
+              elim (step.lower k (omega (arith, l)) m) [
+                | inl old_mark ↦ step.grows j one (way.passed j k e l within old_mark at h)
+                | inr
+                    b ↦ absurd (omega (arith, b.0, l))
+              ]
           passed j k e below within m at h (inr (inl i)) =
               step.here j e (subst (IsMarked new) (sym i) m)
               (subst (λ i. slice_get run.entries (i - 1) ≡ Some e) (sym i) at) h
@@ -193,13 +196,13 @@ module _ (P : NamedProblem) (problem : IsProblem P) {n : ℕ} {run : State} {las
               ⊎ ((left ≡ k) ⊎ (k < left)) → IsSlotOf run new k y
           slots k y below within at (inl l) =
               still k y l (way.slots k y l within
-                (earlier_place stack o (length run.entries - k) y
-                  (omega (arith, l, within, way.height)) at))
+              (earlier_place stack o (length run.entries - k) y
+              (omega (arith, l, within, way.height)) at))
           slots k y below within at (inr (inl i)) =
               subst (λ j. IsSlotOf run new j y) i
               (subst (IsSlotOf run new left)
-                (last_place stack o (length run.entries - k) y
-                  (omega (arith, way.height, i, within)) at) step.slot)
+              (last_place stack o (length run.entries - k) y
+              (omega (arith, way.height, i, within)) at) step.slot)
           slots k y below within at (inr (inr l)) = absurd (omega (arith, l, below))
 
       pub way_steps : IsSlot P.problem n old new left o → length new ≡ length old
@@ -221,11 +224,15 @@ module _ (P : NamedProblem) (problem : IsProblem P) {n : ℕ} {run : State} {las
 
       pub way_ends : AreFound P.problem n first stack
       way_ends =
-          record { run = run; last = last;
-            runs = runs; size = way.begins;
+          record {
+            run = run;
+            last = last;
+            runs = runs;
+            size = way.begins;
             height = omega (arith, way.height);
             slots = λ k o some within at. found k o some
-            (way.slots k o (omega (arith, some)) within at) }
+                (way.slots k o (omega (arith, some)) within at);
+          }
 
 -- ---- the code's loop
 
@@ -243,7 +250,7 @@ module _ (P : NamedProblem) (problem : IsProblem P) (n : ℕ) (state : State)
       → count ≡ length state.entries → (j : ℕ) → Names t j → (1 ≤ j) × (j ≤ count)
   named_within listed t h count size j m =
       let b : (1 ≤ j) × (j ≤ length h.run.entries) =
-          names_within P problem h.runs listed t j h.is m in
+      names_within P problem h.runs listed t j h.is m in
       (b.0, omega (arith, b.1, size, entries_in h.runs))
 
   module _ (first : List Bool) (left : ℕ) where
@@ -253,9 +260,13 @@ module _ (P : NamedProblem) (problem : IsProblem P) (n : ℕ) (state : State)
     loop_begins stack size long empty =
         let all : length state.entries ≡ length r.run.entries = entries_kept P.problem n state r in
         subst (IsWayOf P.problem n first left first) (sym empty)
-            (record { run = r.run; last = r.last;
-                runs = r.runs; way = way_begins P problem r.runs first left (size ∙ all)
-                (long ∙ all) })
+        (record {
+          run = r.run;
+          last = r.last;
+          runs = r.runs;
+          way = way_begins P problem r.runs first left (size ∙ all)
+              (long ∙ all);
+        })
 
     module _ (marks : List Bool) (stack : List (Option Trace))
         (w : IsWayOf P.problem n first left marks stack) where
@@ -268,9 +279,13 @@ module _ (P : NamedProblem) (problem : IsProblem P) (n : ℕ) (state : State)
           → IsSlot P.problem n marks new left o → length new ≡ length marks
           → IsWayOf P.problem n first (left - 1) new (stack ++ o ∷ [])
       loop_steps new o some slot same =
-          record { run = w.run; last = w.last;
-            runs = w.runs; way = way_steps P problem w.runs first left marks new stack o some w.way
-            slot same }
+          record {
+            run = w.run;
+            last = w.last;
+            runs = w.runs;
+            way = way_steps P problem w.runs first left marks new stack o some w.way
+                slot same;
+          }
 
       pub loop_ends : left ≡ 0 → AreFound P.problem n first stack
       loop_ends none =

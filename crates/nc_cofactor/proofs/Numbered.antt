@@ -38,20 +38,20 @@ module _ (all stack rest : List (Option Trace)) (o : Option Trace) (number : ℕ
   here : slice_get all (length all - (number + 1)) ≡ Some o
   here = subst (λ i. slice_get all i ≡ Some o) (omega (arith, height))
       (h.rest (length rest) o (subst
-          (λ (l : List (Option Trace)). slice_get l (length rest) ≡ Some o) (sym popped)
-          (last_there rest o)))
+      (λ (l : List (Option Trace)). slice_get l (length rest) ≡ Some o) (sym popped)
+      (last_there rest o)))
 
   others : (i : ℕ) (x : Option Trace) → slice_get rest i ≡ Some x → slice_get all i ≡ Some x
   others i x at =
       h.rest i x (subst (λ (l : List (Option Trace)). slice_get l i ≡ Some x) (sym popped)
-        (earlier_there rest o i x at))
+      (earlier_there rest o i x at))
 
   -- what stands at the new number
   stands : (k : ℕ) (x : Option Trace) → k ≡ number + 1 → slice_get all (length all - k) ≡ Some x
       → o ≡ x
   stands k x e at =
       let same : Some o ≡ Some x =
-          sym here ∙ (ap (λ i. slice_get all (length all - i)) (sym e) ∙ at) in
+      sym here ∙ (ap (λ i. slice_get all (length all - i)) (sym e) ∙ at) in
       cc
 
   pub number_skips : o ≡ None → IsNumberedTo all rest (number + 1) numbered
@@ -75,22 +75,24 @@ module _ (all stack rest : List (Option Trace)) (o : Option Trace) (number : ℕ
       → new ≡ numbered ++ (number + 1, x) ∷ [] → IsNumberedTo all rest (number + 1) new
   number_takes x new some_x pushed =
       subst (IsNumberedTo all rest (number + 1)) (sym pushed) (record {
-    height = height;
-    rest = others;
-    ascending =
-        subst IsStrictlyIncreasing (sym (map_push (λ (y : ℕ × Trace). y.0) numbered (number + 1,
-              x))) (rising_push (map (λ (y : ℕ × Trace). y.0) numbered) (number + 1) h.ascending
-          below);
-    sound = λ k t c. sound k t (Contains-push_cases numbered (number + 1, x) (k, t) c);
-    complete = λ k t some within at. complete k t some within at (compared k (number + 1));
-  })
+        height = height;
+        rest = others;
+        ascending =
+            subst IsStrictlyIncreasing (sym (map_push (λ (y : ℕ × Trace). y.0) numbered (
+              number + 1,
+              x,
+            ))) (rising_push (map (λ (y : ℕ × Trace). y.0) numbered) (number + 1) h.ascending
+            below);
+        sound = λ k t c. sound k t (Contains-push_cases numbered (number + 1, x) (k, t) c);
+        complete = λ k t some within at. complete k t some within at (compared k (number + 1));
+      })
     where
       below : (k : ℕ) → k < length (map (λ (y : ℕ × Trace). y.0) numbered)
           → get_or (map (λ (y : ℕ × Trace). y.0) numbered) k 0 < number + 1
       below k within =
           let r = map_contains (λ (y : ℕ × Trace). y.0) numbered
-              (get_or (map (λ (y : ℕ × Trace). y.0) numbered) k 0)
-              (Contains-get_or (map (λ (y : ℕ × Trace). y.0) numbered) k 0 within) in
+          (get_or (map (λ (y : ℕ × Trace). y.0) numbered) k 0)
+          (Contains-get_or (map (λ (y : ℕ × Trace). y.0) numbered) k 0 within) in
           let s : r.0.0 ≤ number = (h.sound r.0.0 r.0.1 r.1).1 in
           omega (arith, s, r.2)
 
@@ -100,10 +102,12 @@ module _ (all stack rest : List (Option Trace)) (o : Option Trace) (number : ℕ
       sound k t (inl c) = let s = h.sound k t c in (s.0, omega (arith, s.1), s.2)
       sound k t (inr e) =
           let number_is : number + 1 ≡ k = ap (λ (y : ℕ × Trace). y.0) e in
-          let trace_is : x ≡ t = ap (λ (y : ℕ × Trace). y.1) e in
-          (omega (arith, number_is), omega (arith, number_is),
-                subst (λ i. slice_get all (length all - i) ≡ Some (Some t)) number_is
-                (here ∙ ap Some (some_x ∙ ap Some trace_is)))
+          let trace_is : x ≡ t = ap (λ (y : ℕ × Trace). y.1) e in (
+            omega (arith, number_is),
+            omega (arith, number_is),
+            subst (λ i. slice_get all (length all - i) ≡ Some (Some t)) number_is
+                (here ∙ ap Some (some_x ∙ ap Some trace_is)),
+          )
 
       complete : (k : ℕ) (t : Trace) → 1 ≤ k → k ≤ number + 1
           → slice_get all (length all - k) ≡ Some (Some t) → (k < number + 1)
@@ -116,7 +120,7 @@ module _ (all stack rest : List (Option Trace)) (o : Option Trace) (number : ℕ
           let same : Some x ≡ Some t = sym some_x ∙ stands k (Some t) e at in
           let one : x ≡ t = cc in
           subst (Contains (numbered ++ (number + 1, x) ∷ [])) (λ i. (sym e i, one i))
-              (Contains-push numbered (number + 1, x))
+          (Contains-push numbered (number + 1, x))
       complete k t some within at (inr (inr l)) = absurd (omega (arith, l, within))
 
 pub number_ends : (all stack : List (Option Trace)) (number : ℕ) (numbered : List (ℕ × Trace))
@@ -133,7 +137,7 @@ number_ends all stack number numbered none h =
 
 module _ (P : NamedProblem) (problem : IsProblem P) (n : ℕ) (numbers : List ℕ) (marks : List Bool)
     (low : All (λ j. 1 ≤ j) numbers) (exact : (j : ℕ) → 1 ≤ j → IsMarked marks j
-      ↔ Contains numbers j) where
+    ↔ Contains numbers j) where
   module _ (stack : List (Option Trace)) (numbered : List (ℕ × Trace))
       (f : AreFound P.problem n marks stack) (a : AreNumbered stack numbered) where
     some_of : (j : ℕ) → Contains numbers j → (1 ≤ j) × IsMarked marks j
@@ -147,13 +151,13 @@ module _ (P : NamedProblem) (problem : IsProblem P) (n : ℕ) (numbers : List �
     found k t c =
         let s = a.sound k t c in
         f.slots k (Some t) s.0 (omega (arith, s.1, f.height))
-            (subst (λ i. slice_get stack (i - k) ≡ Some (Some t)) f.height s.2)
+        (subst (λ i. slice_get stack (i - k) ≡ Some (Some t)) f.height s.2)
 
     -- one that is needed is there
     there : (j : ℕ) → IsReached f.run.entries marks j → Contains (map (λ x. x.0) numbered) j
     there j reached =
         let b : (1 ≤ j) × (j ≤ length f.run.entries) =
-            reached_within P problem f.runs marks f.size reached in
+        reached_within P problem f.runs marks f.size reached in
         go b.0 b.1 (slice_get_cases stack (length f.run.entries - j)).1
       where
         at_slot : (o : Option Trace) → 1 ≤ j → j ≤ length f.run.entries
@@ -163,14 +167,14 @@ module _ (P : NamedProblem) (problem : IsProblem P) (n : ℕ) (numbers : List �
         at_slot (Some t) some within at is =
             contains_map (λ (x : ℕ × Trace). x.0) numbered (j, t) j
             (a.complete j t some (omega (arith, within, f.height))
-              (subst (λ i. slice_get stack (i - j) ≡ Some (Some t)) (sym f.height) at)) refl
+            (subst (λ i. slice_get stack (i - j) ≡ Some (Some t)) (sym f.height) at)) refl
 
         go : 1 ≤ j → j ≤ length f.run.entries
             → (((o : Option Trace) × (length f.run.entries - j < length stack)
-                × (slice_get stack (length f.run.entries - j) ≡ Some o)
-                × (get_or stack (length f.run.entries - j) o ≡ o))
-              ⊎ ((length stack ≤ length f.run.entries - j)
-                × (slice_get stack (length f.run.entries - j) ≡ None)))
+            × (slice_get stack (length f.run.entries - j) ≡ Some o)
+            × (get_or stack (length f.run.entries - j) o ≡ o))
+            ⊎ ((length stack ≤ length f.run.entries - j)
+            × (slice_get stack (length f.run.entries - j) ≡ None)))
             → Contains (map (λ x. x.0) numbered) j
         go some within (inl (o, l, at, e)) = at_slot o some within at (f.slots j o some within at)
         go some within (inr past) = absurd (omega (arith, past.0, some, within, f.height))
@@ -180,9 +184,9 @@ module _ (P : NamedProblem) (problem : IsProblem P) (n : ℕ) (numbers : List �
       ascending = a.ascending;
       exact = λ j. (
         (λ c. let r = map_contains (λ (x : ℕ × Trace). x.0) numbered j c in
-              subst (IsNeededFor f.run.entries numbers) r.2
-              (reached_needed f.run.entries marks numbers (λ i some m. (exact i some).0 m)
-                (found r.0.0 r.0.1 r.1).1)),
+            subst (IsNeededFor f.run.entries numbers) r.2
+            (reached_needed f.run.entries marks numbers (λ i some m. (exact i some).0 m)
+            (found r.0.0 r.0.1 r.1).1)),
         (λ needed. there j (needed_reached f.run.entries marks numbers some_of needed)),
       );
     }
@@ -195,5 +199,5 @@ module _ (P : NamedProblem) (problem : IsProblem P) (n : ℕ) (numbers : List �
       lists = lists;
       traces =
           λ k d within. (found (get_or numbered k d).0 (get_or numbered k d).1
-            (Contains-get_or numbered k d within)).0;
+          (Contains-get_or numbered k d within)).0;
     }

@@ -33,7 +33,7 @@ pub label_once : (p : ℕ) (run : State) (listed : Listed) (α β : Element) →
 label_once p run (EntryOf k) α β a b = a.2 ∙ sym b.2
 label_once p run (SyzygyOf k) α β (x, is, e) (x', is', e') =
     e ∙ (ap (trace_label p (labels_of p run.entries)) (trace_once run (SyzygyOf k) x x' is is')
-      ∙ sym e')
+    ∙ sym e')
 label_once p run Claim α β a b = absurd a
 
 -- a label has as many terms as its normal form lists
@@ -52,4 +52,4 @@ one_label s some run listed = (lists, label_count s run listed, terms_once s.pri
     lists m m' a b =
         sum_once s a.label m m' (label_sum s run listed m a)
         (subst (λ (α : Element). IsSum s α m')
-          (label_once s.prime run listed b.label a.label b.is a.is) (label_sum s run listed m' b))
+        (label_once s.prime run listed b.label a.label b.is a.is) (label_sum s run listed m' b))

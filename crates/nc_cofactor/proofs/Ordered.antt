@@ -34,8 +34,11 @@ module _ {K : Type 0} (cmp : K → K → Ordering)
   smaller : (k : K) (f : List (Term K)) → ¬ IsZero p (coefficient_by (eq_by_cmp cmp) f k)
       → size (without (eq_by_cmp cmp) k f) < size f
   smaller k f n =
-      omega (arith, linear_sum-without (eq_by_cmp cmp) (λ x y. cmp x y ≡ Less) laws (λ x. 1) k f,
-        positive (coefficient_by (eq_by_cmp cmp) f k) n)
+      omega (
+        arith,
+        linear_sum-without (eq_by_cmp cmp) (λ x y. cmp x y ≡ Less) laws (λ x. 1) k f,
+        positive (coefficient_by (eq_by_cmp cmp) f k) n,
+      )
 
   below : (k : K) (f : List (Term K)) → ((t : Term K) → Among t f → cmp t.key k ≡ Less)
       → AllBelow cmp k f
@@ -45,10 +48,13 @@ module _ {K : Type 0} (cmp : K → K → Ordering)
   led : (f : List (Term K)) (k : K) → IsLeadingKey (eq_by_cmp cmp) (λ x y. cmp x y ≡ Less) p f k
       → HasNormal (without (eq_by_cmp cmp) k f) → HasNormal f
   led f k leads r =
-      record { normal = new; same = record
-        { at = λ x. at x (key_dec (eq_by_cmp cmp) (λ x y. cmp x y ≡ Less) laws x k) };
-        descends = falls; residues = (mod-lt (coefficient_by (eq_by_cmp cmp) f k) some, r.residues)
-        }
+      record {
+        normal = new;
+        same = record
+            { at = λ x. at x (key_dec (eq_by_cmp cmp) (λ x y. cmp x y ≡ Less) laws x k) };
+        descends = falls;
+        residues = (mod-lt (coefficient_by (eq_by_cmp cmp) f k) some, r.residues);
+      }
     where
       first : Term K
       first = record { coefficient = coefficient_by (eq_by_cmp cmp) f k % p; key = k }
@@ -75,14 +81,14 @@ module _ {K : Type 0} (cmp : K → K → Ordering)
           go : (t.key ≡ k) ⊎ (t.key ≢ k) → cmp t.key k ≡ Less
           go (inl e) =
               absurd (counts (subst (IsZero p)
-                  (sym (ap (coefficient_by (eq_by_cmp cmp) (without (eq_by_cmp cmp) k f)) e
-                      ∙ coef_without_self (eq_by_cmp cmp) (λ x y. cmp x y ≡ Less) laws k f))
-                  (zero_number p)))
+              (sym (ap (coefficient_by (eq_by_cmp cmp) (without (eq_by_cmp cmp) k f)) e
+              ∙ coef_without_self (eq_by_cmp cmp) (λ x y. cmp x y ≡ Less) laws k f))
+              (zero_number p)))
           go (inr n) =
               under (below_lead (eq_by_cmp cmp) (λ x y. cmp x y ≡ Less) laws p f k t.key leads
-                (λ z. counts (subst (IsZero p)
-                    (sym (coef_without_other (eq_by_cmp cmp) (λ x y. cmp x y ≡ Less) laws k t.key f
-                      n)) z))) n
+              (λ z. counts (subst (IsZero p)
+              (sym (coef_without_other (eq_by_cmp cmp) (λ x y. cmp x y ≡ Less) laws k t.key f
+              n)) z))) n
 
       falls : Descends cmp new
       falls = (leading, below k r.normal lesser, r.descends)
@@ -91,13 +97,13 @@ module _ {K : Type 0} (cmp : K → K → Ordering)
           → coefficient_by (eq_by_cmp cmp) new x % p ≡ coefficient_by (eq_by_cmp cmp) f x % p
       at x (inl e) =
           subst (λ y. coefficient_by (eq_by_cmp cmp) new y % p ≡ coefficient_by (eq_by_cmp cmp) f y
-                % p) (sym e)
+          % p) (sym e)
           (ap (λ n. n % p) (own cmp laws new falls first (inl refl))
-                ∙ mod-mod (coefficient_by (eq_by_cmp cmp) f k) p)
+          ∙ mod-mod (coefficient_by (eq_by_cmp cmp) f k) p)
       at x (inr n) =
           ap (λ i. i % p) (rest_at cmp laws first r.normal x n)
           ∙ (r.same.at x ∙ ap (λ i. i % p)
-            (coef_without_other (eq_by_cmp cmp) (λ x y. cmp x y ≡ Less) laws k x f n))
+          (coef_without_other (eq_by_cmp cmp) (λ x y. cmp x y ≡ Less) laws k x f n))
 
   one_more : (f : List (Term K)) → ((g : List (Term K)) → size g < size f → HasNormal g)
       → HasNormal f
@@ -106,8 +112,12 @@ module _ {K : Type 0} (cmp : K → K → Ordering)
       go : ((x : K) → IsZero p (coefficient_by (eq_by_cmp cmp) f x))
           ⊎ ((k : K) × IsLeadingKey (eq_by_cmp cmp) (λ x y. cmp x y ≡ Less) p f k) → HasNormal f
       go (inl z) =
-          record { normal = []; same = record { at = λ x. zero_number p ∙ sym (z x) };
-            descends = tt; residues = tt }
+          record {
+            normal = [];
+            same = record { at = λ x. zero_number p ∙ sym (z x) };
+            descends = tt;
+            residues = tt;
+          }
       go (inr (k, leads)) =
           led f k leads (before (without (eq_by_cmp cmp) k f) (smaller k f leads.nonzero))
 

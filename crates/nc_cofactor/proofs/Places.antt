@@ -11,7 +11,7 @@ module _ {X : Type 0} (xs : List X) (x : X) where
   earlier_place i y within at =
       slice_get_read xs (length xs) i y refl within
       (sym (sym (get_or_append_left xs (x ∷ []) y i within) ∙ get_or_from_slice_get (xs ++ x ∷ []) i
-          y y at))
+      y y at))
 
   -- the last place
   pub last_place : (i : ℕ) (y : X) → i ≡ length xs → slice_get (xs ++ x ∷ []) i ≡ Some y → x ≡ y
@@ -23,8 +23,8 @@ module _ {X : Type 0} (xs : List X) (x : X) where
   earlier_there i y at =
       let within : i < length xs = slice_get_within xs i y at in
       slice_get_read (xs ++ x ∷ []) (length (xs ++ x ∷ [])) i y refl
-          (omega (arith, within, length-append xs (x ∷ [])))
-          (sym (get_or_append_left xs (x ∷ []) y i within ∙ get_or_from_slice_get xs i y y at))
+      (omega (arith, within, length-append xs (x ∷ [])))
+      (sym (get_or_append_left xs (x ∷ []) y i within ∙ get_or_from_slice_get xs i y y at))
 
   pub last_there : slice_get (xs ++ x ∷ []) (length xs) ≡ Some x
   last_there =
@@ -36,8 +36,11 @@ module _ {X : Type 0} (xs : List X) (x : X) where
       → ((i : ℕ) (y : X) → 1 ≤ i → slice_get xs (i - 1) ≡ Some y → Q i y) → Q k x → (i : ℕ) (y : X)
       → 1 ≤ i → slice_get (xs ++ x ∷ []) (i - 1) ≡ Some y → Q i y
   pushed Q k next old new i y some at =
-      go (order (i - 1) (length xs) (omega (arith, slice_get_within (xs ++ x ∷ []) (i - 1) y at,
-            length-append xs (x ∷ []))))
+      go (order (i - 1) (length xs) (omega (
+        arith,
+        slice_get_within (xs ++ x ∷ []) (i - 1) y at,
+        length-append xs (x ∷ []),
+      )))
     where
       order : (i l : ℕ) → i < l + 1 → (i < l) ⊎ (i ≡ l)
       order i l h = grind arith
@@ -46,5 +49,5 @@ module _ {X : Type 0} (xs : List X) (x : X) where
       go (inl l) = old i y some (earlier_place (i - 1) y l at)
       go (inr e) =
           let number : k ≡ i =
-              omega (arith, e, next) in subst (λ j. Q j y) number
-              (subst (Q k) (last_place (i - 1) y e at) new)
+          omega (arith, e, next) in subst (λ j. Q j y) number
+          (subst (Q k) (last_place (i - 1) y e at) new)

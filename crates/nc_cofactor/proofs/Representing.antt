@@ -46,26 +46,40 @@ module _ (s : Snapshot) (is : IsSnapshot s) (steps : List Step)
       → StepsName steps j → (1 ≤ j) × (j ≤ state_size)
   named_low size e j (step, c, i) =
       let l : IsLight s.problem.problem is.run.run.entries step.left step.number step.right =
-          all_among (λ (y : Step). IsLight s.problem.problem is.run.run.entries y.left y.number
-            y.right) steps (light is.run.runs).light step (contains_among step steps c) in
+      all_among (λ (y : Step). IsLight s.problem.problem is.run.run.entries y.left y.number
+      y.right) steps (light is.run.runs).light step (contains_among step steps c) in
       let there : step.number - 1 < length is.run.run.entries =
-          slice_get_within is.run.run.entries (step.number - 1) l.entry l.at in
-      (omega (arith, l.some, i), omega (arith, there, l.some, i, e,
-              entries_kept s.problem.problem s.handled s.state is.run))
+      slice_get_within is.run.run.entries (step.number - 1) l.entry l.at in (
+        omega (arith, l.some, i),
+        omega (
+          arith,
+          there,
+          l.some,
+          i,
+          e,
+          entries_kept s.problem.problem s.handled s.state is.run,
+        ),
+      )
 
   pub steps_low : All (λ step. 1 ≤ step.number) steps
   steps_low k d within =
-      (named_low (length s.state.entries) refl (get_or steps k d).number (get_or steps k d,
-          Contains-get_or steps k d within, refl)).0
+      (named_low (length s.state.entries) refl (get_or steps k d).number (
+        get_or steps k d,
+        Contains-get_or steps k d within,
+        refl,
+      )).0
 
   pub steps_high : (count : ℕ) → count ≡ length s.state.entries
       → All (λ step. step.number ≤ count) steps
   steps_high count e k d within =
-      (named_low count e (get_or steps k d).number (get_or steps k d,
-          Contains-get_or steps k d within, refl)).1
+      (named_low count e (get_or steps k d).number (
+        get_or steps k d,
+        Contains-get_or steps k d within,
+        refl,
+      )).1
 
   module _ (marks : List Bool) (limit : ℕ) (exact : (j : ℕ) → 1 ≤ j → IsMarked marks j
-        ↔ StepsName steps j) where
+      ↔ StepsName steps j) where
     -- what is needed is reached, and what is reached is needed
     need : (run : State) {j : ℕ} → IsNeededFor run.entries (numbers_of steps) j
         → IsReached run.entries marks j
@@ -82,7 +96,7 @@ module _ (s : Snapshot) (is : IsSnapshot s) (steps : List Step)
     needed run reached =
         reached_needed run.entries marks (numbers_of steps)
         (λ j some m. let r = (exact j some).0 m in
-          contains_map (λ (t : Step). t.number) steps r.0 j r.1 r.2) reached
+        contains_map (λ (t : Step). t.number) steps r.0 j r.1 r.2) reached
 
     -- where not all labels are made
     pub fill_fails : (e : CofactorFault) → FailsToFill s.problem.problem s.handled marks limit e
@@ -93,8 +107,12 @@ module _ (s : Snapshot) (is : IsSnapshot s) (steps : List Step)
       last = f.last;
       runs = f.runs;
       many = subst (λ (l : Listed). IsTooManyFor s.problem.problem.setting.prime f.run steps limit l
-            terms) (sym f.names) (needed f.run f.reached, f.has, f.many,
-            λ j m n l ts. f.lesser j m (need f.run n) l ts);
+          terms) (sym f.names) (
+            needed f.run f.reached,
+            f.has,
+            f.many,
+            λ j m n l ts. f.lesser j m (need f.run n) l ts,
+          );
     }
 
     module _ (labels : List (List (Term Sig)))
@@ -103,7 +121,7 @@ module _ (s : Snapshot) (is : IsSnapshot s) (steps : List Step)
       stands j k =
           let some : 1 ≤ j = (named_low (length s.state.entries) refl j k).0 in
           let f : IsFilledAt s.problem.problem h.run labels limit j =
-              h.places j (IsReached.marked some ((exact j some).1 k)) in
+          h.places j (IsReached.marked some ((exact j some).1 k)) in
           record { label = f.label; at = f.at; is = f.is }
 
       pub can_add : AreSummable s.problem.problem.setting labels steps
@@ -111,45 +129,52 @@ module _ (s : Snapshot) (is : IsSnapshot s) (steps : List Step)
 
       module _ (m : List (Term Sig))
           (sum : IsSum s.problem.problem.setting (step_multiples (elements_of labels) steps) m)
-          where
-        own : IsSum s.problem.problem.setting
-            (step_multiples (labels_of s.problem.problem.setting.prime h.run.entries) steps) m
-        own = steps_whole s.problem is.problem h.runs labels steps m stands sum
+        where
+          own : IsSum s.problem.problem.setting
+              (step_multiples (labels_of s.problem.problem.setting.prime h.run.entries) steps) m
+          own = steps_whole s.problem is.problem h.runs labels steps m stands sum
 
-        own_terms : HasTerms s.problem.problem.setting.prime
-            (step_multiples (labels_of s.problem.problem.setting.prime h.run.entries) steps)
-            (length m)
-        own_terms =
-            has_terms s.problem.problem.setting
-            (step_multiples (labels_of s.problem.problem.setting.prime h.run.entries) steps) m own
+          own_terms : HasTerms s.problem.problem.setting.prime
+              (step_multiples (labels_of s.problem.problem.setting.prime h.run.entries) steps)
+              (length m)
+          own_terms =
+              has_terms s.problem.problem.setting
+              (step_multiples (labels_of s.problem.problem.setting.prime h.run.entries) steps) m own
 
-        pub represents : length m ≤ limit
-            → IsRepresentation s.problem.problem s.handled steps limit m
-        represents few = record {
-          run = h.run;
-          last = h.last;
-          runs = h.runs;
-          is = own;
-          within = record {
-            entries =
-                λ j i n terms. few_filled s.problem is.problem s.handled marks limit labels h j i
-                (need h.run n) terms;
-            sum = λ i terms. omega (arith,
-                  terms_once s.problem.problem.setting.prime
-                  (step_multiples (labels_of s.problem.problem.setting.prime h.run.entries) steps) i
-                  (length m) terms own_terms, few);
-          };
-        }
+          pub represents : length m ≤ limit
+              → IsRepresentation s.problem.problem s.handled steps limit m
+          represents few = record {
+            run = h.run;
+            last = h.last;
+            runs = h.runs;
+            is = own;
+            within = record {
+              entries =
+                  λ j i n terms. few_filled s.problem is.problem s.handled marks limit labels h j i
+                  (need h.run n) terms;
+              sum = λ i terms. omega (
+                arith,
+                terms_once s.problem.problem.setting.prime
+                    (step_multiples (labels_of s.problem.problem.setting.prime h.run.entries) steps)
+                    i
+                    (length m) terms own_terms,
+                few,
+              );
+            };
+          }
 
-        pub claim_fails : (terms : ℕ) → terms ≡ length m → limit < terms
-            → IsTooManyForAt s.problem.problem s.handled steps limit Claim terms
-        claim_fails terms count many = record {
-          run = h.run;
-          last = h.last;
-          runs = h.runs;
-          many = (subst (λ i. HasTerms s.problem.problem.setting.prime
+          pub claim_fails : (terms : ℕ) → terms ≡ length m → limit < terms
+              → IsTooManyForAt s.problem.problem s.handled steps limit Claim terms
+          claim_fails terms count many = record {
+            run = h.run;
+            last = h.last;
+            runs = h.runs;
+            many = (
+              subst (λ i. HasTerms s.problem.problem.setting.prime
                   (step_multiples (labels_of s.problem.problem.setting.prime h.run.entries) steps)
-                  i) (sym count) own_terms, many,
-                λ j i n ts. few_filled s.problem is.problem s.handled marks limit labels h j i
-                (need h.run n) ts);
-        }
+                  i) (sym count) own_terms,
+              many,
+              λ j i n ts. few_filled s.problem is.problem s.handled marks limit labels h j i
+                  (need h.run n) ts,
+            );
+          }

@@ -44,15 +44,19 @@ module _ (P : NamedProblem) (problem : IsProblem P) (n : ℕ) where
       → AreNamedLabels P.problem n listed t labels → IsSummable P.problem.setting labels t
   can_sum listed t labels h =
       summable P problem h.runs labels listed t h.is (λ j k. let r = h.named j k in
-        record { label = r.0; at = r.1; is = r.2 })
+      record { label = r.0; at = r.1; is = r.2 })
 
   pub gives_label : (listed : Listed) (t : Trace) (labels : List (List (Term Sig)))
       (m : List (Term Sig)) → AreNamedLabels P.problem n listed t labels
       → IsTraceSum P.problem.setting labels t m → HasLabel P.problem n listed m
   gives_label listed t labels m h sum =
-      record { run = h.run; last = h.last;
-        runs = h.runs; is = labelled P problem h.runs labels listed t m h.is
-        (λ j k. let r = h.named j k in record { label = r.0; at = r.1; is = r.2 }) sum }
+      record {
+        run = h.run;
+        last = h.last;
+        runs = h.runs;
+        is = labelled P problem h.runs labels listed t m h.is
+            (λ j k. let r = h.named j k in record { label = r.0; at = r.1; is = r.2 }) sum;
+      }
 
   -- a label has as many terms as its normal form lists
   pub label_terms : (run : State) (k : ℕ) (m : List (Term Sig))
@@ -69,7 +73,7 @@ module _ (P : NamedProblem) (problem : IsProblem P) (n : ℕ) where
         × (slice_get labels (j - 1) ≡ Some m) × IsLabelOf P.problem.setting a.run (EntryOf j) m
     place j some within =
         let at : slice_get labels (j - 1) ≡ Some (get_or labels (j - 1) []) =
-            slice_get-get_or labels (j - 1) [] (omega arith) in
+        slice_get-get_or labels (j - 1) [] (omega arith) in
         (get_or labels (j - 1) [], at, a.are j (get_or labels (j - 1) []) some at)
 
     -- those that the next entry's trace names are there
@@ -85,8 +89,8 @@ module _ (P : NamedProblem) (problem : IsProblem P) (n : ℕ) where
             × (slice_get labels (j - 1) ≡ Some m) × IsLabelOf P.problem.setting a.run (EntryOf j) m
         there j m (e, some, at, same) =
             let b : (1 ≤ j) × (j < k) =
-                names_earlier P.problem (problem_field P problem) a.runs k j e some at
-                (subst (λ (x : Trace). Names x j) (sym same) m) in
+            names_earlier P.problem (problem_field P problem) a.runs k j e some at
+            (subst (λ (x : Trace). Names x j) (sym same) m) in
             place j b.0 (omega (arith, b.1, next))
 
     -- and all that a listed item's trace names, where all labels are there
@@ -102,20 +106,25 @@ module _ (P : NamedProblem) (problem : IsProblem P) (n : ℕ) where
             × IsLabelOf P.problem.setting a.run (EntryOf j) m
         there j m =
             let g : IsSigned P.problem a.run listed t =
-                signed P.problem (problem_field P problem) a.runs listed t is in
+            signed P.problem (problem_field P problem) a.runs listed t is in
             let x : IsAnyNamed P.problem.setting a.run.entries g.signature j =
-                any_named P.problem.setting a.run.entries g.signature t j g.named m in
+            any_named P.problem.setting a.run.entries g.signature t j g.named m in
             let l : j - 1 < length a.run.entries =
-                slice_get_within a.run.entries (j - 1) x.named.entry x.named.at in
+            slice_get_within a.run.entries (j - 1) x.named.entry x.named.at in
             place j x.named.some (omega (arith, l, x.named.some, all))
 
     -- one label more
     pub push_label : (k : ℕ) (m : List (Term Sig)) → HasLabel P.problem n (EntryOf k) m
         → k ≡ length labels + 1 → AreLabels P.problem n (labels ++ m ∷ [])
     push_label k m h next =
-        record { run = a.run; last = a.last;
-          runs = a.runs; few = few; are = pushed labels m
-          (λ i x. IsLabelOf P.problem.setting a.run (EntryOf i) x) k next a.are new }
+        record {
+          run = a.run;
+          last = a.last;
+          runs = a.runs;
+          few = few;
+          are = pushed labels m
+              (λ i x. IsLabelOf P.problem.setting a.run (EntryOf i) x) k next a.are new;
+        }
       where
         new : IsLabelOf P.problem.setting a.run (EntryOf k) m
         new = subst (λ (r : State). IsLabelOf P.problem.setting r (EntryOf k) m)
@@ -153,10 +162,10 @@ module _ (P : NamedProblem) (problem : IsProblem P) (n : ℕ) where
             let m : List (Term Sig) = get_or labels (j - 1) [] in
             let within : j - 1 < length labels = omega (arith, l, next, some) in
             let same : i ≡ length m =
-                terms_once P.problem.setting.prime
-                (label_at (labels_of P.problem.setting.prime a.run.entries) j) i (length m) t
-                (label_terms a.run j m (a.are j m some (slice_get-get_or labels (j - 1) [] within)))
-                in
+            terms_once P.problem.setting.prime
+            (label_at (labels_of P.problem.setting.prime a.run.entries) j) i (length m) t
+            (label_terms a.run j m (a.are j m some (slice_get-get_or labels (j - 1) [] within)))
+            in
             omega (arith, same, few (j - 1) [] within)
 
   -- ---- syzygies one after the other
@@ -185,8 +194,12 @@ module _ (P : NamedProblem) (problem : IsProblem P) (n : ℕ) where
       run = a.run;
       last = a.last;
       runs = a.runs;
-      few = omega (arith, length-append labels (m ∷ []), (syzygy_within k m (next_syzygy k m h)).1,
-            next);
+      few = omega (
+        arith,
+        length-append labels (m ∷ []),
+        (syzygy_within k m (next_syzygy k m h)).1,
+        next,
+      );
       are = pushed labels m (λ i x. IsLabelOf P.problem.setting a.run (SyzygyOf i) x) k next a.are
           (next_syzygy k m h);
     }
@@ -204,9 +217,13 @@ module _ (P : NamedProblem) (problem : IsProblem P) (n : ℕ) where
       names = h.names;
       some = (syzygy_within k h.label new).0;
       within = (syzygy_within k h.label new).1;
-      has = (new.label, new.is, subst (λ i. HasTerms P.problem.setting.prime new.label i)
+      has = (
+        new.label,
+        new.is,
+        subst (λ i. HasTerms P.problem.setting.prime new.label i)
             (sym h.count) (label_count P.problem.setting a.run (SyzygyOf k) h.label new new.label
-              new.is));
+            new.is),
+      );
       many = h.many;
       lesser = lesser;
     }
@@ -221,7 +238,7 @@ module _ (P : NamedProblem) (problem : IsProblem P) (n : ℕ) where
             let m : List (Term Sig) = get_or labels (j - 1) [] in
             let within : j - 1 < length labels = omega (arith, l, next, some) in
             let same : i ≡ length m =
-                terms_once P.problem.setting.prime α i (length m) terms
-                (label_count P.problem.setting a.run (SyzygyOf j) m
-                  (a.are j m some (slice_get-get_or labels (j - 1) [] within)) α is) in
+            terms_once P.problem.setting.prime α i (length m) terms
+            (label_count P.problem.setting a.run (SyzygyOf j) m
+            (a.are j m some (slice_get-get_or labels (j - 1) [] within)) α is) in
             omega (arith, same, few (j - 1) [] within)

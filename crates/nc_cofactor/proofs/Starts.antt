@@ -38,21 +38,34 @@ module _ (s : Setting) (entries : List Entry) (τ : Monomial) (m : ℕ) where
   -- a place of one of the first entries is one among all, under the same number
   abbrev on : (w : Word) → Divisor s (take m entries) w → Divisor s entries w
   on w d =
-      record { entry = d.entry; listed = of_front m entries d.entry d.listed;
-        left = d.left; right = d.right; spells = d.spells }
+      record {
+        entry = d.entry;
+        listed = of_front m entries d.entry d.listed;
+        left = d.left;
+        right = d.right;
+        spells = d.spells;
+      }
 
   on_within : (w : Word) (d : Divisor s (take m entries) w)
       → signature_at s (take m entries) w d ≡ τ → IsMultipleWithin s entries τ 0 m w (on w d)
   on_within w d signed =
-      record { signed = signed; later = omega arith;
-        within = omega (arith, front_number m entries d.entry d.listed) }
+      record {
+        signed = signed;
+        later = omega arith;
+        within = omega (arith, front_number m entries d.entry d.listed);
+      }
 
   -- and one whose number is not too great is one of the first entries
   abbrev back : (w : Word) (d : Divisor s entries w) → number_of s entries w d ≤ m
       → Divisor s (take m entries) w
   back w d h =
-      record { entry = d.entry; listed = to_front m entries d.entry d.listed (omega (arith, h));
-        left = d.left; right = d.right; spells = d.spells }
+      record {
+        entry = d.entry;
+        listed = to_front m entries d.entry d.listed (omega (arith, h));
+        left = d.left;
+        right = d.right;
+        spells = d.spells;
+      }
 
   best_back : (w : Word) (d : Divisor s entries w) (b : IsBestMultipleWithin s entries τ 0 m w d)
       → IsBestMultiple s (take m entries) τ w (back w d b.multiple.within)
@@ -76,8 +89,8 @@ module _ (s : Setting) (entries : List Entry) (τ : Monomial) (m : ℕ) where
       at =
           let place : best.1.listed.0 ≡ b.number - 1 = omega (arith, best.3) in
           subst (λ k. slice_get entries k ≡ Some best.1.entry) place
-              (slice_get_read entries (length entries) best.1.listed.0 best.1.entry refl
-                best.1.listed.1 (sym best.1.listed.2))
+          (slice_get_read entries (length entries) best.1.listed.0 best.1.entry refl
+          best.1.listed.1 (sym best.1.listed.2))
 
       some : 1 ≤ b.number
       some = omega (arith, best.3)
@@ -96,7 +109,7 @@ module _ (s : Setting) (entries : List Entry) (τ : Monomial) (m : ℕ) where
       regular (Starts.at_multiple n w d b' r) =
           subst (RegularDivisor s (take m entries) τ)
           (same (b'.least best.0 (back best.0 best.1 best.2.multiple.within) is_best.signed)
-            (is_best.least w d b'.signed)) r
+          (is_best.least w d b'.signed)) r
         where
           same : IsWordLess w best.0 ⊎ ((w ≡ best.0) × (d.listed.0 + 1 ≤ best.1.listed.0 + 1))
               → IsWordLess best.0 w ⊎ ((best.0 ≡ w) × (best.1.listed.0 + 1 ≤ d.listed.0 + 1))
@@ -107,22 +120,26 @@ module _ (s : Setting) (entries : List Entry) (τ : Monomial) (m : ℕ) where
 
       starts : {f : Polynomial} {start : Start} → Starts s (take m entries) τ f start
           → Starts s (take m entries) τ (start_polynomial s entries
-            (Start.a_multiple (take b.left τ.left) b.number (drop b.right τ.right)))
+          (Start.a_multiple (take b.left τ.left) b.number (drop b.right τ.right)))
           (Start.a_multiple (take b.left τ.left) b.number (drop b.right τ.right))
       starts h =
           subst₂ (Starts s (take m entries) τ)
-              (λ i. polynomial_times (best.4 i) (read i) (best.5 i))
-              (λ i. Start.a_multiple (best.4 i) (best.3 i) (best.5 i))
+          (λ i. polynomial_times (best.4 i) (read i) (best.5 i))
+          (λ i. Start.a_multiple (best.4 i) (best.3 i) (best.5 i))
           (Starts.at_multiple no_unit best.0 (back best.0 best.1 best.2.multiple.within) is_best
-                (regular h))
+          (regular h))
 
       pub multiple_over : HasStart s entries τ m → (start : Start)
           → start ≡ Start.a_multiple (take b.left τ.left) b.number (drop b.right τ.right)
           → IsStartOver s entries τ m start
       multiple_over (f, a, h) start is = subst (IsStartOver s entries τ m) (sym is) (record {
-        signed =
-            (best.1.entry, some, at, (λ i. times (sym best.4 i) best.1.entry.signature
-                (sym best.5 i)) ∙ best.2.multiple.signed);
+        signed = (
+          best.1.entry,
+          some,
+          at,
+          (λ i. times (sym best.4 i) best.1.entry.signature
+              (sym best.5 i)) ∙ best.2.multiple.signed,
+        );
         starts = starts h;
       })
 
@@ -132,7 +149,7 @@ pub rebuilds_over : (s : Setting) (entries : List Entry) (τ : Monomial) (m : �
     → AreLesser s entries τ m → (start : Start) → IsStartOver s entries τ m start
     → (kept : Polynomial) (t : Trace) → t.start ≡ start
     → ReductionAt s entries τ (start_polynomial s entries start) kept t.steps
-        → Rebuilds s entries τ t kept
+    → Rebuilds s entries τ t kept
 rebuilds_over s entries τ m a start over kept t is reduces = record {
   first = take m entries;
   rest = drop m entries;
@@ -144,7 +161,7 @@ rebuilds_over s entries τ m a start over kept t is reduces = record {
       subst (Starts s (take m entries) τ (start_polynomial s entries start)) (sym is) over.starts;
   reduces =
       (reduction_front s (take m entries) (drop m entries) τ a.others
-        (start_polynomial s entries start) kept t.steps).0
+      (start_polynomial s entries start) kept t.steps).0
       (subst (λ l. ReductionAt s l τ (start_polynomial s entries start) kept t.steps)
-        (sym (take-append-drop m entries)) reduces);
+      (sym (take-append-drop m entries)) reduces);
 }

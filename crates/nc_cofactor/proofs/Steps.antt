@@ -17,35 +17,36 @@ use Rattle.std.proofs.lemmas.List.{take_all, take_more}
 module _ (s : Setting) where
   module _ (labels : List (List (Term Sig))) (u : Word) (j : ℕ) (v : Word)
       (placed : IsPlaced s labels u j v) (m : List (Term Sig)) (is : m ≡ get_or labels (j - 1) [])
-      where
-    pub addable : IsAddable s u m v
-    addable = subst (λ (l : List (Term Sig)). IsAddable s u l v) (sym is) placed.addable
+    where
+      pub addable : IsAddable s u m v
+      addable = subst (λ (l : List (Term Sig)). IsAddable s u l v) (sym is) placed.addable
 
-    same_place : SameSum same_monomial s.prime (element_of m) (label_at (elements_of labels) j)
-    same_place =
-        subst (λ (α : Element). SameSum same_monomial s.prime (element_of m) α)
-            (ap element_of is ∙ sym (get_or-map element_of labels (j - 1) []))
-            (same-refl same_monomial s.prime (element_of m))
+      same_place : SameSum same_monomial s.prime (element_of m) (label_at (elements_of labels) j)
+      same_place =
+          subst (λ (α : Element). SameSum same_monomial s.prime (element_of m) α)
+          (ap element_of is ∙ sym (get_or-map element_of labels (j - 1) []))
+          (same-refl same_monomial s.prime (element_of m))
 
-    -- the multiple of a label
-    pub begun : (old new : List (Term Sig)) → 1 < s.prime → old ≡ []
-        → SameSum same_sig s.prime new (module_multiples s.prime 1 u m v ++ old)
-        → Descends compare_sigs new → AreResiduesBy s.prime new
-        → IsSum s (element_times u (label_at (elements_of labels) j) v) new
-    begun old new one none e d residues =
-        sum_begins s (label_at (elements_of labels) j) u m v new (omega arith) addable same_place
-        (subst (λ (l : List (Term Sig)). SameSum same_sig s.prime new
-                (module_multiples s.prime 1 u m v ++ l)) none e) d residues
+      -- the multiple of a label
+      pub begun : (old new : List (Term Sig)) → 1 < s.prime → old ≡ []
+          → SameSum same_sig s.prime new (module_multiples s.prime 1 u m v ++ old)
+          → Descends compare_sigs new → AreResiduesBy s.prime new
+          → IsSum s (element_times u (label_at (elements_of labels) j) v) new
+      begun old new one none e d residues =
+          sum_begins s (label_at (elements_of labels) j) u m v new (omega arith) addable same_place
+          (subst (λ (l : List (Term Sig)). SameSum same_sig s.prime new
+          (module_multiples s.prime 1 u m v ++ l)) none e) d residues
 
-    -- less a multiple of one
-    pub stepped : (c k p : ℕ) (old new : List (Term Sig)) (α : Element) → c < s.prime → p ≡ s.prime
-        → k ≡ (p - c) % p → SameSum same_sig s.prime new (module_multiples s.prime k u m v ++ old)
-        → Descends compare_sigs new → AreResiduesBy s.prime new → IsSum s α old
-        → IsSum s (minus s.prime α c (element_times u (label_at (elements_of labels) j) v)) new
-    stepped c k p old new α small prime negative e d residues h =
-        sum_steps s α (label_at (elements_of labels) j) c u m v old new small addable same_place
-        (subst (λ n. SameSum same_sig s.prime new (module_multiples s.prime n u m v ++ old))
-              (negative ∙ ap (λ n. (n - c) % n) prime) e) d residues h
+      -- less a multiple of one
+      pub stepped : (c k p : ℕ) (old new : List (Term Sig)) (α : Element) → c < s.prime
+          → p ≡ s.prime
+          → k ≡ (p - c) % p → SameSum same_sig s.prime new (module_multiples s.prime k u m v ++ old)
+          → Descends compare_sigs new → AreResiduesBy s.prime new → IsSum s α old
+          → IsSum s (minus s.prime α c (element_times u (label_at (elements_of labels) j) v)) new
+      stepped c k p old new α small prime negative e d residues h =
+          sum_steps s α (label_at (elements_of labels) j) c u m v old new small addable same_place
+          (subst (λ n. SameSum same_sig s.prime new (module_multiples s.prime n u m v ++ old))
+          (negative ∙ ap (λ n. (n - c) % n) prime) e) d residues h
 
   -- the code's step, by the step of the trace
   pub taken : (labels : List (List (Term Sig))) (step : Step) (u : Word) (j : ℕ) (v : Word)
@@ -55,16 +56,16 @@ module _ (s : Setting) where
       → SameSum same_sig s.prime new (module_multiples s.prime k u m v ++ old)
       → Descends compare_sigs new → AreResiduesBy s.prime new → (α : Element) → IsSum s α old
       → IsSum s (minus s.prime α step.coefficient
-        (element_times step.left (label_at (elements_of labels) step.number) step.right)) new
+      (element_times step.left (label_at (elements_of labels) step.number) step.right)) new
   taken labels step u j v c k p m old new left number right factor is small prime negative placed e
       d residues α h =
       stepped labels step.left step.number step.right placed m
-          (is ∙ ap (λ i. get_or labels (i - 1) []) number) step.coefficient k p old new α small
-          prime (negative ∙ ap (λ n. (p - n) % p) factor)
+      (is ∙ ap (λ i. get_or labels (i - 1) []) number) step.coefficient k p old new α small
+      prime (negative ∙ ap (λ n. (p - n) % p) factor)
       (subst (λ (w : Word). SameSum same_sig s.prime new
-              (module_multiples s.prime k step.left m w ++ old)) right
-            (subst (λ (w : Word). SameSum same_sig s.prime new
-                (module_multiples s.prime k w m v ++ old)) left e)) d residues h
+      (module_multiples s.prime k step.left m w ++ old)) right
+      (subst (λ (w : Word). SameSum same_sig s.prime new
+      (module_multiples s.prime k w m v ++ old)) left e)) d residues h
 
   -- the code's other step
   pub added : (labels : List (List (Term Sig))) (step : Step) (u : Word) (j : ℕ) (v : Word) (c : ℕ)
@@ -74,22 +75,22 @@ module _ (s : Setting) where
       → SameSum same_sig s.prime new (module_multiples s.prime c u m v ++ old)
       → Descends compare_sigs new → AreResiduesBy s.prime new → (α : Element) → IsSum s α old
       → IsSum s (scale step.coefficient
-        (element_times step.left (label_at (elements_of labels) step.number) step.right) ++ α) new
+      (element_times step.left (label_at (elements_of labels) step.number) step.right) ++ α) new
   added labels step u j v c m old new left number right factor is small placed e d residues α h =
       let here : m ≡ get_or labels (step.number - 1) [] =
-          is ∙ ap (λ i. get_or labels (i - 1) []) number in
+      is ∙ ap (λ i. get_or labels (i - 1) []) number in
       let sums : SameSum same_sig s.prime new
-          (module_multiples s.prime step.coefficient step.left m step.right ++ old) =
+      (module_multiples s.prime step.coefficient step.left m step.right ++ old) =
       subst (λ (w : Word). SameSum same_sig s.prime new
-            (module_multiples s.prime step.coefficient step.left m w ++ old)) right
-          (subst (λ (w : Word). SameSum same_sig s.prime new
-              (module_multiples s.prime step.coefficient w m v ++ old)) left
+      (module_multiples s.prime step.coefficient step.left m w ++ old)) right
+      (subst (λ (w : Word). SameSum same_sig s.prime new
+      (module_multiples s.prime step.coefficient w m v ++ old)) left
       (subst (λ n. SameSum same_sig s.prime new (module_multiples s.prime n u m v ++ old)) factor
-            e)) in
+      e)) in
       sum_adds s α (label_at (elements_of labels) step.number) step.coefficient step.left m
-          step.right old new (omega (arith, small))
-          (addable labels step.left step.number step.right placed m here)
-          (same_place labels step.left step.number step.right placed m here) sums d residues h
+      step.right old new (omega (arith, small))
+      (addable labels step.left step.number step.right placed m here)
+      (same_place labels step.left step.number step.right placed m here) sums d residues h
 
 -- a sum over all steps
 pub all_steps : (s : Setting) (sum_of : List Step → Element) (steps : List Step) (i : ℕ)
@@ -107,5 +108,5 @@ pub one_more : (s : Setting) (sum_of : List Step → Element) (steps : List Step
     → IsSum s (sum_of (take (i + 1) steps)) new
 one_more s sum_of steps i t next new within is more h =
     subst (λ (β : Element). IsSum s β new)
-        (sym (ap sum_of (take_more steps i t within ∙ ap (λ (x : Step). take i steps ++ (x ∷ []))
-              (sym is)) ∙ more)) h
+    (sym (ap sum_of (take_more steps i t within ∙ ap (λ (x : Step). take i steps ++ (x ∷ []))
+    (sym is)) ∙ more)) h

@@ -53,7 +53,7 @@ same_elements p some x y h = record {
   at = λ σ.
       ap (λ n. n % p) (linear_sum-map_keys (is_at same_monomial σ) monomial_of x)
       ∙ (linear_sum_same same_sig (λ σ τ. compare_sigs σ τ ≡ Less) sig_laws p
-            (λ ρ. is_at same_monomial σ (monomial_of ρ)) x y some h
+      (λ ρ. is_at same_monomial σ (monomial_of ρ)) x y some h
       ∙ ap (λ n. n % p) (sym (linear_sum-map_keys (is_at same_monomial σ) monomial_of y)));
 }
 
@@ -65,7 +65,7 @@ same_times p some u α β v h = record {
   at = λ σ.
       ap (λ n. n % p) (linear_sum-map_keys (is_at same_monomial σ) (λ ρ. times u ρ v) α)
       ∙ (linear_sum_same same_monomial (IsMonomialLess (λ i. 0)) (monomial_laws (λ i. 0)) p
-            (λ ρ. is_at same_monomial σ (times u ρ v)) α β some h
+      (λ ρ. is_at same_monomial σ (times u ρ v)) α β some h
       ∙ ap (λ n. n % p) (sym (linear_sum-map_keys (is_at same_monomial σ) (λ ρ. times u ρ v) β)));
 }
 
@@ -99,7 +99,7 @@ element_of-times : (u : Word) (m : List (Term Sig)) (v : Word)
 element_of-times u [] v = refl
 element_of-times u (t ∷ m) v =
     ap (λ (l : Element). record { coefficient = t.coefficient; key = times u (monomial_of t.key) v }
-      ∷ l) (element_of-times u m v)
+    ∷ l) (element_of-times u m v)
 
 element_of-append : (x y : List (Term Sig)) → element_of (x ++ y) ≡ element_of x ++ element_of y
 element_of-append [] y = refl
@@ -140,11 +140,11 @@ same_multiples p c u m v = record { at = λ k. each k m }
     each k [] = refl
     each k (t ∷ m) =
         add-mod (((c * t.coefficient) % p) * is_at same_sig k (sig_times u t.key v))
-            (coefficient_by same_sig (module_multiples p c u m v) k) p
+        (coefficient_by same_sig (module_multiples p c u m v) k) p
         ∙ (ap₂ (λ x y. (x + y) % p) (mul-mod_first (c * t.coefficient)
-                (is_at same_sig k (sig_times u t.key v)) p) (each k m)
+        (is_at same_sig k (sig_times u t.key v)) p) (each k m)
         ∙ sym (add-mod ((c * t.coefficient) * is_at same_sig k (sig_times u t.key v))
-              (coefficient_by same_sig (scale c (module_times u m v)) k) p))
+        (coefficient_by same_sig (scale c (module_times u m v)) k) p))
 
 -- ---- degrees
 
@@ -153,10 +153,14 @@ module _ (s : Setting) where
   times_degree u σ v h =
       let d : σ.degree ≡ degree_of (generator_weight s) (monomial_of σ) = ap (λ ρ. ρ.degree) h in
       let e : word_weight u + σ.degree + word_weight v ≡ degree_of (generator_weight s)
-          (times u (monomial_of σ) v) =
-          omega (arith, d, weight-append u σ.left, weight-append σ.right v) in
-      λ i. record { degree = e i; generator = σ.generator;
-            left = u ++ σ.left; right = σ.right ++ v }
+      (times u (monomial_of σ) v) =
+      omega (arith, d, weight-append u σ.left, weight-append σ.right v) in
+      λ i. record {
+        degree = e i;
+        generator = σ.generator;
+        left = u ++ σ.left;
+        right = σ.right ++ v;
+      }
 
   moved_degrees : (k : ℕ) (u : Word) (m : List (Term Sig)) (v : Word)
       → AllByRecursion (λ t. HasDegree s t.key) m
@@ -174,15 +178,16 @@ module _ (s : Setting) where
   addable_left u m v h =
       short (recursion_from_All (λ (t : Term Sig). HasDegree s t.key) m h.degrees)
       (recursion_from_All (λ (t : Term Sig). word_weight u + t.key.degree + word_weight v ≤ 100000)
-        m h.light)
+      m h.light)
     where
       each : (l : List (Term Sig)) → AllByRecursion (λ t. HasDegree s t.key) l
           → AllByRecursion (λ t. word_weight u + t.key.degree + word_weight v ≤ 100000) l
           → AllByRecursion (λ t. length u + length t.key.left ≤ 200000) l
       each [] a b = tt
-      each (t ∷ l) a b =
-          (omega (arith, ap (λ ρ. ρ.degree) a.0, b.0, length_at_most u, length_at_most t.key.left),
-            each l a.1 b.1)
+      each (t ∷ l) a b = (
+        omega (arith, ap (λ ρ. ρ.degree) a.0, b.0, length_at_most u, length_at_most t.key.left),
+        each l a.1 b.1,
+      )
 
       short : AllByRecursion (λ t. HasDegree s t.key) m
           → AllByRecursion (λ t. word_weight u + t.key.degree + word_weight v ≤ 100000) m
@@ -196,15 +201,16 @@ module _ (s : Setting) where
   addable_right u m v h =
       short (recursion_from_All (λ (t : Term Sig). HasDegree s t.key) m h.degrees)
       (recursion_from_All (λ (t : Term Sig). word_weight u + t.key.degree + word_weight v ≤ 100000)
-        m h.light)
+      m h.light)
     where
       each : (l : List (Term Sig)) → AllByRecursion (λ t. HasDegree s t.key) l
           → AllByRecursion (λ t. word_weight u + t.key.degree + word_weight v ≤ 100000) l
           → AllByRecursion (λ t. length t.key.right + length v ≤ 200000) l
       each [] a b = tt
-      each (t ∷ l) a b =
-          (omega (arith, ap (λ ρ. ρ.degree) a.0, b.0, length_at_most v, length_at_most t.key.right),
-            each l a.1 b.1)
+      each (t ∷ l) a b = (
+        omega (arith, ap (λ ρ. ρ.degree) a.0, b.0, length_at_most v, length_at_most t.key.right),
+        each l a.1 b.1,
+      )
 
       short : AllByRecursion (λ t. HasDegree s t.key) m
           → AllByRecursion (λ t. word_weight u + t.key.degree + word_weight v ≤ 100000) m
@@ -224,7 +230,7 @@ module _ (s : Setting) where
     degrees =
         All-from_recursion (λ (t : Term Sig). HasDegree s t.key) new
         (keys_kept compare_sigs sig_laws (HasDegree s) s.prime src new a e d
-          (recursion_from_All (λ (t : Term Sig). t.coefficient < s.prime) new residues));
+        (recursion_from_All (λ (t : Term Sig). t.coefficient < s.prime) new residues));
   }
 
   -- the multiple of an element, where nothing was there
@@ -234,19 +240,19 @@ module _ (s : Setting) where
       → Descends compare_sigs new → AreResiduesBy s.prime new → IsSum s (element_times u α v) new
   sum_begins α u m v new some addable is e d residues =
       let whole : module_multiples s.prime 1 u m v ++ [] ≡ module_times u m v =
-          append-nil (module_multiples s.prime 1 u m v)
-          ∙ once s.prime u m v (recursion_from_All (λ (t : Term Sig). t.coefficient < s.prime) m
-            addable.residues) in
+      append-nil (module_multiples s.prime 1 u m v)
+      ∙ once s.prime u m v (recursion_from_All (λ (t : Term Sig). t.coefficient < s.prime) m
+      addable.residues) in
       is_sum (module_multiples s.prime 1 u m v ++ []) new (element_times u α v)
       (joined_degrees (module_multiples s.prime 1 u m v) []
-            (moved_degrees 1 u m v (recursion_from_All (λ (t : Term Sig). HasDegree s t.key) m
-                addable.degrees)) tt)
+      (moved_degrees 1 u m v (recursion_from_All (λ (t : Term Sig). HasDegree s t.key) m
+      addable.degrees)) tt)
       e d residues
       (same-trans same_monomial s.prime (element_of new) (element_times u (element_of m) v)
-            (element_times u α v)
+      (element_times u α v)
       (subst (λ (l : Element). SameSum same_monomial s.prime (element_of new) l)
-            (ap element_of whole ∙ element_of-times u m v)
-            (same_elements s.prime some new (module_multiples s.prime 1 u m v ++ []) e))
+      (ap element_of whole ∙ element_of-times u m v)
+      (same_elements s.prime some new (module_multiples s.prime 1 u m v ++ []) e))
       (same_times s.prime some u (element_of m) α v is))
 
   -- one step more
@@ -254,35 +260,35 @@ module _ (s : Setting) where
       (old new : List (Term Sig)) → c < s.prime → IsAddable s u m v
       → SameSum same_monomial s.prime (element_of m) β
       → SameSum same_sig s.prime new (module_multiples s.prime ((s.prime - c) % s.prime) u m v
-        ++ old) → Descends compare_sigs new → AreResiduesBy s.prime new → IsSum s α old
+      ++ old) → Descends compare_sigs new → AreResiduesBy s.prime new → IsSum s α old
       → IsSum s (minus s.prime α c (element_times u β v)) new
   sum_steps α β c u m v old new small addable is e d residues h =
       let k = (s.prime - c) % s.prime in
       let some : 0 < s.prime = omega arith in
       let turned : SameSum same_sig s.prime new (minus s.prime old c (module_times u m v)) =
       same-trans same_sig s.prime new (module_multiples s.prime k u m v ++ old)
-          (minus s.prime old c (module_times u m v)) e
+      (minus s.prime old c (module_times u m v)) e
       (same-trans same_sig s.prime (module_multiples s.prime k u m v ++ old)
-            (old ++ module_multiples s.prime k u m v) (minus s.prime old c (module_times u m v))
+      (old ++ module_multiples s.prime k u m v) (minus s.prime old c (module_times u m v))
       (same-permutation same_sig s.prime (module_multiples s.prime k u m v ++ old)
-            (old ++ module_multiples s.prime k u m v)
-            (IsPermutation-append_comm (module_multiples s.prime k u m v) old))
+      (old ++ module_multiples s.prime k u m v)
+      (IsPermutation-append_comm (module_multiples s.prime k u m v) old))
       (same_moved same_sig s.prime c (λ σ. sig_times u σ v) old m small)) in
       is_sum (module_multiples s.prime k u m v ++ old) new (minus s.prime α c (element_times u β v))
       (joined_degrees (module_multiples s.prime k u m v) old
-            (moved_degrees k u m v (recursion_from_All (λ (t : Term Sig). HasDegree s t.key) m
-                addable.degrees)) (recursion_from_All (λ (t : Term Sig). HasDegree s t.key) old
-              h.degrees))
+      (moved_degrees k u m v (recursion_from_All (λ (t : Term Sig). HasDegree s t.key) m
+      addable.degrees)) (recursion_from_All (λ (t : Term Sig). HasDegree s t.key) old
+      h.degrees))
       e d residues
       (same-trans same_monomial s.prime (element_of new)
-            (minus s.prime (element_of old) c (element_times u (element_of m) v))
-            (minus s.prime α c (element_times u β v))
+      (minus s.prime (element_of old) c (element_times u (element_of m) v))
+      (minus s.prime α c (element_times u β v))
       (subst (λ (l : Element). SameSum same_monomial s.prime (element_of new) l)
-            (element_of-minus s.prime c old (module_times u m v)
-              ∙ ap (λ (l : Element). minus s.prime (element_of old) c l) (element_of-times u m v))
-            (same_elements s.prime some new (minus s.prime old c (module_times u m v)) turned))
+      (element_of-minus s.prime c old (module_times u m v)
+      ∙ ap (λ (l : Element). minus s.prime (element_of old) c l) (element_of-times u m v))
+      (same_elements s.prime some new (minus s.prime old c (module_times u m v)) turned))
       (same_minus same_monomial s.prime c (element_of old) α (element_times u (element_of m) v)
-            (element_times u β v) h.same (same_times s.prime some u (element_of m) β v is)))
+      (element_times u β v) h.same (same_times s.prime some u (element_of m) β v is)))
 
   -- one multiple more
   pub sum_adds : (α β : Element) (c : ℕ) (u : Word) (m : List (Term Sig)) (v : Word)
@@ -294,30 +300,30 @@ module _ (s : Setting) where
   sum_adds α β c u m v old new some addable is e d residues h =
       let turned : SameSum same_sig s.prime new (scale c (module_times u m v) ++ old) =
       same-trans same_sig s.prime new (module_multiples s.prime c u m v ++ old)
-          (scale c (module_times u m v) ++ old) e
+      (scale c (module_times u m v) ++ old) e
       (same-append same_sig s.prime (module_multiples s.prime c u m v)
-            (scale c (module_times u m v)) old old (same_multiples s.prime c u m v)
-            (same-refl same_sig s.prime old)) in
+      (scale c (module_times u m v)) old old (same_multiples s.prime c u m v)
+      (same-refl same_sig s.prime old)) in
       let whole : element_of (scale c (module_times u m v) ++ old) ≡ scale c
-          (element_times u (element_of m) v) ++ element_of old =
+      (element_times u (element_of m) v) ++ element_of old =
       element_of-append (scale c (module_times u m v)) old
-          ∙ ap (λ (l : Element). l ++ element_of old) (element_of-scale c (module_times u m v)
-            ∙ ap (scale c) (element_of-times u m v)) in
+      ∙ ap (λ (l : Element). l ++ element_of old) (element_of-scale c (module_times u m v)
+      ∙ ap (scale c) (element_of-times u m v)) in
       is_sum (module_multiples s.prime c u m v ++ old) new (scale c (element_times u β v) ++ α)
       (joined_degrees (module_multiples s.prime c u m v) old
-            (moved_degrees c u m v (recursion_from_All (λ (t : Term Sig). HasDegree s t.key) m
-                addable.degrees)) (recursion_from_All (λ (t : Term Sig). HasDegree s t.key) old
-              h.degrees))
+      (moved_degrees c u m v (recursion_from_All (λ (t : Term Sig). HasDegree s t.key) m
+      addable.degrees)) (recursion_from_All (λ (t : Term Sig). HasDegree s t.key) old
+      h.degrees))
       e d residues
       (same-trans same_monomial s.prime (element_of new)
-            (scale c (element_times u (element_of m) v) ++ element_of old)
-            (scale c (element_times u β v) ++ α)
+      (scale c (element_times u (element_of m) v) ++ element_of old)
+      (scale c (element_times u β v) ++ α)
       (subst (λ (l : Element). SameSum same_monomial s.prime (element_of new) l) whole
-            (same_elements s.prime some new (scale c (module_times u m v) ++ old) turned))
+      (same_elements s.prime some new (scale c (module_times u m v) ++ old) turned))
       (same-append same_monomial s.prime (scale c (element_times u (element_of m) v))
-            (scale c (element_times u β v)) (element_of old) α
+      (scale c (element_times u β v)) (element_of old) α
       (same_scale same_monomial s.prime c (element_times u (element_of m) v) (element_times u β v)
-            (same_times s.prime some u (element_of m) β v is)) h.same))
+      (same_times s.prime some u (element_of m) β v is)) h.same))
 
   -- no terms
   pub no_sum : (m : List (Term Sig)) → m ≡ [] → IsSum s [] m
@@ -334,6 +340,6 @@ module _ (s : Setting) where
       → IsSum s α old → IsSum s α new
   sum_ends α old new some e d residues h =
       is_sum old new α (recursion_from_All (λ (t : Term Sig). HasDegree s t.key) old h.degrees) e d
-          residues
+      residues
       (same-trans same_monomial s.prime (element_of new) (element_of old) α
-            (same_elements s.prime some new old e) h.same)
+      (same_elements s.prime some new old e) h.same)

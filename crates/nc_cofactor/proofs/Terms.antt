@@ -25,13 +25,17 @@ use Rattle.std.specs.List.{AllByRecursion}
 -- an element has one number of terms
 pub terms_once : (p : ℕ) (α : Element) (n m : ℕ) → HasTerms p α n → HasTerms p α m → n ≡ m
 terms_once p α n m a b =
-    omega (arith, a.count, b.count,
+    omega (
+      arith,
+      a.count,
+      b.count,
       at_most a.monomials b.monomials a.distinct
-      (λ x k. contains_among x b.monomials
-        ((b.exact x).1 ((a.exact x).0 (among_contains x a.monomials k)))),
+          (λ x k. contains_among x b.monomials
+          ((b.exact x).1 ((a.exact x).0 (among_contains x a.monomials k)))),
       at_most b.monomials a.monomials b.distinct
-      (λ x k. contains_among x a.monomials
-        ((a.exact x).1 ((b.exact x).0 (among_contains x b.monomials k)))))
+          (λ x k. contains_among x a.monomials
+          ((a.exact x).1 ((b.exact x).0 (among_contains x b.monomials k)))),
+    )
 
 module _ (s : Setting) where
   -- a monomial with its right degree is known by itself
@@ -50,8 +54,8 @@ module _ (s : Setting) where
           k x
       go (inl e) =
           subst (λ (y : Sig). is_at same_monomial (monomial_of k) (monomial_of y) ≡ is_at same_sig k
-            y) e (at_self same_monomial (IsLess s) (monomial_laws (generator_weight s))
-            (monomial_of k) ∙ sym (at_self same_sig (λ σ τ. compare_sigs σ τ ≡ Less) sig_laws k))
+          y) e (at_self same_monomial (IsLess s) (monomial_laws (generator_weight s))
+          (monomial_of k) ∙ sym (at_self same_sig (λ σ τ. compare_sigs σ τ ≡ Less) sig_laws k))
       go (inr n) =
           at_other same_monomial (IsLess s) (monomial_laws (generator_weight s)) (monomial_of k)
           (monomial_of x) (λ e. n (by_monomial k x a b e))
@@ -71,7 +75,7 @@ module _ (s : Setting) where
   apart k h [] a b e = e
   apart k h (x ∷ m) a b (inl e) =
       sig_laws.irrefl k (subst (λ (y : Sig). compare_sigs y k ≡ Less)
-        (by_monomial x.key k a.0 h (sym e)) b.0)
+      (by_monomial x.key k a.0 h (sym e)) b.0)
   apart k h (x ∷ m) a b (inr e) = apart k h m a.1 b.1 e
 
   distinct : (m : List (Term Sig)) → AllByRecursion (λ t. HasDegree s t.key) m
@@ -85,54 +89,57 @@ module _ (s : Setting) where
   listed (t ∷ m) σ (inl e) = (t, inl refl, e)
   listed (t ∷ m) σ (inr h) =
       let r : (t : Term Sig) × Among t m × (σ ≡ monomial_of t.key) =
-          listed m σ h in (r.0, inr r.1, r.2)
+      listed m σ h in (r.0, inr r.1, r.2)
 
   there : (m : List (Term Sig)) (σ : Monomial)
       → ¬ IsZero s.prime (coefficient_by same_monomial (element_of m) σ) → Among σ (monomials m)
   there [] σ n = absurd (n (zero_number s.prime))
   there (t ∷ m) σ n =
       go (there m σ) (key_dec same_monomial (IsLess s) (monomial_laws (generator_weight s)) σ
-        (monomial_of t.key))
+      (monomial_of t.key))
     where
       go : (¬ IsZero s.prime (coefficient_by same_monomial (element_of m) σ)
-            → Among σ (monomials m)) → (σ ≡ monomial_of t.key) ⊎ (σ ≢ monomial_of t.key)
+          → Among σ (monomials m)) → (σ ≡ monomial_of t.key) ⊎ (σ ≢ monomial_of t.key)
           → Among σ (monomials (t ∷ m))
       go rest (inl e) = inl e
       go rest (inr d) =
           inr (rest (λ z. n (subst (IsZero s.prime)
-                (omega (arith, ap (λ n. t.coefficient * n)
-                  (at_other same_monomial (IsLess s) (monomial_laws (generator_weight s)) σ
-                  (monomial_of t.key) d))) z)))
+          (omega (
+            arith,
+            ap (λ n. t.coefficient * n)
+                (at_other same_monomial (IsLess s) (monomial_laws (generator_weight s)) σ
+                (monomial_of t.key) d),
+          )) z)))
 
   -- each listed monomial has a coefficient other than 0
   pub listed_counts : (α : Element) (m : List (Term Sig)) → IsSum s α m → (t : Term Sig) → Among t m
       → ¬ IsZero s.prime (coefficient_by same_monomial α (monomial_of t.key))
   listed_counts α m h t k z =
       let a : AllByRecursion (λ (t : Term Sig). HasDegree s t.key) m =
-          recursion_from_All (λ (t : Term Sig). HasDegree s t.key) m h.degrees in
+      recursion_from_All (λ (t : Term Sig). HasDegree s t.key) m h.degrees in
       listed_nonzero compare_sigs sig_laws s.prime m h.descends
-          (recursion_from_All (λ (t : Term Sig). t.coefficient < s.prime) m h.residues) t k
+      (recursion_from_All (λ (t : Term Sig). t.coefficient < s.prime) m h.residues) t k
       (subst (IsZero s.prime) (coefficient_at t.key
-              (all_among (λ (t : Term Sig). HasDegree s t.key) m a t k) m a)
-            (zero_by_same s.prime (coefficient_by same_monomial (element_of m) (monomial_of t.key))
-              (coefficient_by same_monomial α (monomial_of t.key)) (h.same.at (monomial_of t.key))
-              z))
+      (all_among (λ (t : Term Sig). HasDegree s t.key) m a t k) m a)
+      (zero_by_same s.prime (coefficient_by same_monomial (element_of m) (monomial_of t.key))
+      (coefficient_by same_monomial α (monomial_of t.key)) (h.same.at (monomial_of t.key))
+      z))
 
   pub has_terms : (α : Element) (m : List (Term Sig)) → IsSum s α m → HasTerms s.prime α (length m)
   has_terms α m h =
       let a : AllByRecursion (λ (t : Term Sig). HasDegree s t.key) m =
-          recursion_from_All (λ (t : Term Sig). HasDegree s t.key) m h.degrees in
+      recursion_from_All (λ (t : Term Sig). HasDegree s t.key) m h.degrees in
       record {
         monomials = monomials m;
         distinct = distinct m a h.descends;
         exact = λ σ. (
           (λ c. let r : (t : Term Sig) × Among t m
-                × (σ ≡ monomial_of t.key) = listed m σ (contains_among σ (monomials m) c) in
-                subst (λ ρ. ¬ IsZero s.prime (coefficient_by same_monomial α ρ)) (sym r.2)
-                (listed_counts α m h r.0 r.1)),
+              × (σ ≡ monomial_of t.key) = listed m σ (contains_among σ (monomials m) c) in
+              subst (λ ρ. ¬ IsZero s.prime (coefficient_by same_monomial α ρ)) (sym r.2)
+              (listed_counts α m h r.0 r.1)),
           (λ n. among_contains σ (monomials m)
-                (there m σ (λ z. n (zero_by_same s.prime (coefficient_by same_monomial α σ)
-                      (coefficient_by same_monomial (element_of m) σ) (sym (h.same.at σ)) z)))),
+              (there m σ (λ z. n (zero_by_same s.prime (coefficient_by same_monomial α σ)
+              (coefficient_by same_monomial (element_of m) σ) (sym (h.same.at σ)) z)))),
         );
         count = length-map m (λ t. monomial_of t.key);
       }
@@ -144,8 +151,8 @@ module _ (s : Setting) where
   no_degree k n [] a = refl
   no_degree k n (t ∷ m) a =
       let other : is_at same_sig k t.key ≡ 0 =
-          at_other same_sig (λ σ τ. compare_sigs σ τ ≡ Less) sig_laws k t.key
-          (λ e. n (subst (HasDegree s) (sym e) a.0)) in
+      at_other same_sig (λ σ τ. compare_sigs σ τ ≡ Less) sig_laws k t.key
+      (λ e. n (subst (HasDegree s) (sym e) a.0)) in
       omega (arith, ap (λ i. t.coefficient * i) other, no_degree k n m a.1)
 
   -- equal elements are equal sums with their degrees
@@ -153,8 +160,10 @@ module _ (s : Setting) where
       → AllByRecursion (λ t. HasDegree s t.key) m'
       → SameSum same_monomial s.prime (element_of m) (element_of m') → SameSum same_sig s.prime m m'
   same_sigs m m' a b e =
-      record { at = λ k. go k (key_dec same_sig (λ σ τ. compare_sigs σ τ ≡ Less) sig_laws k
-          (sig_of (generator_weight s) (monomial_of k))) }
+      record {
+        at = λ k. go k (key_dec same_sig (λ σ τ. compare_sigs σ τ ≡ Less) sig_laws k
+            (sig_of (generator_weight s) (monomial_of k)));
+      }
     where
       go : (k : Sig) → HasDegree s k ⊎ ¬ HasDegree s k
           → coefficient_by same_sig m k % s.prime ≡ coefficient_by same_sig m' k % s.prime
@@ -170,6 +179,6 @@ module _ (s : Setting) where
       h.descends (recursion_from_All (λ (t : Term Sig). t.coefficient < s.prime) m h.residues)
       h'.descends (recursion_from_All (λ (t : Term Sig). t.coefficient < s.prime) m' h'.residues)
       (same_sigs m m' (recursion_from_All (λ (t : Term Sig). HasDegree s t.key) m h.degrees)
-            (recursion_from_All (λ (t : Term Sig). HasDegree s t.key) m' h'.degrees)
+      (recursion_from_All (λ (t : Term Sig). HasDegree s t.key) m' h'.degrees)
       (same-trans same_monomial s.prime (element_of m) α (element_of m') h.same
-            (same-sym same_monomial s.prime (element_of m') α h'.same)))
+      (same-sym same_monomial s.prime (element_of m') α h'.same)))

@@ -86,7 +86,7 @@ abbrev pub IsTooManyFor : ℕ → State → List Step → ℕ → Listed → ℕ
 IsTooManyFor p run steps limit (EntryOf k) n =
     IsNeededFor run.entries (numbers_of steps) k × EntryTerms p run k n × (limit < n)
     × ((j m : ℕ) → IsNeededFor run.entries (numbers_of steps) j → j < k → EntryTerms p run j m
-      → m ≤ limit)
+    → m ≤ limit)
 IsTooManyFor p run steps limit (SyzygyOf k) n = ⊥
 IsTooManyFor p run steps limit Claim n =
     HasTerms p (step_multiples (labels_of p run.entries) steps) n × (limit < n)

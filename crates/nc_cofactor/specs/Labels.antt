@@ -28,13 +28,13 @@ IsLabelIn p run Claim α = ⊥
 
 -- the module element is the label, in normal form, each degree right
 pub record IsLabelOf (s : Setting) (run : State) (listed : Listed) (m : List (Term Sig)) : Type 0
-    where
-  pub label : Element
-  pub is : IsLabelIn s.prime run listed label
-  pub same : SameSum same_monomial s.prime (element_of m) label
-  pub descends : Descends compare_sigs m
-  pub residues : AreResiduesBy s.prime m
-  pub degrees : All (λ t. HasDegree s t.key) m
+  where
+    pub label : Element
+    pub is : IsLabelIn s.prime run listed label
+    pub same : SameSum same_monomial s.prime (element_of m) label
+    pub descends : Descends compare_sigs m
+    pub residues : AreResiduesBy s.prime m
+    pub degrees : All (λ t. HasDegree s t.key) m
 
 -- the same in the sequential run of n steps
 pub record HasLabel (P : Problem) (n : ℕ) (listed : Listed) (m : List (Term Sig)) : Type 0 where

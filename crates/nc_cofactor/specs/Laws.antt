@@ -18,7 +18,7 @@ abbrev pub OneLabel : Type 0
 OneLabel = (s : Setting) → 1 < s.prime → (run : State) (listed : Listed) →
     ((m m' : List (Term Sig)) → IsLabelOf s run listed m → IsLabelOf s run listed m' → m ≡ m')
     × ((m : List (Term Sig)) → IsLabelOf s run listed m → (α : Element)
-          → IsLabelIn s.prime run listed α → HasTerms s.prime α (length m))
+    → IsLabelIn s.prime run listed α → HasTerms s.prime α (length m))
     × ((α : Element) (n n' : ℕ) → HasTerms s.prime α n → HasTerms s.prime α n' → n ≡ n')
 
 -- each label has a normal form
@@ -32,8 +32,8 @@ LabelsExist =
 abbrev pub OneFirst : Type 0
 OneFirst = (s : Setting) → IsPrime s.prime → (run : State) (limit : ℕ) →
     (AllWithin s.prime run limit ⊎ ((named : Listed) × (n : ℕ)
-            × IsFirstOf s.prime run limit named n))
+    × IsFirstOf s.prime run limit named n))
     × ((named : Listed) (n : ℕ) → AllWithin s.prime run limit → IsFirstOf s.prime run limit named n
-          → ⊥)
+    → ⊥)
     × ((named named' : Listed) (n n' : ℕ) → IsFirstOf s.prime run limit named n
-          → IsFirstOf s.prime run limit named' n' → (named ≡ named') × (n ≡ n'))
+    → IsFirstOf s.prime run limit named' n' → (named ≡ named') × (n ≡ n'))

@@ -33,5 +33,5 @@ CofactorsAreOver =
     → (listed : Listed) →
     ((t : Trace) → IsTraceIn run listed t → IsTraceOver P.alphabet t)
     × ((m : List (Term Sig)) → IsLabelOf P.problem.setting run listed m
-          → All (λ t. IsWordIn P.alphabet t.key.left) m
-          × All (λ t. IsWordIn P.alphabet t.key.right) m)
+    → All (λ t. IsWordIn P.alphabet t.key.left) m
+    × All (λ t. IsWordIn P.alphabet t.key.right) m)

@@ -58,14 +58,14 @@ IsFound run marks k (Some t) = IsTraceIn run (EntryOf k) t × IsReached run.entr
 
 -- of each entry that is reached the trace is there, that of entry 1 last
 pub record AreFound (P : Problem) (n : ℕ) (marks : List Bool) (stack : List (Option Trace)) : Type 0
-    where
-  pub run : State
-  pub last : Option Monomial
-  pub runs : SequentialRun P n run last
-  pub size : length marks ≡ length run.entries
-  pub height : length stack ≡ length run.entries
-  pub slots : (k : ℕ) (o : Option Trace) → 1 ≤ k → k ≤ length run.entries
-      → slice_get stack (length run.entries - k) ≡ Some o → IsFound run marks k o
+  where
+    pub run : State
+    pub last : Option Monomial
+    pub runs : SequentialRun P n run last
+    pub size : length marks ≡ length run.entries
+    pub height : length stack ≡ length run.entries
+    pub slots : (k : ℕ) (o : Option Trace) → 1 ≤ k → k ≤ length run.entries
+        → slice_get stack (length run.entries - k) ≡ Some o → IsFound run marks k o
 
 -- the traces that are there, each beside its number, from the last one of the stack to the first
 pub record AreNumbered (stack : List (Option Trace)) (numbered : List (ℕ × Trace)) : Type 0 where

@@ -48,9 +48,9 @@ pub record IsSummable (s : Setting) (labels : List (List (Term Sig))) (trace : T
 
 -- the multiples of the labels that the steps name can be added up
 pub record AreSummable (s : Setting) (labels : List (List (Term Sig))) (steps : List Step) : Type 0
-    where
-  pub residues : All (λ t. t.coefficient < s.prime) steps
-  pub placed : All (λ t. IsPlaced s labels t.left t.number t.right) steps
+  where
+    pub residues : All (λ t. t.coefficient < s.prime) steps
+    pub placed : All (λ t. IsPlaced s labels t.left t.number t.right) steps
 
 -- the elements in their places
 abbrev pub elements_of : List (List (Term Sig)) → List Element

@@ -84,17 +84,17 @@ pub record IsTooManyAt (P : Problem) (n : ℕ) (listed : Listed) (limit : ℕ) (
 
 -- entry number k is the least one whose label has more terms, and has so many
 pub record IsFirstTooMany (P : Problem) (n : ℕ) (limit : ℕ) (named : Listed) (terms : ℕ) : Type 0
-    where
-  pub run : State
-  pub last : Option Monomial
-  pub runs : SequentialRun P n run last
-  pub number : ℕ
-  pub names : named ≡ EntryOf number
-  pub some : 1 ≤ number
-  pub within : number ≤ length run.entries
-  pub has : EntryTerms P.setting.prime run number terms
-  pub many : limit < terms
-  pub lesser : (j m : ℕ) → 1 ≤ j → j < number → EntryTerms P.setting.prime run j m → m ≤ limit
+  where
+    pub run : State
+    pub last : Option Monomial
+    pub runs : SequentialRun P n run last
+    pub number : ℕ
+    pub names : named ≡ EntryOf number
+    pub some : 1 ≤ number
+    pub within : number ≤ length run.entries
+    pub has : EntryTerms P.setting.prime run number terms
+    pub many : limit < terms
+    pub lesser : (j m : ℕ) → 1 ≤ j → j < number → EntryTerms P.setting.prime run j m → m ≤ limit
 
 -- syzygy number k is the least one whose label has more terms, and has so many
 pub record IsFirstTooManySyzygy (P : Problem) (n : ℕ) (limit : ℕ) (named : Listed)
@@ -129,6 +129,6 @@ IsFirstOf p run limit (SyzygyOf k) n =
     (1 ≤ k) × (k ≤ length run.syzygies)
     × ((α : Element) × IsLabelIn p run (SyzygyOf k) α × HasTerms p α n) × (limit < n)
     × ((j m : ℕ) (α : Element) → 1 ≤ j → j < k → IsLabelIn p run (SyzygyOf j) α → HasTerms p α m
-          → m ≤ limit) × ((j m : ℕ) → 1 ≤ j → j ≤ length run.entries → EntryTerms p run j m
-          → m ≤ limit)
+    → m ≤ limit) × ((j m : ℕ) → 1 ≤ j → j ≤ length run.entries → EntryTerms p run j m
+    → m ≤ limit)
 IsFirstOf p run limit Claim n = ⊥

@@ -11,7 +11,7 @@ use nc_snapshot::Snapshot;
 pub(crate) fn entries_below(snapshot: &Snapshot, sig: &Sig) -> u32
     requires { HasDegree snapshot.now.problem.problem.setting sig.now }
     ensures { AreLesser snapshot.now.problem.problem.setting snapshot.now.state.entries
-          (monomial_of sig.now) result }
+        (monomial_of sig.now) result }
 {
     snapshot.recall_rule();
     let mut low = 0;

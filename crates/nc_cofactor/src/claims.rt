@@ -42,7 +42,7 @@ pub fn needed_traces(
     requires leads { LeadsOf snapshot.now leads.now }
     requires listed { All (λ j. (1 ≤ j) × (j ≤ length snapshot.now.state.entries)) numbers.now }
     ensures { IfOk result (λ l. AreNeededTraces snapshot.now.problem.problem snapshot.now.handled
-            numbers.now l.items) }
+        numbers.now l.items) }
 {
     snapshot.recall_rule();
     let mut kept = no_marks(alloc, snapshot.entries())?;
@@ -63,7 +63,7 @@ pub fn needed(
     requires leads { LeadsOf snapshot.now leads.now }
     requires listed { All (λ j. (1 ≤ j) × (j ≤ length snapshot.now.state.entries)) numbers.now }
     ensures { IfOk result (λ l. AreNeededFor snapshot.now.problem.problem snapshot.now.handled
-            numbers.now l.items) }
+        numbers.now l.items) }
 {
     let traces = needed_traces(alloc, snapshot, leads, numbers)?;
     traces.iter().map(|(number, _)| *number).collect(alloc)
@@ -82,12 +82,11 @@ pub fn represent(
     limit: u64,
 ) -> Result<Module, CofactorFault>
     requires leads { LeadsOf snapshot.now leads.now }
-    requires steps { AreSubtracted snapshot.now.problem.problem snapshot.now.state.entries steps.now
-          }
+    requires steps { AreSubtracted snapshot.now.problem.problem snapshot.now.state.entries steps.now }
     ensures label { IfOk result (IsRepresentation snapshot.now.problem.problem snapshot.now.handled
-            steps.now limit) }
+        steps.now limit) }
     ensures fault { IfErr result (FailsToRepresent snapshot.now.problem.problem snapshot.now.handled
-            steps.now limit) }
+        steps.now limit) }
 {
     let problem = snapshot.problem();
     let mut kept = no_marks(alloc, snapshot.entries())?;

@@ -30,9 +30,9 @@ pub fn expand(
     requires leads { LeadsOf snapshot.now leads.now }
     requires listed { IsListed snapshot.now.state listed }
     ensures label { IfOk result (IsExpanded snapshot.now.problem.problem snapshot.now.handled listed
-            limit) }
+        limit) }
     ensures fault { IfErr result (FailsToExpand snapshot.now.problem.problem snapshot.now.handled
-            listed limit) }
+        listed limit) }
 {
     snapshot.recall_rule();
     let trace = trace_of(alloc, snapshot, leads, listed)?;

@@ -25,14 +25,14 @@ fn next_label(
 ) -> Result<Module, CofactorFault>
     requires few { length labels.now ≤ 1000000000 }
     requires named { (t : TraceValue) → slot ≡ Some t
-          → AreNamedLabels snapshot.now.problem.problem snapshot.now.handled
-          (EntryOf (length labels.now + 1)) t labels.now }
+        → AreNamedLabels snapshot.now.problem.problem snapshot.now.handled
+        (EntryOf (length labels.now + 1)) t labels.now }
     ensures label { IfOk result (IsNewLabel snapshot.now.problem.problem snapshot.now.handled limit
-            (length labels.now + 1) slot) }
+        (length labels.now + 1) slot) }
     ensures fault { IfErr result (λ e. (e ≡ CofactorFault.OutOfMemory)
-            ⊎ ((t : TraceValue) × (slot ≡ Some t)
-              × FailsToSum snapshot.now.problem.problem snapshot.now.handled
-              (EntryOf (length labels.now + 1)) limit e)) }
+        ⊎ ((t : TraceValue) × (slot ≡ Some t)
+        × FailsToSum snapshot.now.problem.problem snapshot.now.handled
+        (EntryOf (length labels.now + 1)) limit e)) }
 {
     let Some(trace) = slot else {
         return Ok(Module::zero(alloc));
@@ -55,9 +55,9 @@ pub(crate) fn labels_from(
     requires leads { LeadsOf snapshot.now leads.now }
     requires size { length marks.old ≡ length snapshot.now.state.entries }
     ensures labels { IfOk result (λ l. AreFilled snapshot.now.problem.problem snapshot.now.handled
-            marks.old limit l.items) }
+        marks.old limit l.items) }
     ensures fault { IfErr result (FailsToFill snapshot.now.problem.problem snapshot.now.handled
-            marks.old limit) }
+        marks.old limit) }
 {
     snapshot.recall_rule();
     let mut stack = traces_from(alloc, snapshot, leads, marks)?;

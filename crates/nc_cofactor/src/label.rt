@@ -30,7 +30,7 @@ fn label_in(labels: &[Module], number: u32) -> &Module
 fn begin_with_generator(alloc: Global, setting: &Setting, i: u32) -> Result<Sum<Sig>, AllocError>
     requires { IsGenerator setting.now.setting i }
     ensures { IfOk result (λ sum. IsSum setting.now.setting
-            (start_label [] (Beginning.a_generator i)) sum) }
+        (start_label [] (Beginning.a_generator i)) sum) }
 {
     let at = Sig::of(setting.weight(i), i, Word::empty(alloc), Word::empty(alloc));
     let prime = setting.prime();
@@ -51,7 +51,7 @@ fn begin_with_multiple(
 ) -> Result<Sum<Sig>, AllocError>
     requires { IsPlaced setting.now.setting labels.now left.now number right.now }
     ensures { IfOk result (λ sum. IsSum setting.now.setting
-            (element_times left.now (label_at (elements_of labels.now) number) right.now) sum) }
+        (element_times left.now (label_at (elements_of labels.now) number) right.now) sum) }
 {
     let label = label_in(labels, number);
     let prime = setting.prime();
@@ -71,7 +71,7 @@ fn begin(
 ) -> Result<Sum<Sig>, AllocError>
     requires { IsStartPlaced setting.now.setting labels.now (start_of start.now) }
     ensures { IfOk result (λ sum. IsSum setting.now.setting
-            (start_label (elements_of labels.now) (start_of start.now)) sum) }
+        (start_label (elements_of labels.now) (start_of start.now)) sum) }
 {
     match start {
         Start::Generator(i) => begin_with_generator(alloc, setting, *i),
@@ -101,11 +101,11 @@ fn take_step(
     requires before { AreResiduesBy setting.now.setting.prime sum.old }
     requires residue { step.now.coefficient < setting.now.setting.prime }
     requires placed { IsPlaced setting.now.setting labels.now step.now.left step.now.number
-          step.now.right }
+        step.now.right }
     ensures { OnOk result ((α : Element) → IsSum setting.now.setting α sum.old
-            → IsSum setting.now.setting (minus setting.now.setting.prime α step.now.coefficient
-              (element_times step.now.left (label_at (elements_of labels.now) step.now.number)
-                step.now.right)) sum.new) }
+        → IsSum setting.now.setting (minus setting.now.setting.prime α step.now.coefficient
+        (element_times step.now.left (label_at (elements_of labels.now) step.now.number)
+        step.now.right)) sum.new) }
 {
     let label = label_in(labels, step.number);
     let c = setting.prime().neg(step.coefficient);
@@ -133,11 +133,11 @@ fn add_step(
     requires before { AreResiduesBy setting.now.setting.prime sum.old }
     requires residue { step.now.coefficient < setting.now.setting.prime }
     requires placed { IsPlaced setting.now.setting labels.now step.now.left step.now.number
-          step.now.right }
+        step.now.right }
     ensures { OnOk result ((α : Element) → IsSum setting.now.setting α sum.old
-            → IsSum setting.now.setting (scale step.now.coefficient
-              (element_times step.now.left (label_at (elements_of labels.now) step.now.number)
-                step.now.right) ++ α) sum.new) }
+        → IsSum setting.now.setting (scale step.now.coefficient
+        (element_times step.now.left (label_at (elements_of labels.now) step.now.number)
+        step.now.right) ++ α) sum.new) }
 {
     let label = label_in(labels, step.number);
     setting.recall_rule();
@@ -164,7 +164,7 @@ pub(crate) fn steps_sum(
 ) -> Result<Module, AllocError>
     requires { AreSummable setting.now.setting labels.now steps.now }
     ensures { IfOk result (IsSum setting.now.setting
-            (step_multiples (elements_of labels.now) steps.now)) }
+        (step_multiples (elements_of labels.now) steps.now)) }
 {
     let mut sum = Sum::new(alloc);
     for step in steps {

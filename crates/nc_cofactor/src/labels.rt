@@ -25,12 +25,11 @@ pub(crate) fn item_label(
     limit: u64,
 ) -> Result<Module, CofactorFault>
     requires { AreNamedLabels snapshot.now.problem.problem snapshot.now.handled listed trace.now
-          labels.now }
-    ensures label { IfOk result (HasLabel snapshot.now.problem.problem snapshot.now.handled listed)
-          }
+        labels.now }
+    ensures label { IfOk result (HasLabel snapshot.now.problem.problem snapshot.now.handled listed) }
     ensures few { IfOk result (λ m. length m ≤ limit) }
     ensures fault { IfErr result (FailsToSum snapshot.now.problem.problem snapshot.now.handled
-            listed limit) }
+        listed limit) }
 {
     let problem = snapshot.problem();
     let label = trace_sum(alloc, problem.setting(), labels, trace)?;
@@ -55,10 +54,10 @@ fn entry_label(
     requires labels { AreLabels snapshot.now.problem.problem snapshot.now.handled labels.now }
     requires next { number ≡ length labels.now + 1 }
     ensures label { IfOk result (HasLabel snapshot.now.problem.problem snapshot.now.handled
-            (EntryOf number)) }
+        (EntryOf number)) }
     ensures few { IfOk result (λ m. length m ≤ limit) }
     ensures fault { IfErr result (FailsToSum snapshot.now.problem.problem snapshot.now.handled
-            (EntryOf number) limit) }
+        (EntryOf number) limit) }
 {
     snapshot.recall_rule();
     let listed = Listed::Entry(number);
@@ -97,7 +96,7 @@ impl Labels {
         ensures all { IfOk result (λ l. length l ≡ length snapshot.now.state.entries) }
         ensures few { IfOk result (All (λ m. length m ≤ limit)) }
         ensures fault { IfErr result (FailsToLabel snapshot.now.problem.problem snapshot.now.handled
-                limit) }
+            limit) }
     {
         snapshot.recall_rule();
         let mut kept = Vec::new(alloc);
@@ -132,11 +131,11 @@ impl Labels {
         requires labels { AreLabels snapshot.now.problem.problem snapshot.now.handled self.now }
         requires all { length self.now ≡ length snapshot.now.state.entries }
         ensures labels { IfOk result (λ l. AreSyzygyLabels snapshot.now.problem.problem
-                snapshot.now.handled l.items) }
+            snapshot.now.handled l.items) }
         ensures all { IfOk result (λ l. length l.items ≡ length snapshot.now.state.syzygies) }
         ensures few { IfOk result (λ l. All (λ m. length m ≤ limit) l.items) }
         ensures fault { IfErr result (FailsToLabelSyzygies snapshot.now.problem.problem
-                snapshot.now.handled limit) }
+            snapshot.now.handled limit) }
     {
         snapshot.recall_rule();
         let mut kept = Vec::new(alloc);
@@ -164,10 +163,10 @@ impl Labels {
         requires labels { AreLabels snapshot.now.problem.problem snapshot.now.handled self.now }
         requires all { length self.now ≡ length snapshot.now.state.entries }
         ensures label { IfOk result (HasLabel snapshot.now.problem.problem snapshot.now.handled
-                (SyzygyOf number)) }
+            (SyzygyOf number)) }
         ensures few { IfOk result (λ m. length m ≤ limit) }
         ensures fault { IfErr result (FailsToSum snapshot.now.problem.problem snapshot.now.handled
-                (SyzygyOf number) limit) }
+            (SyzygyOf number) limit) }
     {
         snapshot.recall_rule();
         let listed = Listed::Syzygy(number);

@@ -31,10 +31,10 @@ fn is_unit(sig: &Sig) -> bool
 fn best_of_first(snapshot: &Snapshot, sig: &Sig, entries: u32) -> Multiple
     requires few { entries ≤ length snapshot.now.state.entries }
     requires start { HasStart snapshot.now.problem.problem.setting snapshot.now.state.entries
-          (monomial_of sig.now) entries }
+        (monomial_of sig.now) entries }
     requires other { monomial_of sig.now ≢ unit_monomial sig.now.generator }
     ensures { IsBestWithin snapshot.now.problem.problem.setting snapshot.now.state.entries
-          (monomial_of sig.now) 0 entries (Some result) }
+        (monomial_of sig.now) 0 entries (Some result) }
 {
     match best_multiple(snapshot, sig, 0, entries) {
         Some(best) => best,
@@ -47,7 +47,7 @@ fn multiple_start(alloc: Global, sig: &Sig, best: &Multiple) -> Result<Start, Al
     requires left { best.now.left ≤ length sig.now.left }
     requires right { best.now.right ≤ length sig.now.right }
     ensures { IfOk result (λ a. start_of a ≡ Beginning.a_multiple (take best.now.left sig.now.left)
-            best.now.number (drop best.now.right sig.now.right)) }
+        best.now.number (drop best.now.right sig.now.right)) }
 {
     let left = &sig.left.letters()[..best.left];
     let right = &sig.right.letters()[best.right..];
@@ -69,10 +69,10 @@ fn start_over(
 ) -> Result<Start, AllocError>
     requires few { entries ≤ length snapshot.now.state.entries }
     requires start { HasStart snapshot.now.problem.problem.setting snapshot.now.state.entries
-          (monomial_of sig.now) entries }
+        (monomial_of sig.now) entries }
     requires generator { IsGenerator snapshot.now.problem.problem.setting sig.now.generator }
     ensures { IfOk result (λ a. IsStartOver snapshot.now.problem.problem.setting
-            snapshot.now.state.entries (monomial_of sig.now) entries (start_of a)) }
+        snapshot.now.state.entries (monomial_of sig.now) entries (start_of a)) }
 {
     if is_unit(sig) {
         return Ok(Start::Generator(sig.generator));
@@ -95,10 +95,10 @@ pub fn rebuild(
     requires degree { HasDegree snapshot.now.problem.problem.setting sig.now }
     requires listed { IsListedSignature snapshot.now.state (monomial_of sig.now) }
     requires lesser { AreLesser snapshot.now.problem.problem.setting snapshot.now.state.entries
-          (monomial_of sig.now) entries }
+        (monomial_of sig.now) entries }
     ensures { IfOk result (λ t. (f : Polynomial)
-            × Rebuilds snapshot.now.problem.problem.setting snapshot.now.state.entries
-            (monomial_of sig.now) t f) }
+        × Rebuilds snapshot.now.problem.problem.setting snapshot.now.state.entries
+        (monomial_of sig.now) t f) }
 {
     snapshot.recall_rule();
     let start = start_over(alloc, snapshot, sig, entries)?;

@@ -27,7 +27,7 @@ fn multiples(
     requires factor { c < p }
     requires residues { AreResiduesBy p m.now }
     requires degrees { All (λ t. word_weight u.now + t.key.degree + word_weight v.now ≤ 300000)
-          m.now }
+        m.now }
     requires left { All (λ t. length u.now + length t.key.left ≤ 200000) m.now }
     requires right { All (λ t. length t.key.right + length v.now ≤ 200000) m.now }
     ensures { IfOk result (λ pairs. listed pairs.items ≡ module_multiples p c u.now m.now v.now) }
@@ -54,7 +54,7 @@ pub(crate) fn add_multiple(
     requires residues { AreResiduesBy setting.now.setting.prime sum.old }
     requires addable { IsAddable setting.now.setting u.now m.now v.now }
     ensures sum { OnOk result (SameSum same_sig setting.now.setting.prime sum.new
-            (module_multiples setting.now.setting.prime c u.now m.now v.now ++ sum.old)) }
+        (module_multiples setting.now.setting.prime c u.now m.now v.now ++ sum.old)) }
     ensures residues { AreResiduesBy setting.now.setting.prime sum.new }
     ensures descends { OnOk result (Descends compare_sigs sum.new) }
 {

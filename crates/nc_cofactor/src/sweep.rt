@@ -82,7 +82,7 @@ fn slot_at(
     requires within { number ≤ length snapshot.now.state.entries }
     requires size { length marks.old ≡ length snapshot.now.state.entries }
     ensures { IfOk result (IsSlot snapshot.now.problem.problem snapshot.now.handled marks.old
-            marks.new number) }
+        marks.new number) }
 {
     snapshot.recall_rule();
     if !is_marked(marks, number) {
@@ -104,7 +104,7 @@ pub(crate) fn traces_from(
     requires leads { LeadsOf snapshot.now leads.now }
     requires size { length marks.old ≡ length snapshot.now.state.entries }
     ensures { IfOk result (λ stack. AreFound snapshot.now.problem.problem snapshot.now.handled
-            marks.old stack.items) }
+        marks.old stack.items) }
 {
     snapshot.recall_rule();
     let mut stack = Vec::new(alloc);

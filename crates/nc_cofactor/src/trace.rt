@@ -21,7 +21,7 @@ fn entry_trace(
     requires some { 1 ≤ number }
     requires within { number ≤ length snapshot.now.state.entries }
     ensures { IfOk result (HasTrace snapshot.now.problem.problem snapshot.now.handled
-            (Listed.Entry number)) }
+        (Listed.Entry number)) }
 {
     snapshot.recall_rule();
     rebuild(
@@ -44,7 +44,7 @@ fn syzygy_trace(
     requires some { 1 ≤ number }
     requires within { number ≤ length snapshot.now.state.syzygies }
     ensures { IfOk result (HasTrace snapshot.now.problem.problem snapshot.now.handled
-            (Listed.Syzygy number)) }
+        (Listed.Syzygy number)) }
 {
     snapshot.recall_rule();
     let sig = snapshot.syzygy(number).sig();

@@ -26,9 +26,9 @@ module _ (s : Setting) (entries : List Entry) (τ : Monomial) where
       → IsMultipleAt s entries τ n (Some b)
   lead_found n l b lead signed spells number =
       at_found s entries τ n lead.entry b (slice_get_within entries n lead.entry lead.stands)
-          (sym (get_or_from_slice_get entries n lead.entry lead.entry lead.stands))
-          (ap (λ σ. times b.left σ b.right) lead.signed ∙ signed)
-          (spells ∙ ap (λ x. b.left ++ (x ++ b.right)) (sym lead.leads)) number
+      (sym (get_or_from_slice_get entries n lead.entry lead.entry lead.stands))
+      (ap (λ σ. times b.left σ b.right) lead.signed ∙ signed)
+      (spells ∙ ap (λ x. b.left ++ (x ++ b.right)) (sym lead.leads)) number
 
   -- ---- one after another
 
@@ -40,10 +40,16 @@ module _ (s : Setting) (entries : List Entry) (τ : Monomial) where
     next_within n h = record {
       signed = λ w d m. m.signed;
       earlier = λ w d m. omega (arith, m.within);
-      more = λ w d m. record { signed = m.signed;
-            later = m.later; within = omega (arith, m.within) };
-      here = λ w d signed i. record { signed = signed;
-            later = omega (arith, h, i); within = omega (arith, i) };
+      more = λ w d m. record {
+        signed = m.signed;
+        later = m.later;
+        within = omega (arith, m.within);
+      };
+      here = λ w d signed i. record {
+        signed = signed;
+        later = omega (arith, h, i);
+        within = omega (arith, i);
+      };
       either = λ w d m. go w d m (nat_order d.listed.0 n);
     }
       where
@@ -71,8 +77,11 @@ module _ (s : Setting) (entries : List Entry) (τ : Monomial) where
       bounded : (w : Word) (d : Divisor s entries w) → IsMultipleWithin s entries τ after until w d
           → IsMultipleWithin s entries τ after last w d
       bounded w d m =
-          record { signed = m.signed; later = m.later;
-            within = omega (arith, is, m.within, d.listed.1) }
+          record {
+            signed = m.signed;
+            later = m.later;
+            within = omega (arith, is, m.within, d.listed.1);
+          }
 
       unbounded : (w : Word) (d : Divisor s entries w) → IsMultipleWithin s entries τ after last w d
           → IsMultipleWithin s entries τ after until w d
@@ -90,39 +99,59 @@ module _ (s : Setting) (entries : List Entry) (τ : Monomial) where
       pub right_fits : (b : Best) → IsBestBetween s entries τ after last (Some b)
           → length b.right ≤ length τ.right
       right_fits b (d, multiple, least, left, number, right) =
-          omega (arith, ap length right, ap (λ (σ : Monomial). length σ.right) multiple.signed,
-            length-append d.entry.signature.right d.right)
+          omega (
+            arith,
+            ap length right,
+            ap (λ (σ : Monomial). length σ.right) multiple.signed,
+            length-append d.entry.signature.right d.right,
+          )
 
       pub best_within : (b : Best) (m : Multiple) → IsBestBetween s entries τ after last (Some b)
           → m.number ≡ b.number → m.left ≡ length b.left → m.right ≡ length τ.right - length b.right
           → IsBestWithin s entries τ after until (Some m)
       best_within b m (d, multiple, least, left, number, right) i j k =
           let lefts : d.left ++ d.entry.signature.left ≡ τ.left =
-              ap (λ (σ : Monomial). σ.left) multiple.signed in
+          ap (λ (σ : Monomial). σ.left) multiple.signed in
           let rights : d.entry.signature.right ++ d.right ≡ τ.right =
-              ap (λ (σ : Monomial). σ.right) multiple.signed in (
+          ap (λ (σ : Monomial). σ.right) multiple.signed in (
             b.word,
             d,
-            record { multiple = unbounded b.word d multiple;
-                  least = λ v e f. least v e (bounded v e f) },
+            record {
+              multiple = unbounded b.word d multiple;
+              least = λ v e f. least v e (bounded v e f);
+            },
             number ∙ sym i,
             sym (ap (take m.left) (sym lefts) ∙ take_at d.left d.entry.signature.left m.left
-                  (ap length left ∙ sym j)),
+                (ap length left ∙ sym j)),
             sym (ap (drop m.right) (sym rights) ∙ drop_at d.entry.signature.right d.right m.right
-                  (omega (arith, k, ap length right, ap length rights,
-                      length-append d.entry.signature.right d.right))),
-            omega (arith, j, ap length left, ap length lefts,
-                  length-append d.left d.entry.signature.left),
+                (omega (
+                  arith,
+                  k,
+                  ap length right,
+                  ap length rights,
+                  length-append d.entry.signature.right d.right,
+                ))),
+            omega (
+              arith,
+              j,
+              ap length left,
+              ap length lefts,
+              length-append d.left d.entry.signature.left,
+            ),
             omega (arith, k),
           )
 
 -- among all entries the best multiple is that of the definitions
 pub best_of_all : BestMultipleLaw
 best_of_all s entries τ = (
-  (λ none w m. none w m.divisor (whole w m.divisor m.signed),
-        λ none w d m. none w (record { divisor = d; signed = m.signed })),
-  λ w d. (λ b. record { signed = b.multiple.signed; least = λ v e i. b.least v e (whole v e i) },
-        λ b. record { multiple = whole w d b.signed; least = λ v e m. b.least v e m.signed }),
+  (
+    λ none w m. none w m.divisor (whole w m.divisor m.signed),
+    λ none w d m. none w (record { divisor = d; signed = m.signed }),
+  ),
+  λ w d. (
+    λ b. record { signed = b.multiple.signed; least = λ v e i. b.least v e (whole v e i) },
+    λ b. record { multiple = whole w d b.signed; least = λ v e m. b.least v e m.signed },
+  ),
 )
   where
     whole : (w : Word) (d : Divisor s entries w) → signature_at s entries w d ≡ τ

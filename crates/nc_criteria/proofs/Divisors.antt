@@ -29,17 +29,23 @@ numbered xs n x h =
 module _ (hs : List Syzygy) (τ : Monomial) (n : ℕ) (σ : Sig)
     (stands : slice_get hs (n + 1 - 1) ≡ Some (syzygy_of σ)) where
   pub listed_found : Divides (monomial_of σ) τ → IsListedBelow hs τ
-  listed_found d =
-      (syzygy_of σ, (n, slice_get_within hs n (syzygy_of σ) (numbered hs n (syzygy_of σ) stands),
-          get_or_from_slice_get hs n (syzygy_of σ) (syzygy_of σ)
-          (numbered hs n (syzygy_of σ) stands)), d)
+  listed_found d = (
+    syzygy_of σ,
+    (
+      n,
+      slice_get_within hs n (syzygy_of σ) (numbered hs n (syzygy_of σ) stands),
+      get_or_from_slice_get hs n (syzygy_of σ) (syzygy_of σ)
+          (numbered hs n (syzygy_of σ) stands),
+    ),
+    d,
+  )
 
   pub listed_further : NoneListed hs τ n → ¬ Divides (monomial_of σ) τ → NoneListed hs τ (n + 1)
   listed_further =
       none_listed_further hs τ n (syzygy_of σ)
       (slice_get_within hs n (syzygy_of σ) (numbered hs n (syzygy_of σ) stands))
       (sym (get_or_from_slice_get hs n (syzygy_of σ) (syzygy_of σ)
-          (numbered hs n (syzygy_of σ) stands)))
+      (numbered hs n (syzygy_of σ) stands)))
 
 -- what covers is a listed syzygy or a trivial one
 module _ (s : Setting) (state : State) (τ : Monomial) where

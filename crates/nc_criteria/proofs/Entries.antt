@@ -21,4 +21,4 @@ module _ (s : Snapshot) (is : IsSnapshot s) (n : ℕ) (e : Signed)
       ap (leading s.problem.problem.setting.prime) i
       ∙ leading-normal s.problem.problem.setting.prime t others
       (subst (IsNormal s.problem.problem.setting.prime) i
-        (entry_usable s is n (entry_of e) stands).normal)
+      (entry_usable s is n (entry_of e) stands).normal)

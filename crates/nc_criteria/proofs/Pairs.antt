@@ -23,24 +23,28 @@ use Rattle.std.specs.List.{slice_get}
 times_degree : (s : Setting) (u v : Word) (σ : Sig) → HasDegree s σ → HasDegree s (sig_times u σ v)
 times_degree s u v σ h =
     let d : σ.degree ≡ (sig_of (generator_weight s) (monomial_of σ)).degree =
-        ap (λ (x : Sig). x.degree) h in
+    ap (λ (x : Sig). x.degree) h in
     let whole : word_weight u + σ.degree + word_weight v
-        ≡ (sig_of (generator_weight s) (times u (monomial_of σ) v)).degree =
-        omega (arith, d, degree-times (generator_weight s) u v (monomial_of σ)) in
-    ap (λ n. record { degree = n; generator = σ.generator;
-            left = u ++ σ.left; right = σ.right ++ v }) whole
+    ≡ (sig_of (generator_weight s) (times u (monomial_of σ) v)).degree =
+    omega (arith, d, degree-times (generator_weight s) u v (monomial_of σ)) in
+    ap (λ n. record {
+      degree = n;
+      generator = σ.generator;
+      left = u ++ σ.left;
+      right = σ.right ++ v;
+    }) whole
 
 -- what stands in an entry's signature around a multiple's factor
 module _ (σ τ : Monomial) (u v : Word) (is : times u σ v ≡ τ) where
   pub behind_is : (m rest : Word) → m ++ rest ≡ v → times u (times [] σ m) rest ≡ τ
   behind_is m rest e =
       times-times u [] m rest σ ∙ (ap (λ x. times x σ (m ++ rest)) (append-nil u)
-        ∙ (ap (λ x. times u σ x) e ∙ is))
+      ∙ (ap (λ x. times u σ x) e ∙ is))
 
   pub is_behind : (x y m : Word) → times x (times [] σ m) y ≡ τ → m ++ y ≡ v
   is_behind x y m e =
       append_cancel_left σ.right (m ++ y) v (sym (append_assoc σ.right m y)
-        ∙ ap (λ (ρ : Monomial). ρ.right) (e ∙ sym is))
+      ∙ ap (λ (ρ : Monomial). ρ.right) (e ∙ sym is))
 
   pub before_is : (rest m : Word) → rest ++ m ≡ u → times rest (times m σ []) v ≡ τ
   before_is rest m e = times-times rest m [] v σ ∙ (ap (λ x. times x σ v) e ∙ is)
@@ -53,12 +57,16 @@ module _ (σ τ : Monomial) (u v : Word) (is : times u σ v ≡ τ) where
 module _ (s : Setting) (entries : List Entry) (τ : Monomial) where
   -- own's signature divides τ
   own_divides : (own other : Entry) → IsTrivialBy s own other τ → Divides own.signature τ
-  own_divides own other (inl (m, less, (x, y, e))) =
-      (x ++ [], (m ++ leading s.prime other.polynomial) ++ y,
-        sym (times-times x [] (m ++ leading s.prime other.polynomial) y own.signature) ∙ e)
-  own_divides own other (inr (m, less, (x, y, e))) =
-      (x ++ (leading s.prime other.polynomial ++ m), [] ++ y,
-        sym (times-times x (leading s.prime other.polynomial ++ m) [] y own.signature) ∙ e)
+  own_divides own other (inl (m, less, (x, y, e))) = (
+    x ++ [],
+    (m ++ leading s.prime other.polynomial) ++ y,
+    sym (times-times x [] (m ++ leading s.prime other.polynomial) y own.signature) ∙ e,
+  )
+  own_divides own other (inr (m, less, (x, y, e))) = (
+    x ++ (leading s.prime other.polynomial ++ m),
+    [] ++ y,
+    sym (times-times x (leading s.prime other.polynomial ++ m) [] y own.signature) ∙ e,
+  )
 
   module _ (n j : ℕ) (own other : Lead) (mine : IsLeadAt s entries n own)
       (others : IsLeadAt s entries j other) where
@@ -74,9 +82,9 @@ module _ (s : Setting) (entries : List Entry) (τ : Monomial) where
     lesser_behind m = (
       λ e. subst₂ (IsLess s) (sym second) (sym first)
           (less_from_sigs s (sig_times (own.word.now ++ m) other.sig.now [])
-            (sig_times [] own.sig.now (m ++ other.word.now))
-            (times_degree s (own.word.now ++ m) [] other.sig.now others.degree)
-            (times_degree s [] (m ++ other.word.now) own.sig.now mine.degree) e),
+          (sig_times [] own.sig.now (m ++ other.word.now))
+          (times_degree s (own.word.now ++ m) [] other.sig.now others.degree)
+          (times_degree s [] (m ++ other.word.now) own.sig.now mine.degree) e),
       λ l. sigs_from_less s (sig_times (own.word.now ++ m) other.sig.now [])
           (sig_times [] own.sig.now (m ++ other.word.now))
           (times_degree s (own.word.now ++ m) [] other.sig.now others.degree)
@@ -101,9 +109,9 @@ module _ (s : Setting) (entries : List Entry) (τ : Monomial) where
     lesser_before m = (
       λ e. subst₂ (IsLess s) (sym first) (sym second)
           (less_from_sigs s (sig_times [] other.sig.now (m ++ own.word.now))
-            (sig_times (other.word.now ++ m) own.sig.now [])
-            (times_degree s [] (m ++ own.word.now) other.sig.now others.degree)
-            (times_degree s (other.word.now ++ m) [] own.sig.now mine.degree) e),
+          (sig_times (other.word.now ++ m) own.sig.now [])
+          (times_degree s [] (m ++ own.word.now) other.sig.now others.degree)
+          (times_degree s (other.word.now ++ m) [] own.sig.now mine.degree) e),
       λ l. sigs_from_less s (sig_times [] other.sig.now (m ++ own.word.now))
           (sig_times (other.word.now ++ m) own.sig.now [])
           (times_degree s [] (m ++ own.word.now) other.sig.now others.degree)
@@ -128,41 +136,66 @@ module _ (s : Setting) (entries : List Entry) (τ : Monomial) where
 
       pub pair_found : IsBehind own other v ⊎ IsBefore own other u → IsTrivialPair s entries τ n j
       pair_found b =
-          record { own = mine.entry; own_stands = mine.stands;
-            other = others.entry; other_stands = others.stands; by = go b }
+          record {
+            own = mine.entry;
+            own_stands = mine.stands;
+            other = others.entry;
+            other_stands = others.stands;
+            by = go b;
+          }
         where
           go : IsBehind own other v ⊎ IsBefore own other u → IsTrivialBy s mine.entry others.entry τ
           go (inl b) =
-              inl (b.m, (lesser_behind b.m).0 b.lesser,
-                (u, b.rest, behind_is mine.entry.signature τ u v signed
-                  (b.m ++ leading s.prime others.entry.polynomial) b.rest
-                  (ap (λ l. (b.m ++ l) ++ b.rest) others.leads
-                    ∙ (append_assoc b.m other.word.now b.rest ∙ b.spells))))
+              inl (
+                b.m,
+                (lesser_behind b.m).0 b.lesser,
+                (
+                  u,
+                  b.rest,
+                  behind_is mine.entry.signature τ u v signed
+                      (b.m ++ leading s.prime others.entry.polynomial) b.rest
+                      (ap (λ l. (b.m ++ l) ++ b.rest) others.leads
+                      ∙ (append_assoc b.m other.word.now b.rest ∙ b.spells)),
+                ),
+              )
           go (inr b) =
-              inr (b.m, (lesser_before b.m).0 b.lesser,
-                (b.rest, v, before_is mine.entry.signature τ u v signed b.rest
-                  (leading s.prime others.entry.polynomial ++ b.m)
-                  (ap (λ l. b.rest ++ (l ++ b.m)) others.leads ∙ b.spells)))
+              inr (
+                b.m,
+                (lesser_before b.m).0 b.lesser,
+                (
+                  b.rest,
+                  v,
+                  before_is mine.entry.signature τ u v signed b.rest
+                      (leading s.prime others.entry.polynomial ++ b.m)
+                      (ap (λ l. b.rest ++ (l ++ b.m)) others.leads ∙ b.spells),
+                ),
+              )
 
       pub pair_is : IsTrivialPair s entries τ n j → IsBehind own other v ⊎ IsBefore own other u
       pair_is p =
           go (subst₂ (λ a b. IsTrivialBy s a b τ) (same_own p.own p.own_stands)
-            (same_other p.other p.other_stands) p.by)
+          (same_other p.other p.other_stands) p.by)
         where
           go : IsTrivialBy s mine.entry others.entry τ → IsBehind own other v ⊎ IsBefore own other u
           go (inl (m, less, (x, y, e))) =
-              inl (record { m = m; rest = y;
-                  spells = sym (append_assoc m other.word.now y)
-                  ∙ (ap (λ l. (m ++ l) ++ y) (sym others.leads)
+              inl (record {
+                m = m;
+                rest = y;
+                spells = sym (append_assoc m other.word.now y)
+                    ∙ (ap (λ l. (m ++ l) ++ y) (sym others.leads)
                     ∙ is_behind mine.entry.signature τ u v signed x y
                     (m ++ leading s.prime others.entry.polynomial) e);
-                  lesser = (lesser_behind m).1 less })
+                lesser = (lesser_behind m).1 less;
+              })
           go (inr (m, less, (x, y, e))) =
-              inr (record { rest = x; m = m;
-                  spells = ap (λ l. x ++ (l ++ m)) (sym others.leads)
-                  ∙ is_before mine.entry.signature τ u v signed x y
-                  (leading s.prime others.entry.polynomial ++ m) e;
-                  lesser = (lesser_before m).1 less })
+              inr (record {
+                rest = x;
+                m = m;
+                spells = ap (λ l. x ++ (l ++ m)) (sym others.leads)
+                    ∙ is_before mine.entry.signature τ u v signed x y
+                    (leading s.prime others.entry.polynomial ++ m) e;
+                lesser = (lesser_before m).1 less;
+              })
 
   -- ---- one after another
 
@@ -186,9 +219,9 @@ module _ (s : Setting) (entries : List Entry) (τ : Monomial) where
       → ¬ Divides (monomial_of own.sig.now) τ → ¬ IsTrivialAt s entries τ n
   none_divides n own mine none (j, p) =
       let same : p.own ≡ mine.entry =
-          (let d : Some p.own ≡ Some mine.entry = sym p.own_stands ∙ mine.stands in cc) in
+      (let d : Some p.own ≡ Some mine.entry = sym p.own_stands ∙ mine.stands in cc) in
       none (subst (λ σ. Divides σ τ) (ap (λ (e : Entry). e.signature) same ∙ mine.signed)
-            (own_divides p.own p.other p.by))
+      (own_divides p.own p.other p.by))
 
   abbrev pub NoneAt : ℕ → Type 0
   NoneAt count = (n : ℕ) → n < count → ¬ IsTrivialAt s entries τ n
@@ -213,31 +246,57 @@ module _ (s : Setting) (entries : List Entry) (τ : Monomial) where
   trivial_found n (j, p) = go p.by
     where
       go : IsTrivialBy s p.own p.other τ → IsTrivialBelow s entries τ
-      go (inl (m, less, d)) =
-          (first_side s p.own m p.other, record { first = p.own;
-              first_listed = listed p.own n p.own_stands;
-              second = p.other; second_listed = listed p.other j p.other_stands;
-              m = m; greater = inl (less, refl) }, d)
-      go (inr (m, less, d)) =
-          (second_side s p.other m p.own, record { first = p.other;
-              first_listed = listed p.other j p.other_stands;
-              second = p.own; second_listed = listed p.own n p.own_stands;
-              m = m; greater = inr (less, refl) }, d)
+      go (inl (m, less, d)) = (
+        first_side s p.own m p.other,
+        record {
+          first = p.own;
+          first_listed = listed p.own n p.own_stands;
+          second = p.other;
+          second_listed = listed p.other j p.other_stands;
+          m = m;
+          greater = inl (less, refl);
+        },
+        d,
+      )
+      go (inr (m, less, d)) = (
+        second_side s p.other m p.own,
+        record {
+          first = p.other;
+          first_listed = listed p.other j p.other_stands;
+          second = p.own;
+          second_listed = listed p.own n p.own_stands;
+          m = m;
+          greater = inr (less, refl);
+        },
+        d,
+      )
 
   pub none_trivial : (n : ℕ) → length entries ≤ n → NoneAt n → ¬ IsTrivialBelow s entries τ
   none_trivial n h before (ρ, t, d) = go t.greater
     where
       go : (IsLess s (second_side s t.first t.m t.second) (first_side s t.first t.m t.second)
-            × (ρ ≡ first_side s t.first t.m t.second))
+          × (ρ ≡ first_side s t.first t.m t.second))
           ⊎ (IsLess s (first_side s t.first t.m t.second) (second_side s t.first t.m t.second)
-            × (ρ ≡ second_side s t.first t.m t.second)) → ⊥
+          × (ρ ≡ second_side s t.first t.m t.second)) → ⊥
       go (inl (less, i)) =
-          before t.first_listed.0 (omega (arith, h, t.first_listed.1)) (t.second_listed.0,
-            record { own = t.first; own_stands = stands t.first t.first_listed;
-              other = t.second; other_stands = stands t.second t.second_listed;
-              by = inl (t.m, less, subst (λ σ. Divides σ τ) i d) })
+          before t.first_listed.0 (omega (arith, h, t.first_listed.1)) (
+            t.second_listed.0,
+            record {
+              own = t.first;
+              own_stands = stands t.first t.first_listed;
+              other = t.second;
+              other_stands = stands t.second t.second_listed;
+              by = inl (t.m, less, subst (λ σ. Divides σ τ) i d);
+            },
+          )
       go (inr (less, i)) =
-          before t.second_listed.0 (omega (arith, h, t.second_listed.1)) (t.first_listed.0,
-            record { own = t.second; own_stands = stands t.second t.second_listed;
-              other = t.first; other_stands = stands t.first t.first_listed;
-              by = inr (t.m, less, subst (λ σ. Divides σ τ) i d) })
+          before t.second_listed.0 (omega (arith, h, t.second_listed.1)) (
+            t.first_listed.0,
+            record {
+              own = t.second;
+              own_stands = stands t.second t.second_listed;
+              other = t.first;
+              other_stands = stands t.first t.first_listed;
+              by = inr (t.m, less, subst (λ σ. Divides σ τ) i d);
+            },
+          )

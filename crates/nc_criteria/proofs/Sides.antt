@@ -58,38 +58,38 @@ module _ (own other : Lead) where
       (words_behind own other m)
   sides_behind m =
       ap₂ (λ o p. ordering_then o (ordering_then
-              (nat_cmp other.sig.now.generator own.sig.now.generator) p))
+      (nat_cmp other.sig.now.generator own.sig.now.generator) p))
       (nat_cmp_more (word_weight own.word.now + other.sig.now.degree)
-            (own.sig.now.degree + word_weight other.word.now) (word_weight m)
-            (word_weight (own.word.now ++ m) + other.sig.now.degree + 0)
-            (0 + own.sig.now.degree + word_weight (m ++ other.word.now))
-            (omega (arith, weight-append own.word.now m))
-            (omega (arith, weight-append m other.word.now)))
+      (own.sig.now.degree + word_weight other.word.now) (word_weight m)
+      (word_weight (own.word.now ++ m) + other.sig.now.degree + 0)
+      (0 + own.sig.now.degree + word_weight (m ++ other.word.now))
+      (omega (arith, weight-append own.word.now m))
+      (omega (arith, weight-append m other.word.now)))
       (ap₂ (λ x y. ordering_then (compare_words x own.sig.now.left)
-              (compare_words y (own.sig.now.right ++ (m ++ other.word.now))))
-            (append_assoc own.word.now m other.sig.now.left) (append-nil other.sig.now.right))
+      (compare_words y (own.sig.now.right ++ (m ++ other.word.now))))
+      (append_assoc own.word.now m other.sig.now.left) (append-nil other.sig.now.right))
       ∙ then_first (nat_cmp (word_weight own.word.now + other.sig.now.degree)
-            (own.sig.now.degree + word_weight other.word.now))
-          (nat_cmp other.sig.now.generator own.sig.now.generator) (words_behind own other m)
+      (own.sig.now.degree + word_weight other.word.now))
+      (nat_cmp other.sig.now.generator own.sig.now.generator) (words_behind own other m)
 
   pub sides_before : (m : Word) → compare_sigs (sig_times [] other.sig.now (m ++ own.word.now))
       (sig_times (other.word.now ++ m) own.sig.now []) ≡ ordering_then (compare_heads own other)
       (words_before own other m)
   sides_before m =
       ap₂ (λ o p. ordering_then o (ordering_then
-              (nat_cmp other.sig.now.generator own.sig.now.generator) p))
+      (nat_cmp other.sig.now.generator own.sig.now.generator) p))
       (nat_cmp_more (word_weight own.word.now + other.sig.now.degree)
-            (own.sig.now.degree + word_weight other.word.now) (word_weight m)
-            (0 + other.sig.now.degree + word_weight (m ++ own.word.now))
-            (word_weight (other.word.now ++ m) + own.sig.now.degree + 0)
-            (omega (arith, weight-append m own.word.now))
-            (omega (arith, weight-append other.word.now m)))
+      (own.sig.now.degree + word_weight other.word.now) (word_weight m)
+      (0 + other.sig.now.degree + word_weight (m ++ own.word.now))
+      (word_weight (other.word.now ++ m) + own.sig.now.degree + 0)
+      (omega (arith, weight-append m own.word.now))
+      (omega (arith, weight-append other.word.now m)))
       (ap₂ (λ x y. ordering_then (compare_words other.sig.now.left x)
-              (compare_words (other.sig.now.right ++ (m ++ own.word.now)) y))
-            (append_assoc other.word.now m own.sig.now.left) (append-nil own.sig.now.right))
+      (compare_words (other.sig.now.right ++ (m ++ own.word.now)) y))
+      (append_assoc other.word.now m own.sig.now.left) (append-nil own.sig.now.right))
       ∙ then_first (nat_cmp (word_weight own.word.now + other.sig.now.degree)
-            (own.sig.now.degree + word_weight other.word.now))
-          (nat_cmp other.sig.now.generator own.sig.now.generator) (words_before own other m)
+      (own.sig.now.degree + word_weight other.word.now))
+      (nat_cmp other.sig.now.generator own.sig.now.generator) (words_before own other m)
 
   -- ---- behind
 
@@ -113,10 +113,10 @@ module _ (own other : Lead) where
         go (inl l) = omega (arith, l)
         go (inr (inl l)) =
             absurd (not (ap is_lt (ap (words_behind own other)
-                  (front b.m b.rest at (sym b.spells) (sym l))
-                  ∙ (sym (by_words (compare_sigs (sig_times (own.word.now ++ b.m) other.sig.now [])
-                    (sig_times [] own.sig.now (b.m ++ other.word.now))) (compare_heads own other)
-                    (words_behind own other b.m) (sides_behind b.m) heads) ∙ b.lesser))))
+            (front b.m b.rest at (sym b.spells) (sym l))
+            ∙ (sym (by_words (compare_sigs (sig_times (own.word.now ++ b.m) other.sig.now [])
+            (sig_times [] own.sig.now (b.m ++ other.word.now))) (compare_heads own other)
+            (words_behind own other b.m) (sides_behind b.m) heads) ∙ b.lesser))))
         go (inr (inr l)) =
             absurd (omega (arith, l, place.2 (length b.m) (before b) (occurs_behind b)))
 
@@ -124,12 +124,16 @@ module _ (own other : Lead) where
         → IsPlaceFrom other.word.now v from (Some at)
         → is_lt (words_behind own other (take at v)) ≡ true → IsBehind own other v
     behind_found from at heads (_, (m, rest, e, n), _) less =
-        record { m = m; rest = rest; spells = sym e;
-              lesser = by_words (compare_sigs (sig_times (own.word.now ++ m) other.sig.now [])
-                (sig_times [] own.sig.now (m ++ other.word.now))) (compare_heads own other)
+        record {
+          m = m;
+          rest = rest;
+          spells = sym e;
+          lesser = by_words (compare_sigs (sig_times (own.word.now ++ m) other.sig.now [])
+              (sig_times [] own.sig.now (m ++ other.word.now))) (compare_heads own other)
               (words_behind own other m) (sides_behind m) heads
               ∙ is_less (words_behind own other m)
-              (ap (λ x. is_lt (words_behind own other x)) (sym (front m rest at e n)) ∙ less) }
+              (ap (λ x. is_lt (words_behind own other x)) (sym (front m rest at e n)) ∙ less);
+        }
 
     pub none_behind : (from : ℕ) → NoneBehind from → IsPlaceFrom other.word.now v from None
         → ¬ IsBehind own other v
@@ -140,17 +144,23 @@ module _ (own other : Lead) where
         → IsPlaceFrom other.word.now v 0 r → IsTrue (is_some r) ↔ IsBehind own other v
     behind_anywhere heads None none =
         (λ t. absurd cc, λ b. absurd (none (length b.m) (omega arith) (occurs_behind b)))
-    behind_anywhere heads (Some at) (_, (m, rest, e, n), _) =
-        (λ t. record { m = m; rest = rest;
-            spells = sym e; lesser = by_lesser_heads
+    behind_anywhere heads (Some at) (_, (m, rest, e, n), _) = (
+      λ t. record {
+        m = m;
+        rest = rest;
+        spells = sym e;
+        lesser = by_lesser_heads
             (compare_sigs (sig_times (own.word.now ++ m) other.sig.now [])
-              (sig_times [] own.sig.now (m ++ other.word.now))) (compare_heads own other)
-            (words_behind own other m) (sides_behind m) heads }, λ b. refl)
+            (sig_times [] own.sig.now (m ++ other.word.now))) (compare_heads own other)
+            (words_behind own other m) (sides_behind m) heads;
+      },
+      λ b. refl,
+    )
 
     pub behind_nowhere : compare_heads own other ≡ Greater → ¬ IsBehind own other v
     behind_nowhere heads b =
         by_greater_heads (compare_sigs (sig_times (own.word.now ++ b.m) other.sig.now [])
-          (sig_times [] own.sig.now (b.m ++ other.word.now))) (compare_heads own other)
+        (sig_times [] own.sig.now (b.m ++ other.word.now))) (compare_heads own other)
         (words_behind own other b.m) (sides_behind b.m) heads b.lesser
 
   -- ---- before
@@ -167,7 +177,7 @@ module _ (own other : Lead) where
     back rest m at e n =
         ap (λ x. drop (length other.word.now) (drop at x)) e
         ∙ (ap (drop (length other.word.now)) (drop_at rest (other.word.now ++ m) at n)
-          ∙ drop_at other.word.now m (length other.word.now) refl)
+        ∙ drop_at other.word.now m (length other.word.now) refl)
 
     pub before_further : (from at : ℕ) → compare_heads own other ≡ Equal → NoneBefore from
         → IsPlaceFrom other.word.now u from (Some at)
@@ -180,10 +190,10 @@ module _ (own other : Lead) where
         go (inl l) = omega (arith, l)
         go (inr (inl l)) =
             absurd (not (ap is_lt (ap (words_before own other)
-                  (back b.rest b.m at (sym b.spells) (sym l))
-                  ∙ (sym (by_words (compare_sigs (sig_times [] other.sig.now (b.m ++ own.word.now))
-                    (sig_times (other.word.now ++ b.m) own.sig.now [])) (compare_heads own other)
-                    (words_before own other b.m) (sides_before b.m) heads) ∙ b.lesser))))
+            (back b.rest b.m at (sym b.spells) (sym l))
+            ∙ (sym (by_words (compare_sigs (sig_times [] other.sig.now (b.m ++ own.word.now))
+            (sig_times (other.word.now ++ b.m) own.sig.now [])) (compare_heads own other)
+            (words_before own other b.m) (sides_before b.m) heads) ∙ b.lesser))))
         go (inr (inr l)) =
             absurd (omega (arith, l, place.2 (length b.rest) (before b) (occurs_before b)))
 
@@ -192,12 +202,16 @@ module _ (own other : Lead) where
         → is_lt (words_before own other (drop (length other.word.now) (drop at u))) ≡ true
         → IsBefore own other u
     before_found from at heads (_, (rest, m, e, n), _) less =
-        record { rest = rest; m = m; spells = sym e;
-              lesser = by_words (compare_sigs (sig_times [] other.sig.now (m ++ own.word.now))
-                (sig_times (other.word.now ++ m) own.sig.now [])) (compare_heads own other)
+        record {
+          rest = rest;
+          m = m;
+          spells = sym e;
+          lesser = by_words (compare_sigs (sig_times [] other.sig.now (m ++ own.word.now))
+              (sig_times (other.word.now ++ m) own.sig.now [])) (compare_heads own other)
               (words_before own other m) (sides_before m) heads
               ∙ is_less (words_before own other m)
-              (ap (λ x. is_lt (words_before own other x)) (sym (back rest m at e n)) ∙ less) }
+              (ap (λ x. is_lt (words_before own other x)) (sym (back rest m at e n)) ∙ less);
+        }
 
     pub none_before : (from : ℕ) → NoneBefore from → IsPlaceFrom other.word.now u from None
         → ¬ IsBefore own other u
@@ -207,15 +221,21 @@ module _ (own other : Lead) where
         → IsPlaceFrom other.word.now u 0 r → IsTrue (is_some r) ↔ IsBefore own other u
     before_anywhere heads None none =
         (λ t. absurd cc, λ b. absurd (none (length b.rest) (omega arith) (occurs_before b)))
-    before_anywhere heads (Some at) (_, (rest, m, e, n), _) =
-        (λ t. record { rest = rest; m = m;
-            spells = sym e; lesser = by_lesser_heads
+    before_anywhere heads (Some at) (_, (rest, m, e, n), _) = (
+      λ t. record {
+        rest = rest;
+        m = m;
+        spells = sym e;
+        lesser = by_lesser_heads
             (compare_sigs (sig_times [] other.sig.now (m ++ own.word.now))
-              (sig_times (other.word.now ++ m) own.sig.now [])) (compare_heads own other)
-            (words_before own other m) (sides_before m) heads }, λ b. refl)
+            (sig_times (other.word.now ++ m) own.sig.now [])) (compare_heads own other)
+            (words_before own other m) (sides_before m) heads;
+      },
+      λ b. refl,
+    )
 
     pub before_nowhere : compare_heads own other ≡ Greater → ¬ IsBefore own other u
     before_nowhere heads b =
         by_greater_heads (compare_sigs (sig_times [] other.sig.now (b.m ++ own.word.now))
-          (sig_times (other.word.now ++ b.m) own.sig.now [])) (compare_heads own other)
+        (sig_times (other.word.now ++ b.m) own.sig.now [])) (compare_heads own other)
         (words_before own other b.m) (sides_before b.m) heads b.lesser

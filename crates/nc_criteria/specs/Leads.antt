@@ -30,7 +30,7 @@ pub record IsLeadAt (s : Setting) (entries : List Entry) (n : ℕ) (l : Lead) : 
 abbrev pub compare_heads : Lead → Lead → Ordering
 compare_heads own other =
     ordering_then (nat_cmp (word_weight own.word.now + other.sig.now.degree)
-      (own.sig.now.degree + word_weight other.word.now))
+    (own.sig.now.degree + word_weight other.word.now))
     (nat_cmp other.sig.now.generator own.sig.now.generator)
 
 -- then the words of the two sides, where m stands between the own signature and the other leading

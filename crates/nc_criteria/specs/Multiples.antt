@@ -35,7 +35,7 @@ IsBestWithin s entries τ after until None =
 IsBestWithin s entries τ after until (Some m) =
     (w : Word) × (d : Divisor s entries w) × IsBestMultipleWithin s entries τ after until w d
     × (number_of s entries w d ≡ m.number) × (d.left ≡ take m.left τ.left)
-        × (d.right ≡ drop m.right τ.right)
+    × (d.right ≡ drop m.right τ.right)
     × (m.left ≤ length τ.left) × (m.right ≤ length τ.right)
 
 -- among all entries this is the best multiple of the definitions
@@ -43,5 +43,5 @@ abbrev pub BestMultipleLaw : Type 0
 BestMultipleLaw = (s : Setting) (entries : List Entry) (τ : Monomial) →
     (IsBestWithin s entries τ 0 (length entries) None ↔ ((w : Word) → ¬ MultipleAt s entries τ w))
     × ((w : Word) (d : Divisor s entries w)
-          → IsBestMultipleWithin s entries τ 0 (length entries) w d
-          ↔ IsBestMultiple s entries τ w d)
+    → IsBestMultipleWithin s entries τ 0 (length entries) w d
+    ↔ IsBestMultiple s entries τ w d)

@@ -15,18 +15,18 @@ use Rattle.std.specs.Prelude.{List, Some, slice_get, ℕ, ◌≡◌, ◌⊎◌}
 abbrev pub IsTrivialBy : Setting → Entry → Entry → Monomial → Type 0
 IsTrivialBy s own other τ =
     ((m : Word) × IsLess s (second_side s own m other) (first_side s own m other)
-          × Divides (first_side s own m other) τ)
+    × Divides (first_side s own m other) τ)
     ⊎ ((m : Word) × IsLess s (first_side s other m own) (second_side s other m own)
-          × Divides (second_side s other m own) τ)
+    × Divides (second_side s other m own) τ)
 
 -- so with the entries at these places, counted from 0
 pub record IsTrivialPair (s : Setting) (entries : List Entry) (τ : Monomial) (n j : ℕ) : Type 0
-    where
-  pub own : Entry
-  pub own_stands : slice_get entries n ≡ Some own
-  pub other : Entry
-  pub other_stands : slice_get entries j ≡ Some other
-  pub by : IsTrivialBy s own other τ
+  where
+    pub own : Entry
+    pub own_stands : slice_get entries n ≡ Some own
+    pub other : Entry
+    pub other_stands : slice_get entries j ≡ Some other
+    pub by : IsTrivialBy s own other τ
 
 -- so with the entry at this place and some other one
 abbrev pub IsTrivialAt : Setting → List Entry → Monomial → ℕ → Type 0

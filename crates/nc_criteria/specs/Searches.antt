@@ -20,5 +20,9 @@ IsBestBetween s entries τ after until =
 -- a multiple that was found, with its word
 abbrev pub found_of : Found → Best
 found_of f =
-    record { word = joined_word f.word;
-      left = f.word.first.now; number = f.number; right = f.word.third.now }
+    record {
+      word = joined_word f.word;
+      left = f.word.first.now;
+      number = f.number;
+      right = f.word.third.now;
+    }

@@ -29,7 +29,7 @@ impl<'a> Lead<'a> {
         requires some { 1 ≤ number }
         requires within { number ≤ length snapshot.now.state.entries }
         ensures { IsLeadAt snapshot.now.problem.problem.setting snapshot.now.state.entries
-              (number - 1) result }
+            (number - 1) result }
     {
         snapshot.recall_rule();
         let entry = snapshot.entry(number);

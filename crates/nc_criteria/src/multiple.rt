@@ -33,7 +33,7 @@ fn multiple_of<'a>(snapshot: &'a Snapshot, sig: &'a Sig, number: u32) -> Option<
     requires some { 1 ≤ number }
     requires within { number ≤ length snapshot.now.state.entries }
     ensures { IsMultipleAt snapshot.now.problem.problem.setting snapshot.now.state.entries
-          (monomial_of sig.now) (number - 1) (option_map found_of result) }
+        (monomial_of sig.now) (number - 1) (option_map found_of result) }
 {
     let lead = Lead::of(snapshot, number);
     let (first, third) = sig.divide(lead.sig)?;
@@ -49,7 +49,7 @@ fn multiple_of<'a>(snapshot: &'a Snapshot, sig: &'a Sig, number: u32) -> Option<
 /// The better one of the best so far and one of a later entry.
 fn better<'a>(best: Option<Found<'a>>, next: Option<Found<'a>>) -> Option<Found<'a>>
     ensures { option_map found_of result ≡ best_of (option_map found_of best.entry)
-          (option_map found_of next.entry) }
+        (option_map found_of next.entry) }
 {
     match (best, next) {
         (Some(a), Some(b)) => {
@@ -74,7 +74,7 @@ fn best_between<'a>(
     requires some { after < until }
     requires within { until ≤ length snapshot.now.state.entries }
     ensures { IsBestBetween snapshot.now.problem.problem.setting snapshot.now.state.entries
-          (monomial_of sig.now) after until (option_map found_of result) }
+        (monomial_of sig.now) after until (option_map found_of result) }
 {
     let mut best = None;
     for index in after..until {
@@ -88,7 +88,7 @@ fn best_between<'a>(
 /// taken.
 pub fn best_multiple(snapshot: &Snapshot, sig: &Sig, after: u32, until: u32) -> Option<Multiple>
     ensures { IsBestWithin snapshot.now.problem.problem.setting snapshot.now.state.entries
-          (monomial_of sig.now) after until result }
+        (monomial_of sig.now) after until result }
 {
     let last = until.min(snapshot.entries());
     if last <= after {

@@ -28,7 +28,7 @@ fn is_trivial_at(snapshot: &Snapshot, sig: &Sig, number: u32) -> bool
     requires some { 1 ≤ number }
     requires within { number ≤ length snapshot.now.state.entries }
     ensures { IsTrue result ↔ IsTrivialAt snapshot.now.problem.problem.setting
-          snapshot.now.state.entries (monomial_of sig.now) (number - 1) }
+        snapshot.now.state.entries (monomial_of sig.now) (number - 1) }
 {
     let own = Lead::of(snapshot, number);
     let Some((before, behind)) = sig.divide(own.sig) else {
@@ -45,7 +45,7 @@ fn is_trivial_at(snapshot: &Snapshot, sig: &Sig, number: u32) -> bool
 /// Whether a trivial syzygy divides the signature.
 fn is_trivial_below(snapshot: &Snapshot, sig: &Sig) -> bool
     ensures { IsTrue result ↔ IsTrivialBelow snapshot.now.problem.problem.setting
-          snapshot.now.state.entries (monomial_of sig.now) }
+        snapshot.now.state.entries (monomial_of sig.now) }
 {
     for index in 0..snapshot.entries() {
         if is_trivial_at(snapshot, sig, index + 1) {
@@ -59,7 +59,7 @@ fn is_trivial_below(snapshot: &Snapshot, sig: &Sig) -> bool
 /// taken.
 pub fn syzygy_divides(snapshot: &Snapshot, sig: &Sig) -> bool
     ensures { IsTrue result ↔ Covered snapshot.now.problem.problem.setting snapshot.now.state
-          (monomial_of sig.now) }
+        (monomial_of sig.now) }
 {
     is_listed(snapshot, sig) || is_trivial_below(snapshot, sig)
 }

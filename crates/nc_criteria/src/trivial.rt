@@ -124,7 +124,7 @@ pub(crate) fn is_trivial<'a>(
     behind: &'a [Letter],
 ) -> bool
     ensures { IsTrue result ↔ (IsBehind own.now other.now behind.now
-            ⊎ IsBefore own.now other.now before.now) }
+        ⊎ IsBefore own.now other.now before.now) }
 {
     let heads = own.compare_heads(other);
     is_behind(own, other, heads, behind) || is_before(own, other, heads, before)

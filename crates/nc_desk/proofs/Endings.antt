@@ -27,8 +27,8 @@ module _ (s : Snapshot) (h : IsSnapshot s) (ws : List Sig) (left : AreLeft s ws)
     run = left.run.run;
     ends = IsEnd.is_complete h.few left.run.runs
         (moved_none s.problem.problem s.state left.run.run
-          (same_run s.state left.run.run left.run.stands) left.last
-          (none_left s.problem.problem s.handled s.state left.last ws left.exact e));
+        (same_run s.state left.run.run left.run.stands) left.last
+        (none_left s.problem.problem s.handled s.state left.last ws left.exact e));
     stands = left.run.stands;
   }
 
@@ -39,9 +39,11 @@ module _ (s : Snapshot) (h : IsSnapshot s) (ws : List Sig) (left : AreLeft s ws)
 
   module _ (ascending : IsAscending ws) (σ : Sig) (others : List Sig) (is : ws ≡ σ ∷ others) where
     pub one_waits : Waits s
-    one_waits =
-        (monomial_of σ, next_of_run s h (monomial_of σ)
-          (least_next s h ws left ascending σ others is))
+    one_waits = (
+      monomial_of σ,
+      next_of_run s h (monomial_of σ)
+          (least_next s h ws left ascending σ others is),
+    )
 
     pub budget_end : ¬ (s.handled < s.problem.problem.steps)
         → IsEndAt s (Ending.budget (monomial_of σ))
@@ -49,9 +51,9 @@ module _ (s : Snapshot) (h : IsSnapshot s) (ws : List Sig) (left : AreLeft s ws)
       run = left.run.run;
       ends = IsEnd.is_budget (omega (arith, n, h.few)) left.run.runs (monomial_of σ)
           (moved_next s.problem.problem s.state left.run.run
-                (same_run s.state left.run.run left.run.stands) left.last (monomial_of σ)
-                (first_next s.problem.problem s.handled s.state left.last ws left.exact ascending σ
-                  others is).1);
+          (same_run s.state left.run.run left.run.stands) left.last (monomial_of σ)
+          (first_next s.problem.problem s.handled s.state left.last ws left.exact ascending σ
+          others is).1);
       stands = left.run.stands;
     }
 

@@ -32,9 +32,10 @@ left_at_first P ws units σ =
   where
     there : IsUnitWithin P σ → HasDegree P.setting σ × IsWaiting P opening None (monomial_of σ)
     there (i, (within, e)) =
-        let m : monomial_of σ ≡ unit_monomial i = ap monomial_of e in
-        (e ∙ ap (sig_of (generator_weight P.setting)) (sym m),
-              ((subst (IsWithin P) (sym m) within, inl (i, m)), tt))
+        let m : monomial_of σ ≡ unit_monomial i = ap monomial_of e in (
+          e ∙ ap (sig_of (generator_weight P.setting)) (sym m),
+          ((subst (IsWithin P) (sym m) within, inl (i, m)), tt),
+        )
 
     nothing : (w : Word) → Ambiguity P.setting [] (monomial_of σ) w → ⊥
     nothing w a = omega (arith, a.high.listed.1)
@@ -50,7 +51,7 @@ left_at_first P ws units σ =
 
 module _ (P : Problem) (n : ℕ) (state : State) (last : Option Monomial) (ws : List Sig)
     (exact : (σ : Sig) → Contains ws σ
-      ↔ (HasDegree P.setting σ × IsWaiting P state last (monomial_of σ))) where
+    ↔ (HasDegree P.setting σ × IsWaiting P state last (monomial_of σ))) where
   abbrev sig_at : Monomial → Sig
   sig_at ρ = sig_of (generator_weight P.setting) ρ
 
@@ -61,11 +62,16 @@ module _ (P : Problem) (n : ℕ) (state : State) (last : Option Monomial) (ws : 
   pub first_next : IsAscending ws → (σ : Sig) (others : List Sig) → ws ≡ σ ∷ others
       → HasDegree P.setting σ × IsNext P state last (monomial_of σ)
   first_next ascending σ others e =
-      let c = (exact σ).0 (subst (λ l. Contains l σ) (sym e) (0, omega arith, refl)) in
-      (c.0, record { candidate = c.1.0;
-              left = c.1.1; least = λ ρ k a. go c.0 ρ
+      let c = (exact σ).0 (subst (λ l. Contains l σ) (sym e) (0, omega arith, refl)) in (
+        c.0,
+        record {
+          candidate = c.1.0;
+          left = c.1.1;
+          least = λ ρ k a. go c.0 ρ
               (first_less σ others (subst IsAscending e ascending) (sig_at ρ)
-                (subst (λ l. Contains l (sig_at ρ)) e (listed ρ k a))) })
+              (subst (λ l. Contains l (sig_at ρ)) e (listed ρ k a)));
+        },
+      )
     where
       go : HasDegree P.setting σ → (ρ : Monomial) → (sig_at ρ ≡ σ)
           ⊎ (compare_sigs σ (sig_at ρ) ≡ Less) → (ρ ≡ monomial_of σ)
@@ -81,9 +87,9 @@ module _ (P : Problem) (n : ℕ) (state : State) (last : Option Monomial) (ws : 
       → ¬ IsNextOfRun P n state τ
   none_next e prime r τ x =
       let same : x.last ≡ last =
-          (run_unique P (field_from_prime P.setting.prime prime) x.runs r.runs).1 in
+      (run_unique P (field_from_prime P.setting.prime prime) x.runs r.runs).1 in
       none_left e τ (moved_candidate P x.run state (sym (same_run state x.run x.stands)) τ
-            x.next.candidate) (subst (λ l. IsAfter P l τ) same x.next.left)
+      x.next.candidate) (subst (λ l. IsAfter P l τ) same x.next.left)
 
   -- ---- after the first one was handled, and what it brings was added
 
@@ -91,8 +97,8 @@ module _ (P : Problem) (n : ℕ) (state : State) (last : Option Monomial) (ws : 
       (ascending : IsAscending ws) (σ : Sig) (others : List Sig) (is : ws ≡ σ ∷ others)
       (o : Outcome) (handles : Handles P.setting state (monomial_of σ) o)
       (new : List Sig) (new_ascending : IsAscending new) (added : (q : Sig) → Contains new q
-            ↔ (Contains ws q ⊎ IsBrought P state (monomial_of σ) o q)) (first : Sig)
-          (rest : List Sig) (taken : new ≡ first ∷ rest) where
+      ↔ (Contains ws q ⊎ IsBrought P state (monomial_of σ) o q)) (first : Sig)
+      (rest : List Sig) (taken : new ≡ first ∷ rest) where
     goes : GoesOn P n state last
     goes = goes_on P prime n state last r
 
@@ -119,7 +125,7 @@ module _ (P : Problem) (n : ℕ) (state : State) (last : Option Monomial) (ws : 
 
     one : first ≡ σ
     one = go (first_less first rest (subst IsAscending taken new_ascending) σ
-          (subst (λ l. Contains l σ) taken has_first))
+        (subst (λ l. Contains l σ) taken has_first))
         ((added first).0 (subst (λ l. Contains l first) (sym taken) (0, omega arith, refl)))
       where
         old : compare_sigs first σ ≡ Less → (first ≡ σ) ⊎ (compare_sigs σ first ≡ Less) → first ≡ σ
@@ -131,7 +137,7 @@ module _ (P : Problem) (n : ℕ) (state : State) (last : Option Monomial) (ws : 
         go (inl e) c = sym e
         go (inr l) (inl c) =
             old l (first_less σ others (subst IsAscending is ascending) first
-              (subst (λ s. Contains s first) is c))
+            (subst (λ s. Contains s first) is c))
         go (inr l) (inr b) = absurd (not_both first σ l (greater first b))
 
     other_monomial : (q : Sig) → HasDegree P.setting q → q ≢ first → monomial_of q ≢ monomial_of σ
@@ -140,17 +146,18 @@ module _ (P : Problem) (n : ℕ) (state : State) (last : Option Monomial) (ws : 
 
     pub left_later : (q : Sig) → Contains rest q
         ↔ (HasDegree P.setting q × IsWaiting P (untraced (state_after state (monomial_of σ) o))
-          (Some (monomial_of σ)) (monomial_of q))
-    left_later q =
-        (λ c. let t = others_other first rest (subst IsAscending taken new_ascending) q c in
+        (Some (monomial_of σ)) (monomial_of q))
+    left_later q = (
+      λ c. let t = others_other first rest (subst IsAscending taken new_ascending) q c in
           there t.1 ((added q).0 (subst (λ l. Contains l q) (sym taken) t.0)),
-          λ w. back w.0 (law.0 w.1))
+      λ w. back w.0 (law.0 w.1),
+    )
       where
         law : IsWaiting P (untraced (state_after state (monomial_of σ) o)) (Some (monomial_of σ))
             (monomial_of q) ↔ ((IsWaiting P state last (monomial_of q)
-                × (monomial_of q ≢ monomial_of σ))
-              ⊎ (IsWithin P (monomial_of q) × BringsAmbiguity P.setting state (monomial_of σ) o
-                (monomial_of q)))
+            × (monomial_of q ≢ monomial_of σ))
+            ⊎ (IsWithin P (monomial_of q) × BringsAmbiguity P.setting state (monomial_of σ) o
+            (monomial_of q)))
         law = goes.waits (monomial_of σ) o next handles (monomial_of q)
 
         there : q ≢ first → Contains ws q ⊎ IsBrought P state (monomial_of σ) o q
@@ -165,11 +172,11 @@ module _ (P : Problem) (n : ℕ) (state : State) (last : Option Monomial) (ws : 
             (subst (λ l. Contains l q) taken c) n
 
         back : HasDegree P.setting q → (IsWaiting P state last (monomial_of q)
-              × (monomial_of q ≢ monomial_of σ))
+            × (monomial_of q ≢ monomial_of σ))
             ⊎ (IsWithin P (monomial_of q) × BringsAmbiguity P.setting state (monomial_of σ) o
-              (monomial_of q)) → Contains rest q
+            (monomial_of q)) → Contains rest q
         back h (inl (w, n)) =
             kept (λ e. n (ap monomial_of (e ∙ one))) ((added q).1 (inl ((exact q).1 (h, w))))
         back h (inr (i, b)) =
             kept (λ e. let l = subst (λ y. compare_sigs σ y ≡ Less) (e ∙ one)
-              (greater q (h, i, b)) in not_both σ σ l l) ((added q).1 (inr (h, i, b)))
+            (greater q (h, i, b)) in not_both σ σ l l) ((added q).1 (inr (h, i, b)))

@@ -36,9 +36,10 @@ module _ (σ : Sig) (others : List Sig) (ascending : IsAscending (σ ∷ others)
   -- the others are those that are not the first one
   pub others_other : (q : Sig) → Contains others q → Contains (σ ∷ others) q × (q ≢ σ)
   others_other q c =
-      let h = contains_among q others c in
-      (among_contains q (σ ∷ others) (inr h),
-            λ e. let l = subst (λ y. compare_sigs σ y ≡ Less) e (behind q h) in not_both σ σ l l)
+      let h = contains_among q others c in (
+        among_contains q (σ ∷ others) (inr h),
+        λ e. let l = subst (λ y. compare_sigs σ y ≡ Less) e (behind q h) in not_both σ σ l l,
+      )
 
   pub other_others : (q : Sig) → Contains (σ ∷ others) q → q ≢ σ → Contains others q
   other_others q c n =

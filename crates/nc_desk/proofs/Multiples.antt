@@ -41,7 +41,7 @@ module _ (s : Setting) (entries : List Entry) (usable : All (IsUsable s) entries
     pub lead_few : length u + length t.key + length v ≤ 200000
     lead_few =
         (subst (λ (f : Polynomial). All (λ x. length u + length x.key + length v ≤ 200000) f)
-          (read ∙ parts) readable.2) 0 t (omega arith)
+        (read ∙ parts) readable.2) 0 t (omega arith)
 
     pub lead_is : leading s.prime (polynomial_of entries j) ≡ t.key
     lead_is =
@@ -66,13 +66,17 @@ module _ (s : Setting) (state : State) (τ : Monomial) (m : Multiple)
   at =
       let place : best.1.listed.0 ≡ m.number - 1 = omega (arith, best.3) in
       subst (λ k. slice_get state.entries k ≡ Some best.1.entry) place
-          (slice_get_read state.entries (length state.entries) best.1.listed.0 best.1.entry refl
-            best.1.listed.1 (sym best.1.listed.2))
+      (slice_get_read state.entries (length state.entries) best.1.listed.0 best.1.entry refl
+      best.1.listed.1 (sym best.1.listed.2))
 
   pub best_start : IsStartAt s state.entries τ (Start.a_multiple u m.number v)
-  best_start =
-      (best.1.entry, some, at, ap₂ (λ x y. times x best.1.entry.signature y) (sym left) (sym right)
-        ∙ best.2.multiple.signed)
+  best_start = (
+    best.1.entry,
+    some,
+    at,
+    ap₂ (λ x y. times x best.1.entry.signature y) (sym left) (sym right)
+        ∙ best.2.multiple.signed,
+  )
 
   read_best : best.1.entry.polynomial ≡ polynomial_of state.entries m.number
   read_best = sym (polynomial_at state.entries m.number best.1.entry some at)
@@ -81,7 +85,7 @@ module _ (s : Setting) (state : State) (τ : Monomial) (m : Multiple)
   spells =
       ap₂ (λ x y. x ++ (leading s.prime (polynomial_of state.entries m.number) ++ y)) (sym left)
       (sym right) ∙ (ap (λ f. best.1.left ++ (leading s.prime f ++ best.1.right)) (sym read_best)
-        ∙ best.1.spells)
+      ∙ best.1.spells)
 
   module _ (law : BestMultipleLaw) (uncovered : ¬ Covered s state τ)
       (other : τ ≢ unit_monomial τ.generator) (x : Word)
@@ -100,29 +104,29 @@ module _ (s : Setting) (state : State) (τ : Monomial) (m : Multiple)
     best_settled none =
         subst (λ j. Handles s state τ (Outcome.settled j)) best.3
         (Handles.is_settled uncovered no_unit best.0 best.1 is_best
-          (subst (λ y. ¬ RegularDivisor s state.entries τ y) same none))
+        (subst (λ y. ¬ RegularDivisor s state.entries τ y) same none))
 
     starts : RegularDivisor s state.entries τ x
         → Starts s state.entries τ (start_polynomial s state.entries
-          (Start.a_multiple u m.number v)) (Start.a_multiple u m.number v)
+        (Start.a_multiple u m.number v)) (Start.a_multiple u m.number v)
     starts regular =
         let from : Starts s state.entries τ (multiple_at s state.entries best.0 best.1)
-            (Start.a_multiple best.1.left (number_of s state.entries best.0 best.1) best.1.right) =
-            Starts.at_multiple no_unit best.0 best.1 is_best
-            (subst (RegularDivisor s state.entries τ) same regular) in
+        (Start.a_multiple best.1.left (number_of s state.entries best.0 best.1) best.1.right) =
+        Starts.at_multiple no_unit best.0 best.1 is_best
+        (subst (RegularDivisor s state.entries τ) same regular) in
         let read : Starts s state.entries τ
-            (polynomial_times best.1.left (polynomial_of state.entries m.number) best.1.right)
-            (Start.a_multiple best.1.left m.number best.1.right) =
-            subst (λ f. Starts s state.entries τ (polynomial_times best.1.left f best.1.right)
-              (Start.a_multiple best.1.left m.number best.1.right)) read_best
-            (subst (λ j. Starts s state.entries τ (multiple_at s state.entries best.0 best.1)
-                (Start.a_multiple best.1.left j best.1.right)) best.3 from) in
+        (polynomial_times best.1.left (polynomial_of state.entries m.number) best.1.right)
+        (Start.a_multiple best.1.left m.number best.1.right) =
+        subst (λ f. Starts s state.entries τ (polynomial_times best.1.left f best.1.right)
+        (Start.a_multiple best.1.left m.number best.1.right)) read_best
+        (subst (λ j. Starts s state.entries τ (multiple_at s state.entries best.0 best.1)
+        (Start.a_multiple best.1.left j best.1.right)) best.3 from) in
         subst (λ y. Starts s state.entries τ
-              (polynomial_times u (polynomial_of state.entries m.number) y)
-              (Start.a_multiple u m.number y)) right
-            (subst (λ y. Starts s state.entries τ
-                (polynomial_times y (polynomial_of state.entries m.number) best.1.right)
-                (Start.a_multiple y m.number best.1.right)) left read)
+        (polynomial_times u (polynomial_of state.entries m.number) y)
+        (Start.a_multiple u m.number y)) right
+        (subst (λ y. Starts s state.entries τ
+        (polynomial_times y (polynomial_of state.entries m.number) best.1.right)
+        (Start.a_multiple y m.number best.1.right)) left read)
 
     pub best_reduced : RegularDivisor s state.entries τ x
         → (start : Start) (kept : Polynomial) (steps : List Step) (o : Outcome)
@@ -132,4 +136,4 @@ module _ (s : Setting) (state : State) (τ : Monomial) (m : Multiple)
     best_reduced regular start kept steps o is reduces made =
         handled s state τ uncovered (start_polynomial s state.entries start) kept start steps o
         (subst (λ (b : Start). Starts s state.entries τ (start_polynomial s state.entries b) b)
-          (sym is) (starts regular)) reduces made
+        (sym is) (starts regular)) reduces made

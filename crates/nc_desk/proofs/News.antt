@@ -42,18 +42,18 @@ module _ (s : Snapshot) (h : IsSnapshot s) (τ : Monomial) (x : IsNextAt s τ) w
     usable : IsUsable s.problem.problem.setting (untraced_entry new)
     usable =
         let later : IsRunTo s.problem.problem (s.handled + 1)
-            (untraced (state_after s.state τ (Outcome.an_entry f trace))) (Some τ) =
-            goes.step τ (Outcome.an_entry f trace) x.next handles in
+        (untraced (state_after s.state τ (Outcome.an_entry f trace))) (Some τ) =
+        goes.step τ (Outcome.an_entry f trace) x.next handles in
         let run : IsRunOf s.problem.problem (s.handled + 1)
-            (untraced (state_after s.state τ (Outcome.an_entry f trace))) =
-            record { run = later.run; last = Some τ; runs = later.runs; stands = later.stands } in
+        (untraced (state_after s.state τ (Outcome.an_entry f trace))) =
+        record { run = later.run; last = Some τ; runs = later.runs; stands = later.stands } in
         let all : All (IsUsable s.problem.problem.setting)
-            (map untraced_entry (s.state.entries ++ new ∷ [])) =
-            (facts s.problem h.problem (snapshot_prime s h) (s.handled + 1)
-              (untraced (state_after s.state τ (Outcome.an_entry f trace))) run).usable in
+        (map untraced_entry (s.state.entries ++ new ∷ [])) =
+        (facts s.problem h.problem (snapshot_prime s h) (s.handled + 1)
+        (untraced (state_after s.state τ (Outcome.an_entry f trace))) run).usable in
         let c : Contains (map untraced_entry (s.state.entries ++ new ∷ [])) (untraced_entry new) =
-            image untraced_entry (s.state.entries ++ new ∷ []) new
-            (Contains-push s.state.entries new) in
+        image untraced_entry (s.state.entries ++ new ∷ []) new
+        (Contains-push s.state.entries new) in
         subst (IsUsable s.problem.problem.setting) c.2 (all c.0 (untraced_entry new) c.1)
 
     module _ (t : Term Word) (others : Polynomial) (parts : f ≡ t ∷ others) where
@@ -67,18 +67,18 @@ module _ (s : Snapshot) (h : IsSnapshot s) (τ : Monomial) (x : IsNextAt s τ) w
           (leads more : List Lead) (listed : LeadsOf s leads)
           (added : more ≡ leads ++ record { word = t.key; signature = σ } ∷ [])
           (found : List Sig) (degrees : All (HasDegree s.problem.problem.setting) found)
-              (exact : AreNewSignatures s.problem.problem s.state.entries t.key τ found) where
+          (exact : AreNewSignatures s.problem.problem s.state.entries t.key τ found) where
         the_lead : record { word = t.key; signature = σ } ≡ lead_of s.problem.problem.setting new
         the_lead =
             let a = new_lead in let b =
-                degree ∙ ap (sig_of (generator_weight s.problem.problem.setting)) is in
+            degree ∙ ap (sig_of (generator_weight s.problem.problem.setting)) is in
             λ i. record { word = sym a i; signature = b i }
 
         more_listed : more ≡ leads_of s.problem.problem.setting (s.state.entries ++ new ∷ [])
         more_listed =
             added ∙ (ap (λ l. l ++ record { word = t.key; signature = σ } ∷ []) listed
-              ∙ (ap (λ (l : Lead). leads_of s.problem.problem.setting s.state.entries ++ l ∷ [])
-                the_lead ∙ sym (map_push (lead_of s.problem.problem.setting) s.state.entries new)))
+            ∙ (ap (λ (l : Lead). leads_of s.problem.problem.setting s.state.entries ++ l ∷ [])
+            the_lead ∙ sym (map_push (lead_of s.problem.problem.setting) s.state.entries new)))
 
         same : (q q' : Sig) → HasDegree s.problem.problem.setting q
             → HasDegree s.problem.problem.setting q' → monomial_of q ≡ monomial_of q' → q ≡ q'

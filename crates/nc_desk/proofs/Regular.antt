@@ -15,12 +15,18 @@ use Rattle.std.specs.Prelude.{IsTrue, ◌↔◌}
 pub chosen_regular : (s : Setting) (entries : List Entry) (β : Sig) → HasDegree s β
     → (w : Word) (answer : Option Hit) → IsChosen s entries w β answer → IsTrue (is_some answer)
     ↔ RegularDivisor s entries (monomial_of β) w
-chosen_regular s entries β degree w None none =
-    (λ t. absurd (false≢true t), λ r. absurd
+chosen_regular s entries β degree w None none = (
+  λ t. absurd (false≢true t),
+  λ r. absurd
       (none r.divisor (sigs_from_less s
-          (sig_of (generator_weight s) (signature_at s entries w r.divisor)) β refl degree
-          r.below)))
-chosen_regular s entries β degree w (Some h) found =
-    (λ t. record { divisor = found.0;
-        below = less_from_sigs s (sig_of (generator_weight s) (signature_at s entries w found.0)) β
-        refl degree found.1.allowed }, λ r. refl)
+      (sig_of (generator_weight s) (signature_at s entries w r.divisor)) β refl degree
+      r.below)),
+)
+chosen_regular s entries β degree w (Some h) found = (
+  λ t. record {
+    divisor = found.0;
+    below = less_from_sigs s (sig_of (generator_weight s) (signature_at s entries w found.0)) β
+        refl degree found.1.allowed;
+  },
+  λ r. refl,
+)

@@ -34,8 +34,11 @@ module _ (s : Snapshot) (τ : Monomial) (o : Outcome)
     (handles : Handles s.problem.problem.setting s.state τ o) (later : Snapshot)
     (problem : later.problem ≡ s.problem) (handled : later.handled ≡ s.handled + 1)
     (is : later.state ≡ untraced (state_after s.state τ o)) where
-  pub later_is : later ≡ record { problem = s.problem;
-        handled = s.handled + 1; state = untraced (state_after s.state τ o) }
+  pub later_is : later ≡ record {
+    problem = s.problem;
+    handled = s.handled + 1;
+    state = untraced (state_after s.state τ o);
+  }
   later_is = λ i. record { problem = problem i; handled = handled i; state = is i }
 
   module _ (leads : List Lead) (old found new : List Sig)
@@ -45,7 +48,7 @@ module _ (s : Snapshot) (τ : Monomial) (o : Outcome)
     later_listed =
         subst (λ (t : Snapshot). LeadsOf t leads) (sym later_is)
         (news.listed ∙ sym (untraced_leads s.problem.problem.setting
-            (state_after s.state τ o).entries))
+        (state_after s.state τ o).entries))
 
     added : (σ : Sig) → Contains new σ
         ↔ (Contains old σ ⊎ IsBrought s.problem.problem s.state τ o σ)
@@ -63,8 +66,14 @@ module _ (s : Snapshot) (τ : Monomial) (o : Outcome)
 
     pub advances : IsAdvance s τ later leads old new
     advances =
-        record { outcome = o; handles = handles;
-          snapshot = later_is; listed = later_listed; ascending = ascending; added = added }
+        record {
+          outcome = o;
+          handles = handles;
+          snapshot = later_is;
+          listed = later_listed;
+          ascending = ascending;
+          added = added;
+        }
 
 -- ---- the desk's parts
 
@@ -78,13 +87,16 @@ module _ (s : Snapshot) (h : IsSnapshot s) (ws : List Sig) (left : AreLeft s ws)
     pub least_degree : HasDegree s.problem.problem.setting σ
     least_degree =
         (first_next s.problem.problem s.handled s.state left.last ws left.exact ascending σ others
-          is).0
+        is).0
 
     pub least_next : IsNextAt s (monomial_of σ)
     least_next =
-        record { last = left.last; run = left.run;
+        record {
+          last = left.last;
+          run = left.run;
           next = (first_next s.problem.problem s.handled s.state left.last ws left.exact ascending σ
-            others is).1 }
+              others is).1;
+        }
 
     module _ (later : Snapshot) (leads : List Lead) (new : List Sig)
         (a : IsAdvance s (monomial_of σ) later leads ws new) where
@@ -102,19 +114,28 @@ module _ (s : Snapshot) (h : IsSnapshot s) (ws : List Sig) (left : AreLeft s ws)
       pub left_then : (first : Sig) (rest : List Sig) → new ≡ first ∷ rest → AreLeft later rest
       left_then first rest taken =
           subst (λ (t : Snapshot). AreLeft t rest) (sym a.snapshot) (record {
-        last = Some (monomial_of σ);
-        run = later_run s.problem.problem s.handled s.state left.last ws left.exact
-            (snapshot_prime s h) left.run ascending σ others is a.outcome a.handles new a.ascending
-            a.added first rest taken;
-        exact = left_later s.problem.problem s.handled s.state left.last ws left.exact
-            (snapshot_prime s h) left.run ascending σ others is a.outcome a.handles new a.ascending
-            a.added first rest taken;
-      })
+            last = Some (monomial_of σ);
+            run = later_run s.problem.problem s.handled s.state left.last ws left.exact
+                (snapshot_prime s h) left.run ascending σ others is a.outcome a.handles new
+                a.ascending
+                a.added first rest taken;
+            exact = left_later s.problem.problem s.handled s.state left.last ws left.exact
+                (snapshot_prime s h) left.run ascending σ others is a.outcome a.handles new
+                a.ascending
+                a.added first rest taken;
+          })
 
       pub some_then : new ≡ [] → ⊥
       some_then e =
-          omega (arith, (subst (λ l. Contains l σ) e
-              ((a.added σ).1 (inl (subst (λ l. Contains l σ) (sym is) (0, omega arith, refl))))).1)
+          omega (
+            arith,
+            (subst (λ l. Contains l σ) e
+                ((a.added σ).1 (inl (subst (λ l. Contains l σ) (sym is) (
+                  0,
+                  omega arith,
+                  refl,
+                ))))).1,
+          )
 
       -- whatever is taken out first
       pub left_taken : {A : Type 0} (f : A → Sig) (rest : List Sig) (o : Option A)

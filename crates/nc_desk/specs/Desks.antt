@@ -27,15 +27,15 @@ pub record AreLeft (s : Snapshot) (signatures : List Sig) : Type 0 where
   pub run : IsRunTo s.problem.problem s.handled s.state last
   pub exact : (σ : Sig) → Contains signatures σ
       ↔ (HasDegree s.problem.problem.setting σ
-        × IsWaiting s.problem.problem s.state last (monomial_of σ))
+      × IsWaiting s.problem.problem s.state last (monomial_of σ))
 
 -- what is kept beside a snapshot fits it, and the window is 1 to 4,096
 pub record IsDesk (s : Snapshot) (leads : List Lead) (signatures : List Sig) (window : ℕ) : Type 0
-    where
-  pub listed : LeadsOf s leads
-  pub left : AreLeft s signatures
-  pub some : 1 ≤ window
-  pub few : window ≤ 4096
+  where
+    pub listed : LeadsOf s leads
+    pub left : AreLeft s signatures
+    pub some : 1 ≤ window
+    pub few : window ≤ 4096
 
 -- τ is the next signature after the last one that was handled
 pub record IsNextAt (s : Snapshot) (τ : Monomial) : Type 0 where

@@ -44,8 +44,11 @@ pub record IsAdvance (s : Snapshot) (τ : Monomial) (later : Snapshot) (leads : 
     (old new : List Sig) : Type 0 where
   pub outcome : Outcome
   pub handles : Handles s.problem.problem.setting s.state τ outcome
-  pub snapshot : later ≡ record { problem = s.problem;
-        handled = s.handled + 1; state = untraced (state_after s.state τ outcome) }
+  pub snapshot : later ≡ record {
+    problem = s.problem;
+    handled = s.handled + 1;
+    state = untraced (state_after s.state τ outcome);
+  }
   pub listed : LeadsOf later leads
   pub ascending : IsAscending new
   pub added : (σ : Sig) → Contains new σ

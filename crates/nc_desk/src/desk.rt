@@ -64,7 +64,7 @@ impl Desk {
         requires some { 1 ≤ window }
         requires few { window ≤ 4096 }
         ensures snapshot { IfOk result
-              (λ d. d.snapshot ≡ record { problem = problem.value; handled = 0; state = opening }) }
+            (λ d. d.snapshot ≡ record { problem = problem.value; handled = 0; state = opening }) }
         ensures window { IfOk result (λ d. d.window ≡ window) }
     {
         let waiting = Waiting::of(alloc, &problem)?;
@@ -146,9 +146,9 @@ impl Desk {
         ensures snapshot { result.snapshot ≡ self.snapshot }
         ensures driven { result.driven + begun ≡ self.snapshot.handled }
         ensures bases { HasBasesAt result.snapshot.problem.problem result.snapshot.state
-              result.ending }
+            result.ending }
         ensures canonical { AreCanonical result.snapshot.problem.problem.setting
-              result.snapshot.state }
+            result.snapshot.state }
         ensures ended { IsEndAt result.snapshot result.ending }
     {
         self.snapshot.recall_rule();
@@ -173,9 +173,9 @@ impl Desk {
         ensures problem { IfOk result (λ f. f.snapshot.problem ≡ self.snapshot.problem) }
         ensures driven { IfOk result (λ f. f.driven + self.snapshot.handled ≡ f.snapshot.handled) }
         ensures bases { IfOk result (λ f. HasBasesAt f.snapshot.problem.problem f.snapshot.state
-                f.ending) }
+            f.ending) }
         ensures canonical { IfOk result
-              (λ f. AreCanonical f.snapshot.problem.problem.setting f.snapshot.state) }
+            (λ f. AreCanonical f.snapshot.problem.problem.setting f.snapshot.state) }
         ensures ended { IfOk result (λ f. IsEndAt f.snapshot f.ending) }
         ensures later { IfErr result (λ e. IsLater self e.0) }
     {
@@ -195,7 +195,7 @@ impl Desk {
         ensures ended { IfOk result (IsEndIfAny self.now.snapshot) }
         ensures waits { OnErr result (Waits self.now.snapshot) }
         ensures used { OnErr result (self.now.snapshot.handled
-                ≡ self.now.snapshot.problem.problem.steps) }
+            ≡ self.now.snapshot.problem.problem.steps) }
     {
         let problem = self.snapshot.problem();
         let Some(least) = self.waiting.least() else {
@@ -210,9 +210,14 @@ impl Desk {
 
     /// What was counted.
     pub fn counts(&self) -> Counts
-        ensures { result ≡ record { claimed = 0;
-                settled = 0; dropped = 0; abandoned = 0;
-                held = 0; alone = self.now.snapshot.handled } }
+        ensures { result ≡ record {
+          claimed = 0;
+          settled = 0;
+          dropped = 0;
+          abandoned = 0;
+          held = 0;
+          alone = self.now.snapshot.handled;
+        } }
     {
         Counts {
             claimed: 0,

@@ -33,8 +33,7 @@ impl Model for Finished {
 
     ghost Value = { Finished };
 
-    ghost view =
-        { λ f. record { snapshot = f.snapshot; ending = end_of f.end; driven = f.driven } };
+    ghost view = { λ f. record { snapshot = f.snapshot; ending = end_of f.end; driven = f.driven } };
 
     ghost invariant = { λ f. IsFinishedRun f.snapshot f.leads f.end };
 }

@@ -21,8 +21,7 @@ use std::alloc::{AllocError, Global};
 
 /// The outcome that a reduction makes: a syzygy where nothing is left.
 fn outcome_from(reduced: Reduced) -> Outcome
-    ensures { outcome_of result ≡ outcome_after reduced.trace.start reduced.poly reduced.trace.steps
-          }
+    ensures { outcome_of result ≡ outcome_after reduced.trace.start reduced.poly reduced.trace.steps }
 {
     let Reduced { poly, trace } = reduced;
     if poly.is_zero() {
@@ -52,9 +51,9 @@ fn from_generator(
     requires generator { IsGenerator snapshot.now.problem.problem.setting sig.now.generator }
     requires unit { monomial_of sig.now ≡ unit_monomial sig.now.generator }
     requires uncovered { ¬ Covered snapshot.now.problem.problem.setting snapshot.now.state
-          (monomial_of sig.now) }
+        (monomial_of sig.now) }
     ensures { IfOk result (λ o. Handles snapshot.now.problem.problem.setting snapshot.now.state
-            (monomial_of sig.now) (outcome_of o)) }
+        (monomial_of sig.now) (outcome_of o)) }
 {
     let start = Start::Generator(sig.generator);
     let reduced = reduce(alloc, snapshot, leads, start, sig)?;
@@ -74,11 +73,11 @@ fn from_multiple(
     requires usable { IsUsableSignature snapshot.now.problem.problem.setting (monomial_of sig.now) }
     requires other { monomial_of sig.now ≢ unit_monomial sig.now.generator }
     requires uncovered { ¬ Covered snapshot.now.problem.problem.setting snapshot.now.state
-          (monomial_of sig.now) }
+        (monomial_of sig.now) }
     requires best { IsBestWithin snapshot.now.problem.problem.setting snapshot.now.state.entries
-          (monomial_of sig.now) 0 (length snapshot.now.state.entries) (Some best) }
+        (monomial_of sig.now) 0 (length snapshot.now.state.entries) (Some best) }
     ensures { IfOk result (λ o. Handles snapshot.now.problem.problem.setting snapshot.now.state
-            (monomial_of sig.now) (outcome_of o)) }
+        (monomial_of sig.now) (outcome_of o)) }
 {
     best_multiple_law();
     snapshot.recall_rule();
@@ -107,9 +106,9 @@ pub fn handle(
     requires leads { LeadsOf snapshot.now leads.now }
     requires degree { HasDegree snapshot.now.problem.problem.setting sig.now }
     requires candidate { IsCandidate snapshot.now.problem.problem snapshot.now.state
-          (monomial_of sig.now) }
+        (monomial_of sig.now) }
     ensures { IfOk result (λ o. Handles snapshot.now.problem.problem.setting snapshot.now.state
-            (monomial_of sig.now) (outcome_of o)) }
+        (monomial_of sig.now) (outcome_of o)) }
 {
     snapshot.recall_rule();
     if syzygy_divides(snapshot, sig) {

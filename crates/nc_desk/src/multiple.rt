@@ -23,9 +23,9 @@ use std::alloc::{AllocError, Global};
 /// The best multiple at a signature that has one.
 pub(crate) fn best_at(snapshot: &Snapshot, sig: &Sig) -> Multiple
     requires { (w : WordValue) × MultipleAt snapshot.now.problem.problem.setting
-          snapshot.now.state.entries (monomial_of sig.now) w }
+        snapshot.now.state.entries (monomial_of sig.now) w }
     ensures { IsBestWithin snapshot.now.problem.problem.setting snapshot.now.state.entries
-          (monomial_of sig.now) 0 (length snapshot.now.state.entries) (Some result) }
+        (monomial_of sig.now) 0 (length snapshot.now.state.entries) (Some result) }
 {
     best_multiple_law();
     match best_multiple(snapshot, sig, 0, snapshot.entries()) {
@@ -62,10 +62,10 @@ pub(crate) fn leading_word(
     right: &[Letter],
 ) -> Result<Word, AllocError>
     requires { IsReadable snapshot.now.problem.problem.setting snapshot.now.state.entries
-          (Beginning.a_multiple left.now number right.now) }
+        (Beginning.a_multiple left.now number right.now) }
     ensures { IfOk result (λ w. w ≡ left.now
-            ++ (leading snapshot.now.problem.problem.setting.prime
-              (polynomial_of snapshot.now.state.entries number) ++ right.now)) }
+        ++ (leading snapshot.now.problem.problem.setting.prime
+        (polynomial_of snapshot.now.state.entries number) ++ right.now)) }
 {
     snapshot.recall_rule();
     let Some(lead) = snapshot.entry(number).poly().lead() else {
@@ -98,7 +98,7 @@ pub(crate) fn is_reducible(snapshot: &Snapshot, leads: &Leads, sig: &Sig, word: 
     requires leads { LeadsOf snapshot.now leads.now }
     requires degree { HasDegree snapshot.now.problem.problem.setting sig.now }
     ensures { IsTrue result ↔ RegularDivisor snapshot.now.problem.problem.setting
-          snapshot.now.state.entries (monomial_of sig.now) word.now }
+        snapshot.now.state.entries (monomial_of sig.now) word.now }
 {
     leads_law();
     leads.first_regular(word.letters(), sig).is_some()

@@ -41,13 +41,13 @@ fn entry_news(
     requires degree { HasDegree snapshot.now.problem.problem.setting sig.now.value }
     requires next { IsNextAt snapshot.now (monomial_of sig.now.value) }
     requires handles { (trace : Trace)
-          × Handles snapshot.now.problem.problem.setting snapshot.now.state
-          (monomial_of sig.now.value) (Result.an_entry poly.now trace) }
+        × Handles snapshot.now.problem.problem.setting snapshot.now.state
+        (monomial_of sig.now.value) (Result.an_entry poly.now trace) }
     ensures { IfOk result (λ r. (trace : Trace)
-            → Handles snapshot.now.problem.problem.setting snapshot.now.state
-            (monomial_of sig.now.value) (Result.an_entry poly.now trace)
-            → AreNews snapshot.now.problem.problem snapshot.now.state (monomial_of sig.now.value)
-            (Result.an_entry poly.now trace) r.0 (map arc_value r.1.items)) }
+        → Handles snapshot.now.problem.problem.setting snapshot.now.state
+        (monomial_of sig.now.value) (Result.an_entry poly.now trace)
+        → AreNews snapshot.now.problem.problem snapshot.now.state (monomial_of sig.now.value)
+        (Result.an_entry poly.now trace) r.0 (map arc_value r.1.items)) }
 {
     snapshot.recall_rule();
     snapshot.recall_rule();
@@ -81,9 +81,9 @@ fn news(
     requires degree { HasDegree snapshot.now.problem.problem.setting sig.now.value }
     requires next { IsNextAt snapshot.now (monomial_of sig.now.value) }
     requires handles { Handles snapshot.now.problem.problem.setting snapshot.now.state
-          (monomial_of sig.now.value) (outcome_of outcome.now) }
+        (monomial_of sig.now.value) (outcome_of outcome.now) }
     ensures { IfOk result (λ r. AreNews snapshot.now.problem.problem snapshot.now.state
-            (monomial_of sig.now.value) (outcome_of outcome.now) r.0 (map arc_value r.1.items)) }
+        (monomial_of sig.now.value) (outcome_of outcome.now) r.0 (map arc_value r.1.items)) }
 {
     match outcome {
         Outcome::Covered => no_news(alloc, leads),
@@ -107,7 +107,7 @@ pub(crate) fn advance(
     requires next { IsNextAt snapshot.now (monomial_of sig.now.value) }
     requires steps { snapshot.now.handled < snapshot.now.problem.problem.steps }
     ensures advance { IfOk result (λ r. IsAdvance snapshot.now (monomial_of sig.now.value) r.0 r.1
-            waiting.old waiting.new) }
+        waiting.old waiting.new) }
     ensures unchanged { OnErr result (waiting.new ≡ waiting.old) }
 {
     snapshot.recall_rule();

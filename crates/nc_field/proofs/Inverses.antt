@@ -26,7 +26,7 @@ pub coprime_rest : (m n : ℕ) → AreCoprime m n → AreCoprime n (m % n)
 coprime_rest m n h = record {
   divisors =
       λ d k r. h.divisors d (subst (λ x. d ∣ x) (div-add-mod m n)
-        (dvd-add d (dvd-mul_right_of_dvd d k (m / n)) r)) k;
+      (dvd-add d (dvd-mul_right_of_dvd d k (m / n)) r)) k;
 }
 
 pub rest_some : (m n : ℕ) → AreCoprime m n → (n ≡ 1 → ⊥) → 0 < m % n
@@ -42,13 +42,13 @@ rest_factor : (p a m n s t x : ℕ) → x < p → x ≡ (m / n * t) % p → (a *
     → (a * t) % p ≡ n % p → (a * ((s + (p - x)) % p)) % p ≡ (m % n) % p
 rest_factor p a m n s t x below is of_m of_n =
     mul-mod_second a (s + (p - x)) p ∙ same_cancel p (a * (s + (p - x))) (m % n) (m / n * n)
-        (omega arith) (left ∙ sym right)
+    (omega arith) (left ∙ sym right)
   where
     multiple : (m / n * n) % p ≡ (a * x) % p
     multiple =
         same_mul p (m / n) n (a * t) (sym of_n)
         ∙ (ap (λ k. k % p) (regroup (m / n))
-              ∙ (sym (mul-mod_second a (m / n * t) p) ∙ ap (λ k. (a * k) % p) (sym is)))
+        ∙ (sym (mul-mod_second a (m / n * t) p) ∙ ap (λ k. (a * k) % p) (sym is)))
       where
         regroup : (q : ℕ) → q * (a * t) ≡ a * (q * t)
         regroup q = omega arith

@@ -35,7 +35,7 @@ none_divides_at p (suc d) k h one few e =
     by_place top below (inl q) =
         let same : k ≡ suc (suc d) = omega arith in
         not_true (nat_eq (p % suc (suc d)) 0) top
-            ((Decides-eqb (p % suc (suc d)) 0).1 (sym (ap (λ n. p % n) same) ∙ e))
+        ((Decides-eqb (p % suc (suc d)) 0).1 (sym (ap (λ n. p % n) same) ∙ e))
 
 -- a number with no divisor between 1 and itself is a prime
 prime_by_test : (p d : ℕ) → p ≡ d + 2 → none_divides p d ≡ true → IsPrime p
@@ -49,7 +49,7 @@ prime_by_test p d size test = record { above_one = omega arith; divisors = each 
         by_size (inr low) other = inl (omega arith)
         by_size (inl high) (inl low) =
             absurd (none_divides_at p d (suc k) test high (omega arith)
-              (mod-eq-zero_of_dvd (suc k) h))
+            (mod-eq-zero_of_dvd (suc k) h))
         by_size (inl high) (inr top) =
             let most : suc k ≤ p = le_of_dvd (omega arith) h in inr (omega arith)
 
@@ -69,7 +69,7 @@ module _ (P : ℕ → Type 0) (p : ℕ) where
       → P p
   listed_all two three five seven a b c d =
       or 2 _ two (or 3 _ three (or 5 _ five
-              (or 7 _ seven (or 101 _ a (or 251 _ b (or 32003 _ c (is 65521 d)))))))
+      (or 7 _ seven (or 101 _ a (or 251 _ b (or 32003 _ c (is 65521 d)))))))
 
 pub listed_is_prime : (p : ℕ) → is_listed_prime p ≡ true → IsPrime p
 listed_is_prime p =
@@ -86,4 +86,4 @@ listed_is_prime p =
 pub listed_is_small : (p : ℕ) → is_listed_prime p ≡ true → p < 65536
 listed_is_small p =
     listed_all (λ n. n < 65536) p (omega arith) (omega arith) (omega arith) (omega arith)
-        (omega arith) (omega arith) (omega arith) (omega arith)
+    (omega arith) (omega arith) (omega arith) (omega arith)

@@ -26,7 +26,7 @@ same_cancel p x y z some e = back x ∙ same_add p (x + z) (y + z) ((p - 1) * z)
     whole : (n : ℕ) → n + p * z ≡ (n + z) + (p - 1) * z
     whole n =
         let one_more : p ≡ (p - 1) + 1 =
-            omega arith in ap (λ m. n + m * z) one_more ∙ spread (p - 1) n
+        omega arith in ap (λ m. n + m * z) one_more ∙ spread (p - 1) n
 
     back : (n : ℕ) → n % p ≡ ((n + z) + (p - 1) * z) % p
     back n = sym (add-mul-mod_self_left n p z) ∙ ap (λ m. m % p) (whole n)

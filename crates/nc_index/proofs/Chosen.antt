@@ -35,8 +35,11 @@ module _ (s : Setting) (law : SigLaw s) (entries : List Entry) (w : Word) (β : 
             slice_get_mapped (lead_of s) entries d.listed.0 d.entry
             (slice_get-get_or entries d.listed.0 d.entry d.listed.1 ∙ ap (λ e. Some e) d.listed.2);
         regular =
-            record { spells = d.spells; below = ap (λ σ. compare_sigs σ β)
-              (sym (law.multiples d.left d.right d.entry.signature)) ∙ below };
+            record {
+              spells = d.spells;
+              below = ap (λ σ. compare_sigs σ β)
+                  (sym (law.multiples d.left d.right d.entry.signature)) ∙ below;
+            };
       }
 
   -- a place of a pair is a divisor below β of its entry
@@ -54,9 +57,11 @@ module _ (s : Setting) (law : SigLaw s) (entries : List Entry) (w : Word) (β : 
           record {
             divisor = record {
               entry = e;
-              listed =
-                  (i, slice_get_within entries i e found,
-                    get_or_from_slice_get entries i e e found);
+              listed = (
+                i,
+                slice_get_within entries i e found,
+                get_or_from_slice_get entries i e e found,
+              );
               left = u;
               right = v;
               spells = ap (λ (l : Lead). u ++ (l.word ++ v)) same ∙ r.regular.spells;
@@ -65,16 +70,21 @@ module _ (s : Setting) (law : SigLaw s) (entries : List Entry) (w : Word) (β : 
             left = refl;
             below = ap (λ z. compare_sigs z β) (law.multiples u v e.signature)
                 ∙ (ap (λ (l : Lead). compare_sigs (sig_times u l.signature v) β) same
-                  ∙ r.regular.below);
+                ∙ r.regular.below);
           }
 
   pub chosen : (answer : Option Hit) → IsFirstRegular (leads_of s entries) w β answer
       → IsChosen s entries w β answer
   chosen None none = λ d below. none d.listed.0 d.left d.right (place_of d below)
-  chosen (Some h) (i, u, v, first, number, place) =
-      (at.divisor, record { allowed = at.below;
-          least = λ e below. go e (first.least e.listed.0 e.left e.right (place_of e below)) },
-        omega (arith, number, at.index), ap length at.left ∙ sym place)
+  chosen (Some h) (i, u, v, first, number, place) = (
+    at.divisor,
+    record {
+      allowed = at.below;
+      least = λ e below. go e (first.least e.listed.0 e.left e.right (place_of e below));
+    },
+    omega (arith, number, at.index),
+    ap length at.left ∙ sym place,
+  )
     where
       at : DivisorAt i u v
       at = divisor_at i u v first.regular
@@ -83,7 +93,7 @@ module _ (s : Setting) (law : SigLaw s) (entries : List Entry) (w : Word) (β : 
           ⊎ ((i ≡ e.listed.0) × (length u ≤ length e.left))
           → (number_of s entries w at.divisor < number_of s entries w e)
           ⊎ ((number_of s entries w at.divisor ≡ number_of s entries w e)
-            × (length at.divisor.left ≤ length e.left))
+          × (length at.divisor.left ≤ length e.left))
       go e (inl l) = inl (omega (arith, at.index, l))
       go e (inr (same, l)) =
           inr (omega (arith, at.index, same), omega (arith, ap length at.left, l))

@@ -31,22 +31,27 @@ module _ (l : Lead) (w : Word) (β : Sig) where
   lesser : (s : Sig) → s.degree < β.degree → compare_sigs s β ≡ Less
   lesser s h =
       ap (λ o. ordering_then o (then_cmp (on (λ t. t.generator) nat_cmp)
-          (then_cmp (on (λ t. t.left) compare_words) (on (λ t. t.right) compare_words)) s β))
+      (then_cmp (on (λ t. t.left) compare_words) (on (λ t. t.right) compare_words)) s β))
       (sym (nat_cmp_is s.degree β.degree Less h))
 
   greater : (s : Sig) → β.degree < s.degree → compare_sigs s β ≡ Greater
   greater s h =
       ap (λ o. ordering_then o (then_cmp (on (λ t. t.generator) nat_cmp)
-          (then_cmp (on (λ t. t.left) compare_words) (on (λ t. t.right) compare_words)) s β))
+      (then_cmp (on (λ t. t.left) compare_words) (on (λ t. t.right) compare_words)) s β))
       (sym (nat_cmp_is s.degree β.degree Greater h))
 
   -- where it is less than the bound's, each place will do
   all_regular : word_weight w + l.signature.degree < β.degree + word_weight l.word → (q : ℕ)
       → OccursAt l.word w q → RegularPlace l w β q
-  all_regular less q (u, v, e, h) =
-      (u, v, record { spells = sym e;
-          below = lesser (sig_times u l.signature v) (omega (arith, degree_at u v (sym e), less)) },
-        h)
+  all_regular less q (u, v, e, h) = (
+    u,
+    v,
+    record {
+      spells = sym e;
+      below = lesser (sig_times u l.signature v) (omega (arith, degree_at u v (sym e), less));
+    },
+    h,
+  )
 
   pub first_of_all : (n : ℕ) → n ≡ word_weight w
       → Less ≡ nat_cmp (n + l.signature.degree) (β.degree + word_weight l.word) → (a : Option ℕ)
@@ -55,8 +60,12 @@ module _ (l : Lead) (w : Word) (β : Sig) where
     where
       lighter : word_weight w + l.signature.degree < β.degree + word_weight l.word
       lighter =
-          omega (arith, weight, ranked (n + l.signature.degree) (β.degree + word_weight l.word) Less
-            less)
+          omega (
+            arith,
+            weight,
+            ranked (n + l.signature.degree) (β.degree + word_weight l.word) Less
+                less,
+          )
 
       go : (a : Option ℕ) → IsPlaceFrom l.word w 0 a → IsFirstPlace l w β a
       go None none = λ q h. none q (omega arith) (regular_occurs q h)
@@ -69,10 +78,10 @@ module _ (l : Lead) (w : Word) (β : Sig) where
       → IsFirstPlace l w β None
   none_regular n weight more q (u, v, r, h) =
       let heavier : β.degree + word_weight l.word < n + l.signature.degree =
-          ranked (n + l.signature.degree) (β.degree + word_weight l.word) Greater more in
+      ranked (n + l.signature.degree) (β.degree + word_weight l.word) Greater more in
       let above : compare_sigs (sig_times u l.signature v) β ≡ Greater =
-          greater (sig_times u l.signature v)
-          (omega (arith, degree_at u v r.spells, weight, heavier)) in
+      greater (sig_times u l.signature v)
+      (omega (arith, degree_at u v r.spells, weight, heavier)) in
       let below : compare_sigs (sig_times u l.signature v) β ≡ Less = r.below in
       cc
 
@@ -82,19 +91,19 @@ module _ (l : Lead) (w : Word) (β : Sig) where
       ≡ Less
   lesser_left u v x y e d h =
       ap (λ o. ordering_then o (ordering_then (nat_cmp l.signature.generator l.signature.generator)
-              (ordering_then (compare_words (u ++ l.signature.left) (x ++ l.signature.left))
-                (compare_words (l.signature.right ++ v) (l.signature.right ++ y)))))
-          (equal (sig_times u l.signature v).degree (sig_times x l.signature y).degree
-            (omega (arith, degree_at u v e, degree_at x y d)))
+      (ordering_then (compare_words (u ++ l.signature.left) (x ++ l.signature.left))
+      (compare_words (l.signature.right ++ v) (l.signature.right ++ y)))))
+      (equal (sig_times u l.signature v).degree (sig_times x l.signature y).degree
+      (omega (arith, degree_at u v e, degree_at x y d)))
       ∙ (ap (λ o. ordering_then o (ordering_then
-                (compare_words (u ++ l.signature.left) (x ++ l.signature.left))
-                (compare_words (l.signature.right ++ v) (l.signature.right ++ y))))
-            (equal l.signature.generator l.signature.generator refl)
+      (compare_words (u ++ l.signature.left) (x ++ l.signature.left))
+      (compare_words (l.signature.right ++ v) (l.signature.right ++ y))))
+      (equal l.signature.generator l.signature.generator refl)
       ∙ ap (λ o. ordering_then (ordering_then o
-              (slice_cmp compare_letters (u ++ l.signature.left) (x ++ l.signature.left)))
-            (compare_words (l.signature.right ++ v) (l.signature.right ++ y)))
-          (lighter (word_weight (u ++ l.signature.left)) (word_weight (x ++ l.signature.left))
-            weights))
+      (slice_cmp compare_letters (u ++ l.signature.left) (x ++ l.signature.left)))
+      (compare_words (l.signature.right ++ v) (l.signature.right ++ y)))
+      (lighter (word_weight (u ++ l.signature.left)) (word_weight (x ++ l.signature.left))
+      weights))
     where
       equal : (a b : ℕ) → a ≡ b → nat_cmp a b ≡ Equal
       equal a b same = sym (nat_cmp_is a b Equal same)
@@ -105,24 +114,40 @@ module _ (l : Lead) (w : Word) (β : Sig) where
       longer : (t : Word) × (x ≡ u ++ t) × (l.word ++ v ≡ t ++ (l.word ++ y))
           → word_weight u < word_weight x
       longer (t, more, _) =
-          omega (arith, ap length more, ap word_weight more, length-append u t, weight-append u t,
-            length_at_most t)
+          omega (
+            arith,
+            ap length more,
+            ap word_weight more,
+            length-append u t,
+            weight-append u t,
+            length_at_most t,
+          )
 
       weights : word_weight (u ++ l.signature.left) < word_weight (x ++ l.signature.left)
       weights =
-          omega (arith, weight-append u l.signature.left, weight-append x l.signature.left,
-            longer (cut u (l.word ++ v) x (l.word ++ y) (e ∙ sym d) (omega arith)))
+          omega (
+            arith,
+            weight-append u l.signature.left,
+            weight-append x l.signature.left,
+            longer (cut u (l.word ++ v) x (l.word ++ y) (e ∙ sym d) (omega arith)),
+          )
 
   pub leftmost : (q r : ℕ) → q ≤ r → OccursAt l.word w q → RegularPlace l w β r
       → RegularPlace l w β q
   leftmost q r h (u, v, e, k) (x, y, regular, m) = go (nat_order q r)
     where
       go : (q < r) ⊎ ((q ≡ r) ⊎ (r < q)) → RegularPlace l w β q
-      go (inl less) =
-          (u, v, record { spells = sym e;
-              below = sigs_order.trans (sig_times u l.signature v) (sig_times x l.signature y) β
-              (lesser_left u v x y (sym e) regular.spells (omega (arith, k, m, less))) regular.below
-              }, k)
+      go (inl less) = (
+        u,
+        v,
+        record {
+          spells = sym e;
+          below = sigs_order.trans (sig_times u l.signature v) (sig_times x l.signature y) β
+              (lesser_left u v x y (sym e) regular.spells (omega (arith, k, m, less)))
+              regular.below;
+        },
+        k,
+      )
       go (inr (inl same)) = subst (RegularPlace l w β) (sym same) (x, y, regular, m)
       go (inr (inr more)) = absurd (omega (arith, h, more))
 
@@ -155,16 +180,28 @@ module _ (leads : List Lead) (w : Word) (β : Sig) where
       go i u v r (inl less) = omega (arith, less)
       go i u v r (inr (inl same)) =
           let lead : r.lead ≡ l = cc (r.stands, here, same) in
-          absurd (none (length u) (u, v, subst (λ (m : Lead). IsRegular m w β u v) lead r.regular,
-                  refl))
+          absurd (none (length u) (
+            u,
+            v,
+            subst (λ (m : Lead). IsRegular m w β u v) lead r.regular,
+            refl,
+          ))
       go i u v r (inr (inr more)) = omega (arith, before.later i u v r, more)
 
   pub pair_found : (index : ℕ) (l : Lead) (h : Hit) → NonePairBefore leads w β index
       → slice_get leads index ≡ Some l → IsFirstPlace l w β (Some h.place) → h.number ≡ index + 1
       → IsFirstRegular leads w β (Some h)
-  pair_found index l h before here ((u, v, regular, left), leftmost) number =
-      (index, u, v, record { regular = record { lead = l; stands = here; regular = regular };
-              least = λ j x y r. go j x y r (nat_order index j) }, number, sym left)
+  pair_found index l h before here ((u, v, regular, left), leftmost) number = (
+    index,
+    u,
+    v,
+    record {
+      regular = record { lead = l; stands = here; regular = regular };
+      least = λ j x y r. go j x y r (nat_order index j);
+    },
+    number,
+    sym left,
+  )
     where
       go : (j : ℕ) (x y : Word) → RegularAt leads w β j x y → (index < j)
           ⊎ ((index ≡ j) ⊎ (j < index)) → (index < j) ⊎ ((index ≡ j) × (length u ≤ length x))
@@ -172,8 +209,12 @@ module _ (leads : List Lead) (w : Word) (β : Sig) where
       go j x y r (inr (inl same)) =
           let lead : r.lead ≡ l = cc (r.stands, here, same) in
           let further : h.place ≤ length x =
-              leftmost (length x) (x, y, subst (λ (m : Lead). IsRegular m w β x y) lead r.regular,
-                refl) in
+          leftmost (length x) (
+            x,
+            y,
+            subst (λ (m : Lead). IsRegular m w β x y) lead r.regular,
+            refl,
+          ) in
           inr (same, omega (arith, left, further))
       go j x y r (inr (inr more)) = absurd (omega (arith, before.later j x y r, more))
 

@@ -18,8 +18,10 @@ use Rattle.std.specs.declared.cmp.Ordering.TheVariants.{Less}
 -- an entry's leading word and signature
 abbrev pub lead_of : Setting → Entry → Lead
 lead_of s e =
-    record { word = leading s.prime e.polynomial;
-      signature = sig_of (generator_weight s) e.signature }
+    record {
+      word = leading s.prime e.polynomial;
+      signature = sig_of (generator_weight s) e.signature;
+    }
 
 -- those of all entries
 abbrev pub leads_of : Setting → List Entry → List Lead

@@ -37,8 +37,10 @@ impl Model for Lead {
 impl Lead {
     /// The pair of a copy of the word and of the signature, which is shared.
     pub(crate) fn of(word: &Word, signature: &Arc<Sig, Global>) -> Result<Lead, AllocError>
-        ensures { IfOk result (λ l. l ≡ record { word = word.now;
-                  signature = arc_value signature.now }) }
+        ensures { IfOk result (λ l. l ≡ record {
+          word = word.now;
+          signature = arc_value signature.now;
+        }) }
     {
         Ok(Lead {
             word: word.copy()?,
@@ -73,7 +75,7 @@ impl Lead {
     fn compare_degree(&self, weight: u128, bound: &Sig) -> Ordering
         requires { weight ≤ 100 * 2 ^ 64 }
         ensures { result ≡ nat_cmp (weight + self.now.signature.degree)
-              (bound.now.degree + word_weight self.now.word) }
+            (bound.now.degree + word_weight self.now.word) }
     {
         let multiple = weight + u128::from(self.degree);
         let limit = u128::from(bound.degree) + u128::from(self.word.weight());

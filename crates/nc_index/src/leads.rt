@@ -63,7 +63,7 @@ impl Leads {
     pub fn add(&mut self, word: &Word, signature: &Arc<Sig, Global>) -> Result<(), AllocError>
         requires { length self.old < 4000000000 }
         ensures added { OnOk result (self.new ≡ self.old
-                ++ (record { word = word.now; signature = arc_value signature.now }) ∷ []) }
+            ++ (record { word = word.now; signature = arc_value signature.now }) ∷ []) }
         ensures kept { OnErr result (self.new ≡ self.old) }
     {
         self.pairs.push(Lead::of(word, signature)?)?;

@@ -11,8 +11,8 @@ left_after_piece xs piece more at n given within =
     let count : (at + n) - at ≡ n = omega arith in
     let is : piece ≡ take n (drop at xs) = given ∙ ap (λ k. take k (drop at xs)) count in
     let long : length piece ≡ n =
-        ap (λ (l : List ℕ). length l) is
-        ∙ length-take-le n (drop at xs) (omega (arith, length-drop at xs)) in
+    ap (λ (l : List ℕ). length l) is
+    ∙ length-take-le n (drop at xs) (omega (arith, length-drop at xs)) in
     sym (ap (λ (l : List ℕ). l ++ drop (at + n) xs) (take_at piece more n long ∙ is)
-          ∙ ap (λ (l : List ℕ). take n (drop at xs) ++ l) (sym (drop-drop n at xs))
-          ∙ take-append-drop n (drop at xs))
+    ∙ ap (λ (l : List ℕ). take n (drop at xs) ++ l) (sym (drop-drop n at xs))
+    ∙ take-append-drop n (drop at xs))

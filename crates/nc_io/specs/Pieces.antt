@@ -14,13 +14,13 @@ use Rattle.nc_io.specs.declared.whole.Fault.TheVariants.{Read, Memory}
 -- a piece of count bytes was taken and stands behind the old bytes, within the limit, and is empty
 -- only at the end
 pub record TakesPiece (before after : Option (List ℕ)) (old new : List ℕ) (limit count : ℕ) : Type 0
-    where
-  pub piece : List ℕ
-  pub bytes : new ≡ old ++ piece
-  pub taken : Consumes before after piece
-  pub counted : length piece ≡ count
-  pub within : length new ≤ limit
-  pub end : count ≡ 0 → IsAtEnd after
+  where
+    pub piece : List ℕ
+    pub bytes : new ≡ old ++ piece
+    pub taken : Consumes before after piece
+    pub counted : length piece ≡ count
+    pub within : length new ≤ limit
+    pub end : count ≡ 0 → IsAtEnd after
 
 -- these bytes were taken: all there were, or as many as the limit
 pub record TakesWhole (before after : Option (List ℕ)) (bytes : List ℕ) (limit : ℕ) : Type 0 where

@@ -66,25 +66,25 @@ impl Sink for MemorySink {
         requires offered { 0 < length piece.now }
         ensures some { IfOk result (λ n. (0 < n) × (n ≤ length piece.now)) }
         ensures bytes { PutAdds (told self.old.bytes.items self.old.faults)
-              (told self.new.bytes.items self.new.faults) result piece.now }
+            (told self.new.bytes.items self.new.faults) result piece.now }
         ensures cause { HasCause self.old.faults self.new.faults result }
 
         // When it fails, and how much it puts otherwise.
         ensures fails { IsTrue (is_err result)
-              ↔ IsFailingPut self.old.failing.items self.old.calls self.old.faults self.old.spare }
+            ↔ IsFailingPut self.old.failing.items self.old.calls self.old.faults self.old.spare }
         ensures count { IfOk result (λ n. n ≡ put_count self.old.step self.old.spare
-                (length piece.now)) }
+            (length piece.now)) }
 
         // What becomes of each field.
         ensures kept { MatchResult result
-              (λ _. self.new.bytes.items ≡ self.old.bytes.items
-                ++ take (kept_count self.old.step self.old.spare (length piece.now)) piece.now)
-              (λ _. self.new.bytes.items ≡ self.old.bytes.items) }
+            (λ _. self.new.bytes.items ≡ self.old.bytes.items
+            ++ take (kept_count self.old.step self.old.spare (length piece.now)) piece.now)
+            (λ _. self.new.bytes.items ≡ self.old.bytes.items) }
         ensures room { self.new.spare + vec_len self.new.bytes ≡ self.old.spare
-              + vec_len self.old.bytes }
+            + vec_len self.old.bytes }
         ensures calls { self.new.calls ≡ call_number self.old.calls }
         ensures faults { MatchResult result (λ _. self.new.faults ≡ self.old.faults)
-              (λ _. self.new.faults ≡ self.old.faults + 1) }
+            (λ _. self.new.faults ≡ self.old.faults + 1) }
         ensures same_step { self.new.step ≡ self.old.step }
         ensures same_failing { self.new.failing ≡ self.old.failing }
     {

@@ -36,23 +36,23 @@ impl Source for MemorySource {
     fn take(&mut self, buf: &mut [u8]) -> Result<usize, Failed>
         ensures bound { ReadsAtMost result buf.new }
         ensures bytes { ReadConsumes (Some (drop self.old.at self.old.bytes.items))
-              (Some (drop self.new.at self.new.bytes.items)) result buf.new }
+            (Some (drop self.new.at self.new.bytes.items)) result buf.new }
         ensures cause { HasCause self.old.faults self.new.faults result }
 
         // When it fails, and how much it gives otherwise.
         ensures fails { IsTrue (is_err result)
-              ↔ IsFailing self.old.failing.items self.old.calls self.old.faults }
+            ↔ IsFailing self.old.failing.items self.old.calls self.old.faults }
         ensures count { IfOk result (λ n. n ≡ given_count self.old.step (length buf.old)
-                (vec_len self.old.bytes - self.old.at)) }
+            (vec_len self.old.bytes - self.old.at)) }
         ensures rest { MatchResult result (λ n. drop n buf.new ≡ drop n buf.old)
-              (λ _. buf.new ≡ buf.old) }
+            (λ _. buf.new ≡ buf.old) }
 
         // What becomes of each field.
         ensures at { MatchResult result (λ n. self.new.at ≡ self.old.at + n)
-              (λ _. self.new.at ≡ self.old.at) }
+            (λ _. self.new.at ≡ self.old.at) }
         ensures calls { self.new.calls ≡ call_number self.old.calls }
         ensures faults { MatchResult result (λ _. self.new.faults ≡ self.old.faults)
-              (λ _. self.new.faults ≡ self.old.faults + 1) }
+            (λ _. self.new.faults ≡ self.old.faults + 1) }
         ensures same_bytes { self.new.bytes ≡ self.old.bytes }
         ensures same_step { self.new.step ≡ self.old.step }
         ensures same_failing { self.new.failing ≡ self.old.failing }

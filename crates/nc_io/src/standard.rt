@@ -38,10 +38,10 @@ impl<R: Read> Source for StdSource<R> {
 
         // The count and the reader.
         ensures counted { MatchResult result (λ _. self.new.faults ≡ self.old.faults)
-              (λ _. self.new.faults ≡ self.old.faults + 1) }
+            (λ _. self.new.faults ≡ self.old.faults + 1) }
         ensures passed { self.old.faults < 2 ^ 64 - 1
-              → ReadConsumes (R.remaining self.old.reader) (R.remaining self.new.reader) result
-              buf.new }
+            → ReadConsumes (R.remaining self.old.reader) (R.remaining self.new.reader) result
+            buf.new }
         ensures spent { self.old.faults ≡ 2 ^ 64 - 1 → (result ≡ Ok 0) × (self.new ≡ self.old) }
     {
         if self.faults == u64::MAX {
@@ -89,12 +89,12 @@ impl<W: Write> Sink for StdSink<W> {
 
         // The count and the writer.
         ensures counted { MatchResult result (λ _. self.new.faults ≡ self.old.faults)
-              (λ _. self.new.faults ≡ self.old.faults + 1) }
+            (λ _. self.new.faults ≡ self.old.faults + 1) }
         ensures passed { self.old.faults < 2 ^ 64 - 1
-              → IfOk result (λ n. Appends (W.contents self.old.writer) (W.contents self.new.writer)
-                (take n piece.now)) }
+            → IfOk result (λ n. Appends (W.contents self.old.writer) (W.contents self.new.writer)
+            (take n piece.now)) }
         ensures spent { self.old.faults ≡ 2 ^ 64 - 1 → (result ≡ Ok (length piece.now))
-              × (self.new ≡ self.old) }
+            × (self.new ≡ self.old) }
     {
         if self.faults == u64::MAX {
             return Ok(piece.len());

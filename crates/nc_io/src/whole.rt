@@ -23,9 +23,9 @@ pub enum Fault {
 fn take_piece<S: Source>(source: &mut S, bytes: &mut Vec<u8>, limit: usize) -> Result<usize, Fault>
     requires below { vec_len bytes.old < limit }
     ensures piece { IfOk result (TakesPiece (S.left source.old) (S.left source.new) bytes.old.items
-            bytes.new.items limit) }
+        bytes.new.items limit) }
     ensures front { OnErr result (TakesFront (S.left source.old) (S.left source.new)
-            (limit - vec_len bytes.old)) }
+        (limit - vec_len bytes.old)) }
     ensures later { S.faults source.old ≤ S.faults source.new }
     ensures fault { IfErr result (IsReadFault (S.faults source.old) (S.faults source.new)) }
 {
@@ -45,7 +45,7 @@ fn take_piece<S: Source>(source: &mut S, bytes: &mut Vec<u8>, limit: usize) -> R
 #[tactic(auto, using(crate::proofs::PiecesLemmas::front_after))]
 pub fn take_whole<S: Source>(alloc: Global, source: &mut S, limit: usize) -> Result<Vec<u8>, Fault>
     ensures whole { IfOk result (λ bytes. TakesWhole (S.left source.old) (S.left source.new)
-            bytes.items limit) }
+        bytes.items limit) }
     ensures front { OnErr result (TakesFront (S.left source.old) (S.left source.new) limit) }
     ensures later { S.faults source.old ≤ S.faults source.new }
     ensures fault { IfErr result (IsReadFault (S.faults source.old) (S.faults source.new)) }

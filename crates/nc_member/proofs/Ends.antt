@@ -35,9 +35,13 @@ pub rest_at : (P : Problem) (n : ℕ) (state : State) → IsRunOf P n state
     → (f rest : Polynomial) (steps : List Step)
     → Reduction P.setting state.entries (IsWithin P) f rest steps → IsRestOf P n f rest steps
 rest_at P n state is f rest steps r =
-    record { run = is.run; last = is.last;
-      runs = is.runs; reduces = moved_reduction P.setting state.entries is.run.entries
-      (same_entries state is.run (same_run state is.run is.stands)) (IsWithin P) r }
+    record {
+      run = is.run;
+      last = is.last;
+      runs = is.runs;
+      reduces = moved_reduction P.setting state.entries is.run.entries
+          (same_entries state is.run (same_run state is.run is.stands)) (IsWithin P) r;
+    }
 
 -- ---- a representation
 
@@ -46,7 +50,7 @@ evaluation_same : (s : Setting) → 0 < s.prime → (α β : Element) → SameSu
 evaluation_same s positive α β same = record {
   at = λ y. ap (λ n. n % s.prime) (coefficient-evaluation s α y)
       ∙ (linear_sum_same same_monomial (IsLess s) (monomial_laws (generator_weight s)) s.prime
-        (image s y) α β positive same ∙ ap (λ n. n % s.prime) (sym (coefficient-evaluation s β y)));
+      (image s y) α β positive same ∙ ap (λ n. n % s.prime) (sym (coefficient-evaluation s β y)));
 }
 
 module _ (P : NamedProblem) (is : IsProblem P) (n : ℕ) (f : Polynomial) (steps : List Step)
@@ -58,12 +62,18 @@ module _ (P : NamedProblem) (is : IsProblem P) (n : ℕ) (f : Polynomial) (steps
   pub represented : (limit : ℕ) (m : List (Term Sig)) → IsRepresentation P.problem n steps limit m
       → IsRepresented P.problem n f limit m
   represented limit m r =
-      record { steps = steps; rest = rest;
-        is = r; lies = lies; evaluates = record
-        { at = λ y. (evaluation_same P.problem.setting (omega (arith, field.above_one))
-            (element_of m) whole r.is.same).at y
-          ∙ sym (law.1 y ∙ ap (λ k. k % P.problem.setting.prime)
-            (no_more (coefficient (evaluation P.problem.setting whole) y))) } }
+      record {
+        steps = steps;
+        rest = rest;
+        is = r;
+        lies = lies;
+        evaluates = record {
+          at = λ y. (evaluation_same P.problem.setting (omega (arith, field.above_one))
+              (element_of m) whole r.is.same).at y
+              ∙ sym (law.1 y ∙ ap (λ k. k % P.problem.setting.prime)
+              (no_more (coefficient (evaluation P.problem.setting whole) y)));
+        };
+      }
     where
       same : rest.run ≡ r.run
       same = (run_unique P.problem field rest.runs r.runs).0
@@ -73,14 +83,14 @@ module _ (P : NamedProblem) (is : IsProblem P) (n : ℕ) (f : Polynomial) (steps
 
       law : IsIn P.problem.setting whole (IsWithin P.problem)
           × ((y : Word) → coefficient f y % P.problem.setting.prime
-            ≡ (coefficient (evaluation P.problem.setting whole) y + coefficient [] y)
-            % P.problem.setting.prime)
+          ≡ (coefficient (evaluation P.problem.setting whole) y + coefficient [] y)
+          % P.problem.setting.prime)
       law = represents P.problem.setting field r.run (invariant P.problem field r.runs).sound
           (IsWithin P.problem) (within_down P.problem)
           (labels_of P.problem.setting.prime r.run.entries)
           (labels_hold P.problem field r.runs).entries
           (subst (λ (x : State). Reduction P.problem.setting x.entries (IsWithin P.problem) f []
-              steps) same rest.reduces)
+          steps) same rest.reduces)
 
       lies : IsIn P.problem.setting (element_of m) (IsWithin P.problem)
       lies σ nz = law.0 σ (λ z. nz (r.is.same.at σ ∙ z))
@@ -99,16 +109,21 @@ module _ (P : NamedProblem) (is : IsProblem P) (n : ℕ) (state : State) (f kept
       let field : IsField P.problem.setting.prime = problem_field P is in
       let same = (run_unique P.problem field rest.runs runs).0 in
       some (none_kept P.problem.setting field _ (invariant P.problem field runs).sound
-            (IsWithin P.problem) (within_down P.problem) (enough_at_end P.problem field runs none).0
-            (subst (λ (x : State). Reduction P.problem.setting x.entries (IsWithin P.problem) f kept
-                steps) same rest.reduces) has)
+      (IsWithin P.problem) (within_down P.problem) (enough_at_end P.problem field runs none).0
+      (subst (λ (x : State). Reduction P.problem.setting x.entries (IsWithin P.problem) f kept
+      steps) same rest.reduces) has)
 
   pub unrepresented : (ending : End) → IsEndOf P.problem n state ending → ending ≡ End.complete
       → IsUnrepresented P.problem n ending f kept
   unrepresented ending ends e =
-      record { complete = e; some = some;
-        steps = steps; is = rest; none = nothing_left {run = ends.run}
-        (subst (IsEnd P.problem n ends.run) e ends.ends) }
+      record {
+        complete = e;
+        some = some;
+        steps = steps;
+        is = rest;
+        none = nothing_left {run = ends.run}
+            (subst (IsEnd P.problem n ends.run) e ends.ends);
+      }
 
   pub undecided : (ending : End) (next : Monomial) → ending ≡ End.budget next
       → IsOpen P.problem n ending f kept

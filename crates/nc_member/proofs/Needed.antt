@@ -56,40 +56,55 @@ few_numbers low bound (x ∷ xs) a h =
 
 module _ (P : NamedProblem) (is : IsProblem P) (n : ℕ) (few : n ≤ P.problem.steps)
     (numbers : List ℕ) (needed : List (ℕ × Trace)) (h : AreNeededTraces P.problem n numbers needed)
-    where
-  within : (list : List (ℕ × Trace)) → AllByRecursion (λ x. IsTraceIn h.run (EntryOf x.0) x.1) list
-      → AllByRecursion (λ j. (0 < j) × (j ≤ length h.run.entries)) (entries_of list)
-  within [] a = tt
-  within (x ∷ list) a = (go a.0, within list a.1)
-    where
-      go : IsTraceIn h.run (EntryOf x.0) x.1 → (0 < x.0) × (x.0 ≤ length h.run.entries)
-      go (e, some, at, i) =
-          (omega (arith, some), omega (arith, slice_get_within h.run.entries (x.0 - 1) e at, some))
+  where
+    within : (list : List (ℕ × Trace))
+        → AllByRecursion (λ x. IsTraceIn h.run (EntryOf x.0) x.1) list
+        → AllByRecursion (λ j. (0 < j) × (j ≤ length h.run.entries)) (entries_of list)
+    within [] a = tt
+    within (x ∷ list) a = (go a.0, within list a.1)
+      where
+        go : IsTraceIn h.run (EntryOf x.0) x.1 → (0 < x.0) × (x.0 ≤ length h.run.entries)
+        go (e, some, at, i) = (
+          omega (arith, some),
+          omega (
+            arith,
+            slice_get_within h.run.entries (x.0 - 1) e at,
+            some,
+          ),
+        )
 
-  residues : (list : List (ℕ × Trace))
-      → AllByRecursion (λ x. IsTraceIn h.run (EntryOf x.0) x.1) list
-      → AllByRecursion (λ x. HasResidues P.problem.setting.prime x.1) list
-  residues [] a = tt
-  residues (x ∷ list) a =
-      let g : IsSigned P.problem h.run (EntryOf x.0) x.1 =
-          signed P.problem (problem_field P is) h.runs (EntryOf x.0) x.1 a.0 in
-      (All-from_recursion (λ step. step.coefficient < P.problem.setting.prime) x.1.steps
-            g.named.residues, residues list a.1)
+    residues : (list : List (ℕ × Trace))
+        → AllByRecursion (λ x. IsTraceIn h.run (EntryOf x.0) x.1) list
+        → AllByRecursion (λ x. HasResidues P.problem.setting.prime x.1) list
+    residues [] a = tt
+    residues (x ∷ list) a =
+        let g : IsSigned P.problem h.run (EntryOf x.0) x.1 =
+        signed P.problem (problem_field P is) h.runs (EntryOf x.0) x.1 a.0 in (
+          All-from_recursion (λ step. step.coefficient < P.problem.setting.prime) x.1.steps
+              g.named.residues,
+          residues list a.1,
+        )
 
-  pub usable : AreUsable P.problem n numbers needed
-  usable =
-      let listed : AllByRecursion (λ x. IsTraceIn h.run (EntryOf x.0) x.1) needed =
-          recursion_from_All (λ x. IsTraceIn h.run (EntryOf x.0) x.1) needed h.traces in
-      record {
-        traces = h;
-        residues =
-            All-from_recursion (λ x. HasResidues P.problem.setting.prime x.1) needed
-            (residues needed listed);
-        ascending = h.lists.ascending;
-        few = omega (arith, few_numbers 0 (length h.run.entries) (entries_of needed)
-              (ascends (entries_of needed) h.lists.ascending) (within needed listed),
-              length-map needed (λ (x : ℕ × Trace). x.0), counts P.problem h.runs, few, is.few);
-      }
+    pub usable : AreUsable P.problem n numbers needed
+    usable =
+        let listed : AllByRecursion (λ x. IsTraceIn h.run (EntryOf x.0) x.1) needed =
+        recursion_from_All (λ x. IsTraceIn h.run (EntryOf x.0) x.1) needed h.traces in
+        record {
+          traces = h;
+          residues =
+              All-from_recursion (λ x. HasResidues P.problem.setting.prime x.1) needed
+              (residues needed listed);
+          ascending = h.lists.ascending;
+          few = omega (
+            arith,
+            few_numbers 0 (length h.run.entries) (entries_of needed)
+                (ascends (entries_of needed) h.lists.ascending) (within needed listed),
+            length-map needed (λ (x : ℕ × Trace). x.0),
+            counts P.problem h.runs,
+            few,
+            is.few,
+          );
+        }
 
 -- ---- where nothing is needed
 
@@ -101,15 +116,19 @@ pub no_lines : (P : Problem) (n : ℕ) (state : State) → IsRunOf P n state →
     → steps ≡ [] → (lines : List Line) → lines ≡ [] → AreProofLines P n steps lines
 no_lines P n state r steps none lines empty =
     subst (λ (l : List Step). AreProofLines P n l lines) (sym none) (record {
-  needed = [];
-  traces = record {
-    run = r.run;
-    last = r.last;
-    runs = r.runs;
-    lists = record { ascending = λ k h. absurd (omega (arith, h));
-          exact = λ j. (λ c. absurd (omega (arith, c.1)), λ h. absurd (none_needed r.run.entries h))
-          };
-    traces = λ k x h. absurd (omega (arith, h));
-  };
-  are = empty;
-})
+      needed = [];
+      traces = record {
+        run = r.run;
+        last = r.last;
+        runs = r.runs;
+        lists = record {
+          ascending = λ k h. absurd (omega (arith, h));
+          exact = λ j. (
+            λ c. absurd (omega (arith, c.1)),
+            λ h. absurd (none_needed r.run.entries h),
+          );
+        };
+        traces = λ k x h. absurd (omega (arith, h));
+      };
+      are = empty;
+    })

@@ -42,9 +42,10 @@ all_by_place P (x ∷ xs) h =
 from_places : (xs : List ℕ) → ((i j : ℕ) → i < j → j < length xs → get_or xs i 0 < get_or xs j 0)
     → Ascends xs
 from_places [] h = tt
-from_places (x ∷ xs) h =
-    (all_by_place (λ y. x < y) xs (λ i l. h 0 (suc i) (omega arith) (omega (arith, l))),
-      from_places xs (λ i j l m. h (suc i) (suc j) (omega (arith, l)) (omega (arith, m))))
+from_places (x ∷ xs) h = (
+  all_by_place (λ y. x < y) xs (λ i l. h 0 (suc i) (omega arith) (omega (arith, l))),
+  from_places xs (λ i j l m. h (suc i) (suc j) (omega (arith, l)) (omega (arith, m))),
+)
 
 pub ascends : (xs : List ℕ) → IsStrictlyIncreasing xs → Ascends xs
 ascends xs h = from_places xs (λ i j l m. AllPairs-from_increasing xs h i j 0 l m)
@@ -68,8 +69,8 @@ stands_before done j later k a c less = go (front_or_later done (j ∷ later) k 
     not_less (zero, l, e) = omega (arith, e)
     not_less (suc i, l, e) =
         let more : j < get_or later i k =
-            All-from_recursion (λ y. j < y) later (behind_middle done j later a) i k
-            (omega (arith, l)) in
+        All-from_recursion (λ y. j < y) later (behind_middle done j later a) i k
+        (omega (arith, l)) in
         omega (arith, more, e)
 
     go : ((l : Contains done k) × (l.0 ≡ c.0)) ⊎ (Contains (j ∷ later) k × (length done ≤ c.0))
@@ -103,8 +104,12 @@ line_at [] j later a =
     omega (arith, more_lines j later j, counts j j (omega arith), no_line j later a.0)
 line_at (x ∷ done) j later a =
     let less : x < j = in_middle (λ y. x < y) done j later a.0 in
-    omega (arith, more_lines x (done ++ j ∷ later) j, counts x j (omega (arith, less)),
-          line_at done j later a.1)
+    omega (
+      arith,
+      more_lines x (done ++ j ∷ later) j,
+      counts x j (omega (arith, less)),
+      line_at done j later a.1,
+    )
 
 -- ---- the search of a line
 
@@ -117,7 +122,7 @@ rises xs h i j d low within = go (order i j low)
     go : (i < j) ⊎ (i ≡ j) → get_or xs i d ≤ get_or xs j d
     go (inl l) =
         let less : get_or xs i d < get_or xs j d =
-            AllPairs-from_increasing xs h i j d l within in omega (arith, less)
+        AllPairs-from_increasing xs h i j d l within in omega (arith, less)
     go (inr e) =
         let same : get_or xs i d ≡ get_or xs j d = ap (λ k. get_or xs k d) e in omega (arith, same)
 
@@ -126,11 +131,22 @@ pub count_point : (j : ℕ) (xs : List ℕ) (i : ℕ) → i ≤ length xs
     → IsPartitionPoint (λ k. nat_le k j ≡ true) (λ k. nat_le k j ≡ false) xs i → i ≡ line_of xs j
 count_point j [] i low h = omega arith
 count_point j (x ∷ xs) zero low h =
-    omega (arith, more_lines x xs j, ap one_if (h.1 0 0 (omega arith) (omega arith)),
-          count_point j xs 0 (omega arith) (λ k d a b. absurd (omega (arith, a, b)),
-            λ k d a b. h.1 (suc k) d (omega arith) (omega (arith, b))))
+    omega (
+      arith,
+      more_lines x xs j,
+      ap one_if (h.1 0 0 (omega arith) (omega arith)),
+      count_point j xs 0 (omega arith) (
+        λ k d a b. absurd (omega (arith, a, b)),
+        λ k d a b. h.1 (suc k) d (omega arith) (omega (arith, b)),
+      ),
+    )
 count_point j (x ∷ xs) (suc i) low h =
-    omega (arith, more_lines x xs j, ap one_if (h.0 0 0 (omega arith) (omega arith)),
-          count_point j xs i (omega (arith, low))
-          (λ k d a b. h.0 (suc k) d (omega arith) (omega (arith, b)),
-            λ k d a b. h.1 (suc k) d (omega (arith, a)) (omega (arith, b))))
+    omega (
+      arith,
+      more_lines x xs j,
+      ap one_if (h.0 0 0 (omega arith) (omega arith)),
+      count_point j xs i (omega (arith, low)) (
+        λ k d a b. h.0 (suc k) d (omega arith) (omega (arith, b)),
+        λ k d a b. h.1 (suc k) d (omega (arith, a)) (omega (arith, b)),
+      ),
+    )

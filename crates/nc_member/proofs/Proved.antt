@@ -53,15 +53,19 @@ each_listed A (x ∷ xs) h =
 
 number_listed : (steps : List Step) (step : Step) → Contains steps step
     → Contains (numbers_of steps) step.number
-number_listed steps step c =
-    (c.0, omega (arith, c.1, length-map steps (λ (t : Step). t.number)),
-      get_or-map (λ (t : Step). t.number) steps c.0 step ∙ ap (λ (t : Step). t.number) c.2)
+number_listed steps step c = (
+  c.0,
+  omega (arith, c.1, length-map steps (λ (t : Step). t.number)),
+  get_or-map (λ (t : Step). t.number) steps c.0 step ∙ ap (λ (t : Step). t.number) c.2,
+)
 
 contains_middle : {X : Type 0} (done : List X) (x : X) (later : List X)
     → Contains (done ++ x ∷ later) x
-contains_middle done x later =
-    (length done, omega (arith, length-append done (x ∷ later)),
-      get_or_at done x later x (length done) refl)
+contains_middle done x later = (
+  length done,
+  omega (arith, length-append done (x ∷ later)),
+  get_or_at done x later x (length done) refl,
+)
 
 -- ---- one line
 
@@ -78,46 +82,74 @@ module _ (s : Setting) (entries : List Entry) (needed done : List ℕ) (values :
     (place : line_of needed j ≡ length done + 1) (value : Polynomial) (reach : ℕ)
     (same : (e : Entry) → slice_get entries (j - 1) ≡ Some e → SamePolynomial s value e.polynomial)
     (short : (e : Entry) → slice_get entries (j - 1) ≡ Some e → reach ≤ degree s e.signature + 255)
-    where
-  more_valued : (k : ℕ) → Contains done k ⊎ (j ≡ k)
-      → IsValued s entries needed (values ++ value ∷ []) k
-  more_valued k (inl c) =
-      let old : IsReached s entries needed reaches k = behind.reached k c in
-      record { same = λ e at. subst (λ (f : Polynomial). SamePolynomial s f e.polynomial)
-            (sym (item_before [] values value (line_of needed k)
-                (omega (arith, old.within, behind.many, behind.long))))
-            ((behind.valued k c).same e at) }
-  more_valued k (inr i) =
-      subst (IsValued s entries needed (values ++ value ∷ [])) i
-      (record { same = λ e at. subst (λ (f : Polynomial). SamePolynomial s f e.polynomial)
-          (sym (item_last [] values value (line_of needed j) (omega (arith, place, behind.many))))
-          (same e at) })
+  where
+    more_valued : (k : ℕ) → Contains done k ⊎ (j ≡ k)
+        → IsValued s entries needed (values ++ value ∷ []) k
+    more_valued k (inl c) =
+        let old : IsReached s entries needed reaches k = behind.reached k c in
+        record {
+          same = λ e at. subst (λ (f : Polynomial). SamePolynomial s f e.polynomial)
+              (sym (item_before [] values value (line_of needed k)
+              (omega (arith, old.within, behind.many, behind.long))))
+              ((behind.valued k c).same e at);
+        }
+    more_valued k (inr i) =
+        subst (IsValued s entries needed (values ++ value ∷ [])) i
+        (record {
+          same = λ e at. subst (λ (f : Polynomial). SamePolynomial s f e.polynomial)
+              (sym (item_last [] values value (line_of needed j)
+              (omega (arith, place, behind.many))))
+              (same e at);
+        })
 
-  more_reached : (k : ℕ) → Contains done k ⊎ (j ≡ k)
-      → IsReached s entries needed (reaches ++ reach ∷ []) k
-  more_reached k (inl c) =
-      let old : IsReached s entries needed reaches k = behind.reached k c in
-      record { some = old.some; within = omega (arith, old.within,
-              length-append reaches (reach ∷ []));
-            short = λ e at. omega (arith, item_before 0 reaches reach (line_of needed k) old.within,
-              old.short e at) }
-  more_reached k (inr i) =
-      subst (IsReached s entries needed (reaches ++ reach ∷ [])) i
-      (record { some = omega (arith, place);
+    more_reached : (k : ℕ) → Contains done k ⊎ (j ≡ k)
+        → IsReached s entries needed (reaches ++ reach ∷ []) k
+    more_reached k (inl c) =
+        let old : IsReached s entries needed reaches k = behind.reached k c in
+        record {
+          some = old.some;
+          within = omega (
+            arith,
+            old.within,
+            length-append reaches (reach ∷ []),
+          );
+          short = λ e at. omega (
+            arith,
+            item_before 0 reaches reach (line_of needed k) old.within,
+            old.short e at,
+          );
+        }
+    more_reached k (inr i) =
+        subst (IsReached s entries needed (reaches ++ reach ∷ [])) i
+        (record {
+          some = omega (arith, place);
           within = omega (arith, place, behind.long, length-append reaches (reach ∷ []));
-          short = λ e at. omega (arith, item_last 0 reaches reach (line_of needed j)
-            (omega (arith, place, behind.long)), short e at) })
+          short = λ e at. omega (
+            arith,
+            item_last 0 reaches reach (line_of needed j)
+                (omega (arith, place, behind.long)),
+            short e at,
+          );
+        })
 
-  behind_more : IsBehind s entries needed (done ++ j ∷ []) (values ++ value ∷ [])
-      (reaches ++ reach ∷ [])
-  behind_more = record {
-    many = omega (arith, behind.many, length-append values (value ∷ []),
-          length-append done (j ∷ []));
-    long = omega (arith, behind.long, length-append reaches (reach ∷ []),
-          length-append done (j ∷ []));
-    valued = λ k c. more_valued k (Contains-push_cases done j k c);
-    reached = λ k c. more_reached k (Contains-push_cases done j k c);
-  }
+    behind_more : IsBehind s entries needed (done ++ j ∷ []) (values ++ value ∷ [])
+        (reaches ++ reach ∷ [])
+    behind_more = record {
+      many = omega (
+        arith,
+        behind.many,
+        length-append values (value ∷ []),
+        length-append done (j ∷ []),
+      );
+      long = omega (
+        arith,
+        behind.long,
+        length-append reaches (reach ∷ []),
+        length-append done (j ∷ []),
+      );
+      valued = λ k c. more_valued k (Contains-push_cases done j k c);
+      reached = λ k c. more_reached k (Contains-push_cases done j k c);
+    }
 
 -- ---- the parts of a line
 
@@ -129,17 +161,18 @@ module _ (s : NamedSetting) (is : IsSetting s) (one : 1 < s.setting.prime) (entr
       (step.coefficient < s.setting.prime)
       × (IsWordIn s.alphabet step.left × IsWordIn s.alphabet step.right)
       × (IsLight s.setting entries d step.left step.number step.right
-        × IsReached s.setting entries needed reaches step.number)
+      × IsReached s.setting entries needed reaches step.number)
 
   step_parts : (sign : ℕ → ℕ) → ((c : ℕ) → c < s.setting.prime → sign c < s.setting.prime)
       → (steps : List Step) → AllByRecursion IsReady steps
       → AllByRecursion (IsShort s reaches (d + 255))
       (map (λ step. step_part needed (sign step.coefficient) step) steps)
   step_parts sign small [] a = tt
-  step_parts sign small (step ∷ steps) a =
-      (line_part s is entries needed reaches d low (sign step.coefficient) step.left step.number
+  step_parts sign small (step ∷ steps) a = (
+    line_part s is entries needed reaches d low (sign step.coefficient) step.left step.number
         step.right (small step.coefficient a.0.0) a.0.1.0 a.0.1.1 a.0.2.0 a.0.2.1,
-        step_parts sign small steps a.1)
+    step_parts sign small steps a.1,
+  )
 
   light_named : (τ : Monomial) → degree s.setting τ ≡ d → (u : Word) (j : ℕ) (v : Word)
       → IsNamed s.setting entries τ u j v → IsLight s.setting entries d u j v
@@ -190,7 +223,7 @@ module _ (P : NamedProblem) (is : IsProblem P) (prime : IsPrime P.problem.settin
         (line_value P.problem.setting values (trace_line P.problem.setting.prime needed t))
         e.polynomial
     pub parts : AllByRecursion (IsShort (setting_of P) reaches
-          (degree P.problem.setting e.signature + 255))
+        (degree P.problem.setting e.signature + 255))
         (trace_line P.problem.setting.prime needed t)
 
   module _ (done later : List ℕ) (j : ℕ) (splits : needed ≡ done ++ j ∷ later)
@@ -204,11 +237,11 @@ module _ (P : NamedProblem) (is : IsProblem P) (prime : IsPrime P.problem.settin
     before : (k : ℕ) → Names e.trace k → Contains done k
     before k m =
         let here : IsNeededFor run.entries numbers j =
-            (lists.exact j).0 (subst (λ (l : List ℕ). Contains l j) (sym splits)
-              (contains_middle done j later)) in
+        (lists.exact j).0 (subst (λ (l : List ℕ). Contains l j) (sym splits)
+        (contains_middle done j later)) in
         let there : Contains needed k = (lists.exact k).1 (IsNeededFor.through here e at m) in
         stands_before done j later k ordered (subst (λ (l : List ℕ). Contains l k) splits there)
-            (names_earlier P.problem field runs j k e some at m).1
+        (names_earlier P.problem field runs j k e some at m).1
 
     listed : Contains run.entries e
     listed = contains_at run.entries (j - 1) e at
@@ -224,18 +257,22 @@ module _ (P : NamedProblem) (is : IsProblem P) (prime : IsPrime P.problem.settin
     over = trace_over P is prime runs (EntryOf j) e.trace (e, some, at, refl)
 
     low : degree P.problem.setting e.signature ≤ 80000
-    low = omega (arith, degree_within P.problem.setting P.problem.bound e.signature
-          ((invariant P.problem field runs).within e listed).1, is.limited)
+    low = omega (
+      arith,
+      degree_within P.problem.setting P.problem.bound e.signature
+          ((invariant P.problem field runs).within e listed).1,
+      is.limited,
+    )
 
     first_at : (x : Entry) (c : Contains again.first x)
         → slice_get run.entries (c.0 + 1 - 1) ≡ Some x
     first_at x c =
         let within : c.0 < length (again.first ++ again.rest) =
-            omega (arith, c.1, length-append again.first again.rest) in
+        omega (arith, c.1, length-append again.first again.rest) in
         subst (λ (l : List Entry). slice_get l (c.0 + 1 - 1) ≡ Some x) (sym again.splits)
         (subst (λ i. slice_get (again.first ++ again.rest) i ≡ Some x) (omega arith)
         (slice_get_read (again.first ++ again.rest) (length (again.first ++ again.rest)) c.0 x refl
-              within (sym (get_or_append_left again.first again.rest x c.0 c.1 ∙ c.2))))
+        within (sym (get_or_append_left again.first again.rest x c.0 c.1 ∙ c.2))))
 
     start_valued : (start : Start) → ((k : ℕ) → StartNames start k → Contains done k)
         → IsStartValued P.problem.setting run.entries needed values start
@@ -243,25 +280,28 @@ module _ (P : NamedProblem) (is : IsProblem P) (prime : IsPrime P.problem.settin
     start_valued (Start.a_multiple u k v) h = behind.valued k (h k refl)
 
     steps_ready : AllByRecursion (IsReady (setting_of P) is.setting field.above_one run.entries
-          needed reaches (degree P.problem.setting e.signature) low) e.trace.steps
+        needed reaches (degree P.problem.setting e.signature) low) e.trace.steps
     steps_ready =
         each_listed (IsReady (setting_of P) is.setting field.above_one run.entries needed reaches
-          (degree P.problem.setting e.signature) low) e.trace.steps (λ step c. (
-      subst (λ (t : Step). t.coefficient < P.problem.setting.prime) c.2
-          (All-from_recursion (λ (t : Step). t.coefficient < P.problem.setting.prime) e.trace.steps
-            named.residues c.0 step c.1),
-      (subst (λ (t : Step). IsWordIn P.alphabet t.left) c.2 (over.left c.0 step c.1),
-            subst (λ (t : Step). IsWordIn P.alphabet t.right) c.2 (over.right c.0 step c.1)),
-      (
-        light_named (setting_of P) is.setting field.above_one run.entries needed reaches
-            (degree P.problem.setting e.signature) low e.signature refl step.left step.number
-            step.right (subst (λ (t : Step). IsNamed P.problem.setting run.entries e.signature
+        (degree P.problem.setting e.signature) low) e.trace.steps (λ step c. (
+          subst (λ (t : Step). t.coefficient < P.problem.setting.prime) c.2
+              (All-from_recursion (λ (t : Step). t.coefficient < P.problem.setting.prime)
+              e.trace.steps
+              named.residues c.0 step c.1),
+          (
+            subst (λ (t : Step). IsWordIn P.alphabet t.left) c.2 (over.left c.0 step c.1),
+            subst (λ (t : Step). IsWordIn P.alphabet t.right) c.2 (over.right c.0 step c.1),
+          ),
+          (
+            light_named (setting_of P) is.setting field.above_one run.entries needed reaches
+                (degree P.problem.setting e.signature) low e.signature refl step.left step.number
+                step.right (subst (λ (t : Step). IsNamed P.problem.setting run.entries e.signature
                 t.left t.number t.right) c.2 (All-from_recursion
                 (λ (t : Step). IsNamed P.problem.setting run.entries e.signature t.left t.number
-                  t.right) e.trace.steps named.steps c.0 step c.1)),
-        behind.reached step.number (before step.number (inr (step, c, refl))),
-      ),
-    ))
+                t.right) e.trace.steps named.steps c.0 step c.1)),
+            behind.reached step.number (before step.number (inr (step, c, refl))),
+          ),
+        ))
 
     own_line : IsEntryLine values reaches e e.trace
     own_line = record {
@@ -269,8 +309,8 @@ module _ (P : NamedProblem) (is : IsProblem P) (prime : IsPrime P.problem.settin
           e.signature again.starts again.reduces named.residues
           (start_valued e.trace.start (λ k m. before k (inl m)))
           (each_listed (λ step. IsValued P.problem.setting run.entries needed values step.number)
-            e.trace.steps (λ step c. behind.valued step.number
-              (before step.number (inr (step, c, refl)))));
+          e.trace.steps (λ step c. behind.valued step.number
+          (before step.number (inr (step, c, refl)))));
       parts = (
         start_parts (setting_of P) is.setting field.above_one run.entries needed reaches
             (degree P.problem.setting e.signature) low e.signature refl e.trace.start named.start
@@ -304,19 +344,23 @@ module _ (P : NamedProblem) (is : IsProblem P) (prime : IsPrime P.problem.settin
     claim_lights : {g kept : Polynomial} {list : List Step}
         → Reduction P.problem.setting run.entries (IsWithin P.problem) g kept list
         → AllByRecursion (λ step. IsLight P.problem.setting run.entries
-          (bound_degree P.problem.setting P.problem.bound) step.left step.number step.right) list
+        (bound_degree P.problem.setting P.problem.bound) step.left step.number step.right) list
     claim_lights (Reduction.finished z) = tt
-    claim_lights (Reduction.subtract w l d chosen c small q rest) =
-        (record { entry = d.entry; at = itself_at d.entry d.listed;
-            light = degree_within P.problem.setting P.problem.bound _ chosen.allowed.1 },
-          claim_lights rest)
+    claim_lights (Reduction.subtract w l d chosen c small q rest) = (
+      record {
+        entry = d.entry;
+        at = itself_at d.entry d.listed;
+        light = degree_within P.problem.setting P.problem.bound _ chosen.allowed.1;
+      },
+      claim_lights rest,
+    )
     claim_lights (Reduction.keep w l none c e rest) = claim_lights rest
 
     claim_listed : numbers ≡ numbers_of steps → (step : Step) → Contains steps step
         → Contains needed step.number
     claim_listed e step c =
         (lists.exact step.number).1 (IsNeededFor.given
-          (subst (λ (l : List ℕ). Contains l step.number) (sym e) (number_listed steps step c)))
+        (subst (λ (l : List ℕ). Contains l step.number) (sym e) (number_listed steps step c)))
 
     module _ (given : numbers ≡ numbers_of steps)
         (in_it : IsPolynomialIn P.alphabet P.problem.setting.prime f) where
@@ -333,24 +377,24 @@ module _ (P : NamedProblem) (is : IsProblem P) (prime : IsPrime P.problem.settin
       module _ (values : List Polynomial) (reaches : List ℕ)
           (behind : IsBehind P.problem.setting run.entries needed needed values reaches) where
         claim_ready : AllByRecursion (IsReady (setting_of P) is.setting field.above_one run.entries
-              needed reaches (bound_degree P.problem.setting P.problem.bound) is.limited) steps
+            needed reaches (bound_degree P.problem.setting P.problem.bound) is.limited) steps
         claim_ready =
             each_listed (IsReady (setting_of P) is.setting field.above_one run.entries needed
-              reaches (bound_degree P.problem.setting P.problem.bound) is.limited) steps (λ step c.
+            reaches (bound_degree P.problem.setting P.problem.bound) is.limited) steps (λ step c.
             let sides : StepOver (alphabet_letters P.alphabet) step =
-                subst (StepOver (alphabet_letters P.alphabet)) c.2
-                (All-from_recursion (StepOver (alphabet_letters P.alphabet)) steps claim_sides c.0
-                  step c.1) in (
+            subst (StepOver (alphabet_letters P.alphabet)) c.2
+            (All-from_recursion (StepOver (alphabet_letters P.alphabet)) steps claim_sides c.0
+            step c.1) in (
               subst (λ (t : Step). t.coefficient < P.problem.setting.prime) c.2
                   (All-from_recursion (λ (t : Step). t.coefficient < P.problem.setting.prime) steps
-                    (claim_residues reduces) c.0 step c.1),
+                  (claim_residues reduces) c.0 step c.1),
               (word_in P.alphabet step.left sides.0, word_in P.alphabet step.right sides.1),
               (
                 subst (λ (t : Step). IsLight P.problem.setting run.entries
-                      (bound_degree P.problem.setting P.problem.bound) t.left t.number t.right) c.2
+                    (bound_degree P.problem.setting P.problem.bound) t.left t.number t.right) c.2
                     (All-from_recursion (λ (t : Step). IsLight P.problem.setting run.entries
-                        (bound_degree P.problem.setting P.problem.bound) t.left t.number t.right)
-                      steps (claim_lights reduces) c.0 step c.1),
+                    (bound_degree P.problem.setting P.problem.bound) t.left t.number t.right)
+                    steps (claim_lights reduces) c.0 step c.1),
                 behind.reached step.number (claim_listed given step c),
               ),
             ))
@@ -359,20 +403,23 @@ module _ (P : NamedProblem) (is : IsProblem P) (prime : IsPrime P.problem.settin
         claim_parts =
             parts_are (setting_of P) reaches (bound_degree P.problem.setting P.problem.bound + 255)
             (line_of_claim needed steps) (step_parts (setting_of P) is.setting field.above_one
-              run.entries needed reaches (bound_degree P.problem.setting P.problem.bound) is.limited
-              (λ c. c) (λ c h. h) steps claim_ready)
+            run.entries needed reaches (bound_degree P.problem.setting P.problem.bound) is.limited
+            (λ c. c) (λ c h. h) steps claim_ready)
 
         claim_same : SamePolynomial P.problem.setting
             (line_value P.problem.setting values (line_of_claim needed steps)) f
         claim_same =
-            record { at = λ y. ap (λ m. m % P.problem.setting.prime)
-              (no_more (coefficient (line_value P.problem.setting values
-                    (line_of_claim needed steps)) y))
-              ∙ sym (claim_value P.problem.setting positive run.entries needed values run.entries
-                itself_at (IsWithin P.problem) reduces
-                (each_listed (λ step. IsValued P.problem.setting run.entries needed values
-                    step.number) steps (λ step c. behind.valued step.number
-                    (claim_listed given step c))) y) }
+            record {
+              at = λ y. ap (λ m. m % P.problem.setting.prime)
+                  (no_more (coefficient (line_value P.problem.setting values
+                  (line_of_claim needed steps)) y))
+                  ∙ sym (claim_value P.problem.setting positive run.entries needed values
+                  run.entries
+                  itself_at (IsWithin P.problem) reduces
+                  (each_listed (λ step. IsValued P.problem.setting run.entries needed values
+                  step.number) steps (λ step c. behind.valued step.number
+                  (claim_listed given step c))) y);
+            }
           where
             no_more : (m : ℕ) → m ≡ m + 0
             no_more m = omega arith
@@ -397,15 +444,18 @@ module _ (P : NamedProblem) (is : IsProblem P) (prime : IsPrime P.problem.settin
       unfolding values_after
       all_lines values reaches done [] e behind a =
           let here : IsBehind P.problem.setting run.entries needed needed values reaches =
-              subst (λ (l : List ℕ). IsBehind P.problem.setting run.entries needed l values reaches)
-              (sym (append-nil done) ∙ sym e) behind in
+          subst (λ (l : List ℕ). IsBehind P.problem.setting run.entries needed l values reaches)
+          (sym (append-nil done) ∙ sym e) behind in
           record {
             value = subst (λ (g : Polynomial). SamePolynomial P.problem.setting g f)
                 (sym (item_last [] values (line_value P.problem.setting values
-                      (line_of_claim needed steps)) (length values + (0 + 1)) (omega arith)))
+                (line_of_claim needed steps)) (length values + (0 + 1)) (omega arith)))
                 (claim_same values reaches here);
-            keeps = (All-from_recursion (IsPart (setting_of P) reaches) (line_of_claim needed steps)
-                  (claim_parts values reaches here), tt);
+            keeps = (
+              All-from_recursion (IsPart (setting_of P) reaches) (line_of_claim needed steps)
+                  (claim_parts values reaches here),
+              tt,
+            );
           }
       all_lines values reaches done (x ∷ rest) e behind a =
           go (λ more far before splits stands. all_lines more far before rest splits stands a.1) a.0
@@ -420,17 +470,24 @@ module _ (P : NamedProblem) (is : IsProblem P) (prime : IsPrime P.problem.settin
           reach = line_reach P.problem.setting reaches line
 
           go : ((more : List Polynomial) (far before : List ℕ)
-                → needed ≡ before ++ map (λ y. y.0) rest
-                → IsBehind P.problem.setting run.entries needed before more far
-                → IsDone more far (entry_lines rest ++ (line_of_claim needed steps ∷ []))
-                (length more + (length rest + 1))) → IsTraceIn run (EntryOf x.0) x.1
+              → needed ≡ before ++ map (λ y. y.0) rest
+              → IsBehind P.problem.setting run.entries needed before more far
+              → IsDone more far (entry_lines rest ++ (line_of_claim needed steps ∷ []))
+              (length more + (length rest + 1))) → IsTraceIn run (EntryOf x.0) x.1
               → IsDone values reaches (line ∷ (entry_lines rest
-                  ++ (line_of_claim needed steps ∷ []))) (length values + (length (x ∷ rest) + 1))
+              ++ (line_of_claim needed steps ∷ []))) (length values + (length (x ∷ rest) + 1))
           go others (entry, some, at, i) =
-              record { value = later.value; keeps = (All-from_recursion
-                  (IsPart (setting_of P) reaches) line
-                  (parts_are (setting_of P) reaches (degree P.problem.setting entry.signature + 255)
-                    line own.parts), later.keeps) }
+              record {
+                value = later.value;
+                keeps = (
+                  All-from_recursion
+                      (IsPart (setting_of P) reaches) line
+                      (parts_are (setting_of P) reaches
+                      (degree P.problem.setting entry.signature + 255)
+                      line own.parts),
+                  later.keeps,
+                );
+              }
             where
               own : IsEntryLine values reaches entry x.1
               own = entry_line done (map (λ y. y.0) rest) x.0 e values reaches behind entry some at
@@ -443,23 +500,23 @@ module _ (P : NamedProblem) (is : IsProblem P) (prime : IsPrime P.problem.settin
                   (values ++ value ∷ []) (reaches ++ reach ∷ [])
               next = behind_more P.problem.setting run.entries needed done values reaches behind x.0
                   (ap (λ (l : List ℕ). line_of l x.0) e ∙ line_at done x.0 (map (λ y. y.0) rest)
-                    (subst Ascends e (ascends needed lists.ascending))) value reach
+                  (subst Ascends e (ascends needed lists.ascending))) value reach
                   (λ y there. subst (λ (z : Entry). SamePolynomial P.problem.setting value
-                          z.polynomial) (one_entry y there) own.value)
+                  z.polynomial) (one_entry y there) own.value)
                   (λ y there. subst (λ (z : Entry). reach ≤ degree P.problem.setting z.signature
-                          + 255) (one_entry y there) (line_short P.problem.setting reaches
-                          (degree P.problem.setting entry.signature + 255) line
-                          (parts_short (setting_of P) reaches
-                            (degree P.problem.setting entry.signature + 255) line own.parts)))
+                  + 255) (one_entry y there) (line_short P.problem.setting reaches
+                  (degree P.problem.setting entry.signature + 255) line
+                  (parts_short (setting_of P) reaches
+                  (degree P.problem.setting entry.signature + 255) line own.parts)))
 
               later : IsDone (values ++ value ∷ []) (reaches ++ reach ∷ [])
                   (entry_lines rest ++ (line_of_claim needed steps ∷ []))
                   (length values + (length (x ∷ rest) + 1))
               later = subst (IsDone (values ++ value ∷ []) (reaches ++ reach ∷ [])
-                    (entry_lines rest ++ (line_of_claim needed steps ∷ [])))
+                  (entry_lines rest ++ (line_of_claim needed steps ∷ [])))
                   (omega (arith, length-append values (value ∷ [])))
                   (others (values ++ value ∷ []) (reaches ++ reach ∷ []) (done ++ x.0 ∷ [])
-                    (e ∙ sym (append_assoc done (x.0 ∷ []) (map (λ y. y.0) rest))) next)
+                  (e ∙ sym (append_assoc done (x.0 ∷ []) (map (λ y. y.0) rest))) next)
 
       pub lines_prove : (traces : List (ℕ × Trace)) → needed ≡ map (λ x. x.0) traces
           → All (λ x. IsTraceIn run (EntryOf x.0) x.1) traces
@@ -467,9 +524,15 @@ module _ (P : NamedProblem) (is : IsProblem P) (prime : IsPrime P.problem.settin
           (length (entry_lines traces ++ (line_of_claim needed steps ∷ [])))
       lines_prove traces e a =
           subst (IsDone [] [] (entry_lines traces ++ (line_of_claim needed steps ∷ [])))
-          (omega (arith, length-append (entry_lines traces) (line_of_claim needed steps ∷ []),
-              length-map traces (λ (x : ℕ × Trace). trace_line P.problem.setting.prime needed x.1)))
-          (all_lines [] [] [] traces e (record { many = refl;
-                long = refl; valued = λ j c. absurd (omega (arith, c.1));
-                reached = λ j c. absurd (omega (arith, c.1)) })
-            (recursion_from_All (λ x. IsTraceIn run (EntryOf x.0) x.1) traces a))
+          (omega (
+            arith,
+            length-append (entry_lines traces) (line_of_claim needed steps ∷ []),
+            length-map traces (λ (x : ℕ × Trace). trace_line P.problem.setting.prime needed x.1),
+          ))
+          (all_lines [] [] [] traces e (record {
+            many = refl;
+            long = refl;
+            valued = λ j c. absurd (omega (arith, c.1));
+            reached = λ j c. absurd (omega (arith, c.1));
+          })
+          (recursion_from_All (λ x. IsTraceIn run (EntryOf x.0) x.1) traces a))

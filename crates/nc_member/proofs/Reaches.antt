@@ -59,30 +59,53 @@ module _ (s : NamedSetting) (is : IsSetting s) where
   generator_short i g =
       longest_text s.alphabet (generator s.setting i)
       (recursion_from_All (λ t. IsTextWord s.alphabet t.key) (generator s.setting i)
-        (generator_is_text s i is g).polynomial.words)
+      (generator_is_text s i is g).polynomial.words)
 
   -- a generator as a part
   pub generator_part : (reaches : List ℕ) (d i : ℕ) → 1 < s.setting.prime → IsGenerator s.setting i
       → d ≤ 80000 → IsShort s reaches (d + 255)
       (record { coefficient = 1; left = []; of = Factor.a_generator i; right = [] })
   generator_part reaches d i one g low =
-      record { is = record { residue = one;
-          factor = g; left = λ k x h. absurd (omega (arith, h));
-          right = λ k x h. absurd (omega (arith, h)); short = omega (arith, generator_short i g) };
-        short = omega (arith, generator_short i g) }
+      record {
+        is = record {
+          residue = one;
+          factor = g;
+          left = λ k x h. absurd (omega (arith, h));
+          right = λ k x h. absurd (omega (arith, h));
+          short = omega (arith, generator_short i g);
+        };
+        short = omega (arith, generator_short i g);
+      }
 
   module _ (entries : List Entry) (needed reaches : List ℕ) (d : ℕ) (low : d ≤ 80000) where
     -- a multiple of a line
     pub line_part : (c : ℕ) (u : Word) (j : ℕ) (v : Word) → c < s.setting.prime
         → IsWordIn s.alphabet u → IsWordIn s.alphabet v → IsLight s.setting entries d u j v
         → IsReached s.setting entries needed reaches j
-        → IsShort s reaches (d + 255) (record { coefficient = c;
-            left = u; of = Factor.a_line (line_of needed j); right = v })
+        → IsShort s reaches (d + 255) (record {
+          coefficient = c;
+          left = u;
+          of = Factor.a_line (line_of needed j);
+          right = v;
+        })
     line_part c u j v small left right light reached =
-        record { is = record { residue = small;
+        record {
+          is = record {
+            residue = small;
             factor = (reached.some, reached.within);
-            left = left; right = right; short = omega (arith, far, low) }; short = far }
+            left = left;
+            right = right;
+            short = omega (arith, far, low);
+          };
+          short = far;
+        }
       where
         far : length u + item 0 reaches (line_of needed j) + length v ≤ d + 255
-        far = omega (arith, length_at_most u, length_at_most v, reached.short light.entry light.at,
-              light.light, degree_times s.setting u light.entry.signature v)
+        far = omega (
+          arith,
+          length_at_most u,
+          length_at_most v,
+          reached.short light.entry light.at,
+          light.light,
+          degree_times s.setting u light.entry.signature v,
+        )

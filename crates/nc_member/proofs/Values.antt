@@ -67,8 +67,8 @@ module _ (s : Setting) (positive : 0 < s.prime) (entries : List Entry) (needed :
   more_value part line y =
       linear_sum-append (is_at same_word y) (part_value s values part) (line_value s values line)
       ∙ ap (λ n. n + coefficient (line_value s values line) y)
-          (linear_sum-scale (is_at same_word y) part.coefficient
-            (polynomial_times part.left (factor_value s values part.of) part.right))
+      (linear_sum-scale (is_at same_word y) part.coefficient
+      (polynomial_times part.left (factor_value s values part.of) part.right))
 
   pub no_value : (y : Word) → coefficient (line_value s values []) y ≡ 0
   unfolding line_value
@@ -77,17 +77,17 @@ module _ (s : Setting) (positive : 0 < s.prime) (entries : List Entry) (needed :
   -- the negated multiples cancel the multiples
   cancels : (steps : List Step) → AllByRecursion (λ step. step.coefficient < s.prime) steps
       → (y : Word) → IsZero s.prime (coefficient (line_value s values (against steps)) y
-        + coefficient (line_value s values (line_of_claim needed steps)) y)
+      + coefficient (line_value s values (line_of_claim needed steps)) y)
   cancels [] a y =
       subst (IsZero s.prime) (sym (ap₂ (λ m n. m + n) (no_value y) (no_value y)))
       (zero_number s.prime)
   cancels (t ∷ steps) a y =
       subst (IsZero s.prime) (sym (ap₂ (λ k l. k + l)
-          (more_value (step_part needed ((s.prime - t.coefficient) % s.prime) t) (against steps) y)
-          (more_value (step_part needed t.coefficient t) (line_of_claim needed steps) y)
-          ∙ regroup ((s.prime - t.coefficient) % s.prime * m) n (t.coefficient * m) o))
+      (more_value (step_part needed ((s.prime - t.coefficient) % s.prime) t) (against steps) y)
+      (more_value (step_part needed t.coefficient t) (line_of_claim needed steps) y)
+      ∙ regroup ((s.prime - t.coefficient) % s.prime * m) n (t.coefficient * m) o))
       (zero_add s.prime ((s.prime - t.coefficient) % s.prime * m + t.coefficient * m) (n + o)
-        (cancelled s.prime t.coefficient m a.0) (cancels steps a.1 y))
+      (cancelled s.prime t.coefficient m a.0) (cancels steps a.1 y))
     where
       m : ℕ
       m = coefficient (polynomial_times t.left (item [] values (line_of needed t.number)) t.right) y
@@ -110,33 +110,37 @@ module _ (s : Setting) (positive : 0 < s.prime) (entries : List Entry) (needed :
       (generator s i) (λ w. ap (is_at same_word y) (append-nil w))
 
   module _ (first : List Entry) (front : (e : Entry) (c : Contains first e)
-        → slice_get entries (c.0 + 1 - 1) ≡ Some e) where
+      → slice_get entries (c.0 + 1 - 1) ≡ Some e) where
     -- what was subtracted is the value of the claim's line
     pub claim_value : (set : Monomial → Type 0) → {f kept : Polynomial} {steps : List Step}
         → Reduction s first set f kept steps
         → AllByRecursion (λ step. IsValued s entries needed values step.number) steps → (y : Word)
         → coefficient f y % s.prime ≡ (coefficient
-          (line_value s values (line_of_claim needed steps)) y + coefficient kept y) % s.prime
+        (line_value s values (line_of_claim needed steps)) y + coefficient kept y) % s.prime
     claim_value set (Reduction.finished {f = f} n) a y =
         n y ∙ (sym (zero_number s.prime) ∙ ap (λ n. (n + 0) % s.prime) (sym (no_value y)))
     claim_value set (Reduction.subtract {f = f} {kept = kept} {steps = steps} w l d chosen c small q
-          rest) a y =
+        rest) a y =
         put_back s.prime (coefficient f y) c (coefficient (multiple_at s first w d) y) m positive
-            (sym same)
+        (sym same)
         ∙ (sum_mod s.prime (coefficient f y + (s.prime - 1) * c
-                * coefficient (multiple_at s first w d) y) (n + coefficient kept y) (c * m) (c * m)
-              (ap (λ k. k % s.prime) (sym (coefficient_polynomial_minus s f c
-                    (multiple_at s first w d) y)) ∙ claim_value set rest a.1 y) refl
+        * coefficient (multiple_at s first w d) y) (n + coefficient kept y) (c * m) (c * m)
+        (ap (λ k. k % s.prime) (sym (coefficient_polynomial_minus s f c
+        (multiple_at s first w d) y)) ∙ claim_value set rest a.1 y) refl
         ∙ ap (λ k. k % s.prime) (swap n (coefficient kept y) (c * m)
-              ∙ ap (λ k. k + coefficient kept y)
-              (sym (more_value (step_part needed c
-                    (record { coefficient = c; left = d.left;
-                    number = number_of s first w d; right = d.right })) (line_of_claim needed steps)
-                  y))))
+        ∙ ap (λ k. k + coefficient kept y)
+        (sym (more_value (step_part needed c
+        (record {
+          coefficient = c;
+          left = d.left;
+          number = number_of s first w d;
+          right = d.right;
+        })) (line_of_claim needed steps)
+        y))))
       where
         m : ℕ
         m = coefficient (polynomial_times d.left
-              (item [] values (line_of needed (number_of s first w d))) d.right) y
+            (item [] values (line_of needed (number_of s first w d))) d.right) y
 
         n : ℕ
         n = coefficient (line_value s values (line_of_claim needed steps)) y
@@ -150,9 +154,9 @@ module _ (s : Setting) (positive : 0 < s.prime) (entries : List Entry) (needed :
     claim_value set (Reduction.keep {f = f} {kept = kept} {steps = steps} w l none c e rest) a y =
         put_back s.prime (coefficient f y) 1 k k positive refl
         ∙ (sum_mod s.prime (coefficient f y + (s.prime - 1) * 1 * k) (n + coefficient kept y)
-              (1 * k) (1 * k) (ap (λ i. i % s.prime)
-                (sym (coefficient_polynomial_minus s f 1 (record { coefficient = c; key = w } ∷ [])
-                    y)) ∙ claim_value set rest a y) refl
+        (1 * k) (1 * k) (ap (λ i. i % s.prime)
+        (sym (coefficient_polynomial_minus s f 1 (record { coefficient = c; key = w } ∷ [])
+        y)) ∙ claim_value set rest a y) refl
         ∙ ap (λ i. i % s.prime) (omega arith))
       where
         k : ℕ
@@ -166,18 +170,18 @@ module _ (s : Setting) (positive : 0 < s.prime) (entries : List Entry) (needed :
         → IsStartValued s entries needed values start → (y : Word)
         → (start_part needed start).coefficient
         * coefficient (polynomial_times (start_part needed start).left
-          (factor_value s values (start_part needed start).of) (start_part needed start).right) y
+        (factor_value s values (start_part needed start).of) (start_part needed start).right) y
         % s.prime ≡ coefficient f y % s.prime
     start_value τ (Starts.at_generator i e) a y =
         ap (λ n. n % s.prime) (one (coefficient (polynomial_times [] (generator s i) []) y)
-          ∙ generator_value i y)
+        ∙ generator_value i y)
       where
         one : (n : ℕ) → 1 * n ≡ n
         one n = omega arith
     start_value τ (Starts.at_multiple not_unit w d best regular) a y =
         ap (λ n. n % s.prime) (one (coefficient
-            (polynomial_times d.left (item [] values (line_of needed (number_of s first w d)))
-              d.right) y)) ∙ multiple_value d.left (number_of s first w d) d.right d.entry
+        (polynomial_times d.left (item [] values (line_of needed (number_of s first w d)))
+        d.right) y)) ∙ multiple_value d.left (number_of s first w d) d.right d.entry
         (front d.entry d.listed) a y
       where
         one : (n : ℕ) → 1 * n ≡ n
@@ -190,28 +194,28 @@ module _ (s : Setting) (positive : 0 < s.prime) (entries : List Entry) (needed :
         → IsStartValued s entries needed values start
         → AllByRecursion (λ step. IsValued s entries needed values step.number) steps
         → SamePolynomial s (line_value s values
-          (trace_line s.prime needed (record { start = start; steps = steps }))) kept
+        (trace_line s.prime needed (record { start = start; steps = steps }))) kept
     trace_value τ {f} {kept} {start} {steps} starts reduces small a b = record { at = λ y. value y }
       where
         value : (y : Word) → coefficient
             (line_value s values (trace_line s.prime needed
-                (record { start = start; steps = steps }))) y % s.prime ≡ coefficient kept y
+            (record { start = start; steps = steps }))) y % s.prime ≡ coefficient kept y
             % s.prime
         value y =
             let n : ℕ = coefficient (line_value s values (against steps)) y in
             let o : ℕ = coefficient (line_value s values (line_of_claim needed steps)) y in
             let k : ℕ = coefficient kept y in
             let m : ℕ =
-                (start_part needed start).coefficient
-                * coefficient (polynomial_times (start_part needed start).left
-                  (factor_value s values (start_part needed start).of)
-                  (start_part needed start).right) y in
+            (start_part needed start).coefficient
+            * coefficient (polynomial_times (start_part needed start).left
+            (factor_value s values (start_part needed start).of)
+            (start_part needed start).right) y in
             ap (λ i. i % s.prime) (more_value (start_part needed start) (against steps) y)
             ∙ (sum_mod s.prime m (o + k) n n
-                  (start_value τ starts a y ∙ claim_value (λ σ. IsLess s σ τ) reduces b y) refl
+            (start_value τ starts a y ∙ claim_value (λ σ. IsLess s σ τ) reduces b y) refl
             ∙ (ap (λ i. i % s.prime) (swap o k n)
             ∙ (sum_mod s.prime (n + o) 0 k k (cancels steps small y ∙ sym (zero_number s.prime))
-                  refl
+            refl
             ∙ ap (λ i. i % s.prime) (none k))))
           where
             swap : (a b c : ℕ) → (a + b) + c ≡ (c + a) + b

@@ -32,16 +32,20 @@ module _ (P : Problem) (field : IsField P.setting.prime) {n : ℕ} {run : State}
       → HasRepresentation P.setting (IsWithin P) f
   zero_represented {f} reduces =
       go (representation P.setting field run (invariant P field runs).sound (IsWithin P)
-        (within_down P) reduces)
+      (within_down P) reduces)
     where
       go : (α : Element) × IsIn P.setting α (IsWithin P)
           × ((y : Word) → coefficient f y % P.setting.prime
-            ≡ (coefficient (evaluation P.setting α) y + coefficient [] y) % P.setting.prime)
+          ≡ (coefficient (evaluation P.setting α) y + coefficient [] y) % P.setting.prime)
           → HasRepresentation P.setting (IsWithin P) f
-      go (α, lies, value) =
-          (α, lies, record { at = λ y. sym (value y
-                ∙ ap (λ m. m % P.setting.prime) (no_more (coefficient (evaluation P.setting α) y)))
-              })
+      go (α, lies, value) = (
+        α,
+        lies,
+        record {
+          at = λ y. sym (value y
+              ∙ ap (λ m. m % P.setting.prime) (no_more (coefficient (evaluation P.setting α) y)));
+        },
+      )
         where
           no_more : (m : ℕ) → m + 0 ≡ m
           no_more m = omega arith
@@ -59,10 +63,10 @@ module _ (P : NamedProblem) (is : IsProblem P) (prime : IsPrime P.problem.settin
     at = λ y.
         sym
         (claim_value P.problem.setting (omega (arith, field.above_one)) run.entries [] []
-              run.entries (λ e c. subst (λ i. slice_get run.entries i ≡ Some e) (omega arith)
-                (at_contains run.entries e c)) (IsWithin P.problem) reduces tt y
+        run.entries (λ e c. subst (λ i. slice_get run.entries i ≡ Some e) (omega arith)
+        (at_contains run.entries e c)) (IsWithin P.problem) reduces tt y
         ∙ ap (λ m. (m + 0) % P.problem.setting.prime)
-            (no_value P.problem.setting (omega (arith, field.above_one)) run.entries [] [] y));
+        (no_value P.problem.setting (omega (arith, field.above_one)) run.entries [] [] y));
   }
 
   keeps : (steps : List Step) → IsRestOf P.problem n f [] steps
@@ -73,12 +77,12 @@ module _ (P : NamedProblem) (is : IsProblem P) (prime : IsPrime P.problem.settin
   keeps (step ∷ steps) rest needs =
       let same : rest.run ≡ needs.run = (run_unique P.problem field rest.runs needs.runs).0 in
       let reduces : Reduction P.problem.setting needs.run.entries (IsWithin P.problem) f []
-          (step ∷ steps) =
-          subst (λ (r : State). Reduction P.problem.setting r.entries (IsWithin P.problem) f []
-            (step ∷ steps)) same rest.reduces in
+      (step ∷ steps) =
+      subst (λ (r : State). Reduction P.problem.setting r.entries (IsWithin P.problem) f []
+      (step ∷ steps)) same rest.reduces in
       let done =
-          lines_prove P is prime needs.runs (numbers_of (step ∷ steps)) (map (λ x. x.0) traces)
-          needs.lists f (step ∷ steps) reduces refl in_it traces refl needs.traces in
+      lines_prove P is prime needs.runs (numbers_of (step ∷ steps)) (map (λ x. x.0) traces)
+      needs.lists f (step ∷ steps) reduces refl in_it traces refl needs.traces in
       (done.keeps, done.value)
 
   -- the lines prove the claim

@@ -24,16 +24,16 @@ trace_lines p entries needed = map (λ x. trace_line p entries x.1) needed
 
 -- the needed entries with their traces, as the lines are made from them
 pub record AreUsable (P : Problem) (n : ℕ) (numbers : List ℕ) (needed : List (ℕ × Trace)) : Type 0
-    where
-  pub traces : AreNeededTraces P n numbers needed
-  pub residues : All (λ x. HasResidues P.setting.prime x.1) needed
-  pub ascending : IsStrictlyIncreasing (entries_of needed)
-  pub few : length needed ≤ 1000000000
+  where
+    pub traces : AreNeededTraces P n numbers needed
+    pub residues : All (λ x. HasResidues P.setting.prime x.1) needed
+    pub ascending : IsStrictlyIncreasing (entries_of needed)
+    pub few : length needed ≤ 1000000000
 
 -- the lines by which a claim is proved from which these multiples were subtracted, in the run after
 -- n steps
 pub record AreProofLines (P : Problem) (n : ℕ) (steps : List Step) (lines : List Line) : Type 0
-    where
-  pub needed : List (ℕ × Trace)
-  pub traces : AreNeededTraces P n (numbers_of steps) needed
-  pub are : lines ≡ proof_lines P.setting.prime needed steps
+  where
+    pub needed : List (ℕ × Trace)
+    pub traces : AreNeededTraces P n (numbers_of steps) needed
+    pub are : lines ≡ proof_lines P.setting.prime needed steps

@@ -27,8 +27,12 @@ start_part needed (Start.a_multiple u j v) =
 -- the multiple of a step, with a coefficient
 abbrev pub step_part : List ℕ → ℕ → Step → Part
 step_part needed c step =
-    record { coefficient = c; left = step.left;
-      of = Factor.a_line (line_of needed step.number); right = step.right }
+    record {
+      coefficient = c;
+      left = step.left;
+      of = Factor.a_line (line_of needed step.number);
+      right = step.right;
+    }
 
 -- the start with coefficient 1, and then the steps with negated coefficients
 abbrev pub trace_line : ℕ → List ℕ → Trace → Line

@@ -32,11 +32,11 @@ use Rattle.std.specs.Prelude.{List, Option, [], ℕ, ◌≡◌, ◌≢◌}
 -- the claim was reduced within the bound by the entries of the run after n steps: what is left, and
 -- what was subtracted
 pub record IsRestOf (P : Problem) (n : ℕ) (claim rest : Polynomial) (steps : List Step) : Type 0
-    where
-  pub run : State
-  pub last : Option Monomial
-  pub runs : SequentialRun P n run last
-  pub reduces : Reduction P.setting run.entries (IsWithin P) claim rest steps
+  where
+    pub run : State
+    pub last : Option Monomial
+    pub runs : SequentialRun P n run last
+    pub reduces : Reduction P.setting run.entries (IsWithin P) claim rest steps
 
 -- nothing is left, and this is a representation of the claim within the bound: the sum of the
 -- labels of what was subtracted
@@ -50,12 +50,12 @@ pub record IsRepresented (P : Problem) (n : ℕ) (claim : Polynomial) (limit : �
 
 -- the run is complete, something is left, and the claim has no representation within the bound
 pub record IsUnrepresented (P : Problem) (n : ℕ) (ending : End) (claim rest : Polynomial) : Type 0
-    where
-  pub complete : ending ≡ End.complete
-  pub some : rest ≢ []
-  pub steps : List Step
-  pub is : IsRestOf P n claim rest steps
-  pub none : ¬ HasRepresentation P.setting (IsWithin P) claim
+  where
+    pub complete : ending ≡ End.complete
+    pub some : rest ≢ []
+    pub steps : List Step
+    pub is : IsRestOf P n claim rest steps
+    pub none : ¬ HasRepresentation P.setting (IsWithin P) claim
 
 -- the steps were used up, and something is left
 pub record IsOpen (P : Problem) (n : ℕ) (ending : End) (claim rest : Polynomial) : Type 0 where
@@ -102,15 +102,15 @@ FailsToAnswer f claim limit (TooMany named terms) =
 -- value: those of the entries
 -- that are needed, and that of what was subtracted
 pub record IsProved (P : NamedProblem) (n : ℕ) (claim : Polynomial) (lines : List Line) : Type 0
-    where
-  pub steps : List Step
-  pub rest : IsRestOf P.problem n claim [] steps
-  pub needed : List (ℕ × Trace)
-  pub traces : AreNeededTraces P.problem n (numbers_of steps) needed
-  pub are : lines ≡ proof_lines P.problem.setting.prime needed steps
-  pub keeps : AreLines (setting_of P) [] lines
-  pub valid : IsValid P.problem.setting claim lines
-  pub has : HasRepresentation P.problem.setting (IsWithin P.problem) claim
+  where
+    pub steps : List Step
+    pub rest : IsRestOf P.problem n claim [] steps
+    pub needed : List (ℕ × Trace)
+    pub traces : AreNeededTraces P.problem n (numbers_of steps) needed
+    pub are : lines ≡ proof_lines P.problem.setting.prime needed steps
+    pub keeps : AreLines (setting_of P) [] lines
+    pub valid : IsValid P.problem.setting claim lines
+    pub has : HasRepresentation P.problem.setting (IsWithin P.problem) claim
 
 -- the answer, with lines of a certificate
 abbrev pub IsProof : Finished → Polynomial → Membership (List Line) → Type 0

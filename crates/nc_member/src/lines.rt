@@ -153,10 +153,10 @@ fn needed_by(
     steps: &[Step],
 ) -> Result<Vec<(u32, Trace)>, AllocError>
     requires leads { LeadsOf snapshot.now leads.now }
-    requires steps { AreSubtracted snapshot.now.problem.problem snapshot.now.state.entries steps.now
-          }
+    requires steps { AreSubtracted snapshot.now.problem.problem snapshot.now.state.entries
+        steps.now }
     ensures { IfOk result (λ l. AreUsable snapshot.now.problem.problem snapshot.now.handled
-            (numbers_of steps.now) l.items) }
+        (numbers_of steps.now) l.items) }
 {
     snapshot.recall_rule();
     let numbers = named_by(alloc, steps)?;
@@ -172,10 +172,10 @@ pub(crate) fn lines_of(
     steps: &[Step],
 ) -> Result<Lines, AllocError>
     requires leads { LeadsOf snapshot.now leads.now }
-    requires steps { AreSubtracted snapshot.now.problem.problem snapshot.now.state.entries steps.now
-          }
+    requires steps { AreSubtracted snapshot.now.problem.problem snapshot.now.state.entries
+        steps.now }
     ensures { IfOk result (AreProofLines snapshot.now.problem.problem snapshot.now.handled
-            steps.now) }
+        steps.now) }
 {
     snapshot.recall_rule();
     let mut lines = Lines::empty(alloc);

@@ -35,7 +35,7 @@ pub fn member(
     limit: u64,
 ) -> Result<Membership<Module>, CofactorFault>
     requires claim { IsPolynomialIn finished.now.snapshot.problem.alphabet
-          finished.now.snapshot.problem.problem.setting.prime claim.now }
+        finished.now.snapshot.problem.problem.setting.prime claim.now }
     requires light { All (λ t. word_weight t.key ≤ 200000) claim.now }
     ensures member { IfOk result (IsMember finished.now claim.now limit) }
     ensures fault { IfErr result (FailsToAnswer finished.now claim.now limit) }

@@ -22,7 +22,7 @@ pub fn prove(
     claim: &Poly,
 ) -> Result<Membership<Lines>, AllocError>
     requires claim { IsPolynomialIn finished.now.snapshot.problem.alphabet
-          finished.now.snapshot.problem.problem.setting.prime claim.now }
+        finished.now.snapshot.problem.problem.setting.prime claim.now }
     requires light { All (λ t. word_weight t.key ≤ 200000) claim.now }
     ensures { IfOk result (IsProof finished.now claim.now) }
 {

@@ -14,13 +14,13 @@ use std::alloc::{AllocError, Global};
 /// Reduces the claim within the problem's bound by all entries of the run.
 pub(crate) fn rest_of(alloc: Global, finished: &Finished, claim: &Poly) -> Result<Rest, AllocError>
     requires claim { IsPolynomialIn finished.now.snapshot.problem.alphabet
-          finished.now.snapshot.problem.problem.setting.prime claim.now }
+        finished.now.snapshot.problem.problem.setting.prime claim.now }
     requires light { All (λ t. word_weight t.key ≤ 200000) claim.now }
     ensures rest { IfOk result (λ r. IsRestOf finished.now.snapshot.problem.problem
-            finished.now.snapshot.handled claim.now r.poly r.steps) }
+        finished.now.snapshot.handled claim.now r.poly r.steps) }
     ensures subtracted { IfOk result
-          (λ r. AreSubtracted finished.now.snapshot.problem.problem
-            finished.now.snapshot.state.entries r.steps) }
+        (λ r. AreSubtracted finished.now.snapshot.problem.problem
+        finished.now.snapshot.state.entries r.steps) }
 {
     let snapshot = finished.snapshot();
     snapshot.recall_rule();

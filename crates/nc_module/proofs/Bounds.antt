@@ -31,6 +31,7 @@ pub under_tested : (s : Setting) (b : Bound) (σ β : Sig) (r : Bool)
     → b ≡ Bound.under (monomial_of β) → IsGenerator s σ.generator → HasDegree s σ → HasDegree s β
     → r ≡ is_lt (compare_sigs σ β) → IsTrue r ↔ IsWithinBound s b (monomial_of σ)
 under_tested s b σ β r e g h k is =
-    subst (λ x. IsTrue r ↔ IsWithinBound s x (monomial_of σ)) (sym e)
-    (λ t. (g, less_from_sigs s σ β h k (less_is (compare_sigs σ β) (sym is ∙ t))),
-          λ w. is ∙ ap is_lt (sigs_from_less s σ β h k w.1))
+    subst (λ x. IsTrue r ↔ IsWithinBound s x (monomial_of σ)) (sym e) (
+      λ t. (g, less_from_sigs s σ β h k (less_is (compare_sigs σ β) (sym is ∙ t))),
+      λ w. is ∙ ap is_lt (sigs_from_less s σ β h k w.1),
+    )

@@ -30,27 +30,27 @@ use Rattle.std.specs.List.{All}
 
 module _ {K : Type 0} (m start : List (Term K)) (items new : List (K × ℕ)) (i : ℕ) (t : Term K)
     (e : K × ℕ) (within : i < length m) (at : t ≡ get_or m i t) (pushed : new ≡ items ++ e ∷ [])
-    where
-  -- one more copy
-  pub copies_more : listed items ≡ start ++ take i m → e.0 ≡ t.key → e.1 ≡ t.coefficient
-      → listed new ≡ start ++ take (i + 1) m
-  copies_more so_far key coefficient =
-      listed_more start (take i m) items new t e so_far pushed key coefficient
-      ∙ ap (λ (l : List (Term K)). start ++ l) (ap (λ (s : Term K). take i m ++ s ∷ []) at
-            ∙ sym (take_more m i t within))
+  where
+    -- one more copy
+    pub copies_more : listed items ≡ start ++ take i m → e.0 ≡ t.key → e.1 ≡ t.coefficient
+        → listed new ≡ start ++ take (i + 1) m
+    copies_more so_far key coefficient =
+        listed_more start (take i m) items new t e so_far pushed key coefficient
+        ∙ ap (λ (l : List (Term K)). start ++ l) (ap (λ (s : Term K). take i m ++ s ∷ []) at
+        ∙ sym (take_more m i t within))
 
-  -- one more multiple
-  pub moved_more : (p c : ℕ) (φ : K → K) → listed items ≡ start ++ moved_by p c φ (take i m)
-      → e.0 ≡ φ t.key → e.1 ≡ (c * t.coefficient) % p
-      → listed new ≡ start ++ moved_by p c φ (take (i + 1) m)
-  moved_more p c φ so_far key coefficient =
-      let move : Term K → Term K =
-          λ s. record { coefficient = (c * s.coefficient) % p; key = φ s.key } in
-      listed_more start (moved_by p c φ (take i m)) items new (move t) e so_far pushed key
-          coefficient
-      ∙ ap (λ (l : List (Term K)). start ++ l)
-          (ap (λ (s : Term K). moved_by p c φ (take i m) ++ s ∷ []) (ap move at)
-            ∙ sym (map_more move m i t within))
+    -- one more multiple
+    pub moved_more : (p c : ℕ) (φ : K → K) → listed items ≡ start ++ moved_by p c φ (take i m)
+        → e.0 ≡ φ t.key → e.1 ≡ (c * t.coefficient) % p
+        → listed new ≡ start ++ moved_by p c φ (take (i + 1) m)
+    moved_more p c φ so_far key coefficient =
+        let move : Term K → Term K =
+        λ s. record { coefficient = (c * s.coefficient) % p; key = φ s.key } in
+        listed_more start (moved_by p c φ (take i m)) items new (move t) e so_far pushed key
+        coefficient
+        ∙ ap (λ (l : List (Term K)). start ++ l)
+        (ap (λ (s : Term K). moved_by p c φ (take i m) ++ s ∷ []) (ap move at)
+        ∙ sym (map_more move m i t within))
 
 -- ---- values
 
@@ -61,7 +61,7 @@ negative_twice p c y small =
     ∙ (mul-mod_first (p - c) ((p - 1) * y) p
     ∙ (sym (add-mul-mod_self_left ((p - c) * ((p - 1) * y)) p (c * y))
     ∙ (ap (λ n. n % p) (form (p - 1) (p - c) (omega arith) (omega arith))
-          ∙ add-mul-mod_self_left (c * y) p ((p - 1) * y))))
+    ∙ add-mul-mod_self_left (c * y) p ((p - 1) * y))))
   where
     regroup : (q k : ℕ) → q * k * y ≡ k * (q * y)
     regroup q k = omega arith
@@ -80,7 +80,7 @@ value_added p c old new g small e = record {
       ∙ (ap (λ n. (coefficient old x % p + n) % p) (negative_twice p c (coefficient g x) small)
       ∙ (sym (add-mod (coefficient old x) (c * coefficient g x) p)
       ∙ ap (λ n. n % p) (sym (linear_sum-append (is_at same_word x) old (scale c g)
-              ∙ ap (λ n. coefficient old x + n) (linear_sum-scale (is_at same_word x) c g)))))));
+      ∙ ap (λ n. coefficient old x + n) (linear_sum-scale (is_at same_word x) c g)))))));
 }
 
 -- what a term evaluates to
@@ -93,19 +93,19 @@ pub value_taken : (s : Setting) (t : Term Sig) (p k : ℕ) (u v : Word) (f old n
     → t.coefficient < s.prime → p ≡ s.prime → k ≡ (p - t.coefficient) % p → u ≡ t.key.left
     → f ≡ generator s t.key.generator → v ≡ t.key.right
     → SameSum same_word p new (minus p old k (polynomial_times u f v))
-        → SameSum same_word s.prime new (old ++ value_of s t)
+    → SameSum same_word s.prime new (old ++ value_of s t)
 value_taken s t p k u v f old new small prime negative left factor right e =
     let product : polynomial_times u f v ≡ polynomial_times t.key.left (generator s t.key.generator)
-        t.key.right =
+    t.key.right =
     ap (λ (w : Word). polynomial_times w f v) left
-        ∙ (ap (λ (g : Polynomial). polynomial_times t.key.left g v) factor
-          ∙ ap (λ (w : Word). polynomial_times t.key.left (generator s t.key.generator) w) right) in
+    ∙ (ap (λ (g : Polynomial). polynomial_times t.key.left g v) factor
+    ∙ ap (λ (w : Word). polynomial_times t.key.left (generator s t.key.generator) w) right) in
     value_added s.prime t.coefficient old new
-        (polynomial_times t.key.left (generator s t.key.generator) t.key.right) small
+    (polynomial_times t.key.left (generator s t.key.generator) t.key.right) small
     (subst (λ (m : Polynomial). SameSum same_word s.prime new
-            (minus s.prime old ((s.prime - t.coefficient) % s.prime) m)) product
+    (minus s.prime old ((s.prime - t.coefficient) % s.prime) m)) product
     (subst (λ n. SameSum same_word s.prime new (minus s.prime old n (polynomial_times u f v)))
-          (negative ∙ ap (λ n. (n - t.coefficient) % n) prime)
+    (negative ∙ ap (λ n. (n - t.coefficient) % n) prime)
     (subst (λ n. SameSum same_word n new (minus n old k (polynomial_times u f v))) prime e)))
 
 module _ (s : Setting) where
@@ -127,14 +127,14 @@ module _ (s : Setting) where
       let now : Polynomial = evaluation s (element_of (take i m)) ++ value_of s t in
       let is : evaluation s (element_of (take (i + 1) m)) ≡ now =
       ap (λ l. evaluation s (element_of l))
-          (take_more m i t within ∙ ap (λ u. take i m ++ u ∷ []) (sym at))
-          ∙ value-push (take i m) t in
+      (take_more m i t within ∙ ap (λ u. take i m ++ u ∷ []) (sym at))
+      ∙ value-push (take i m) t in
       record {
         same = subst (λ (g : Polynomial). SameSum same_word s.prime new g) (sym is)
             (same-trans same_word s.prime new (old ++ value_of s t) now e
-                  (same-append same_word s.prime old (evaluation s (element_of (take i m)))
-                    (value_of s t) (value_of s t) h.same
-                    (same-refl same_word s.prime (value_of s t))));
+            (same-append same_word s.prime old (evaluation s (element_of (take i m)))
+            (value_of s t) (value_of s t) h.same
+            (same-refl same_word s.prime (value_of s t))));
       }
 
   pub value_ends : (m : List (Term Sig)) (i : ℕ) (f : Polynomial) → 0 < s.prime → length m ≤ i
@@ -142,7 +142,7 @@ module _ (s : Setting) where
   value_ends m i f some long h =
       normal_form_equal s.prime f (evaluation s (element_of m)) some
       (subst (λ l. SameSum same_word s.prime f (evaluation s (element_of l))) (take_all i m long)
-        h.same)
+      h.same)
 
 -- the words that a term multiplies out to are short
 pub term_short : (s : Setting) (a : Alphabet) (t : Term Sig) (f : Polynomial) (u v : Word)
@@ -150,9 +150,17 @@ pub term_short : (s : Setting) (a : Alphabet) (t : Term Sig) (f : Polynomial) (u
     → v ≡ t.key.right → All (λ x. length u + length x.key + length v ≤ 200000) f
 term_short s a t f u v has few text left right k d within =
     let degree : t.key.degree ≡ word_weight t.key.left + generator_weight s t.key.generator
-        + word_weight t.key.right = ap (λ σ. σ.degree) has in
-    omega (arith, degree, (text.polynomial.words k d within).short, length_at_most t.key.left,
-          length_at_most t.key.right, ap length left, ap length right, few)
+    + word_weight t.key.right = ap (λ σ. σ.degree) has in
+    omega (
+      arith,
+      degree,
+      (text.polynomial.words k d within).short,
+      length_at_most t.key.left,
+      length_at_most t.key.right,
+      ap length left,
+      ap length right,
+      few,
+    )
 
 -- ---- a multiple subtracted
 
@@ -160,11 +168,11 @@ term_short s a t f u v has few text left right k d within =
 pub pairs_are : (p : ℕ) (u v : Word) (old m : List (Term Sig)) (empty copies pairs : List (Sig × ℕ))
     (k n : ℕ) (from by : List (Term Sig)) → empty ≡ [] → from ≡ old → by ≡ m → k ≡ n
     → listed copies ≡ listed empty ++ from
-        → listed pairs ≡ listed copies ++ module_multiples p k u by v
-        → listed pairs ≡ old ++ module_multiples p n u m v
+    → listed pairs ≡ listed copies ++ module_multiples p k u by v
+    → listed pairs ≡ old ++ module_multiples p n u m v
 pairs_are p u v old m empty copies pairs k n from by none is_old is_m negative copied listed_is =
     listed_is ∙ (ap (λ (l : List (Term Sig)). l ++ module_multiples p k u by v)
-          (copied ∙ ap₂ (λ (e : List (Sig × ℕ)) (l : List (Term Sig)). listed e ++ l) none is_old)
+    (copied ∙ ap₂ (λ (e : List (Sig × ℕ)) (l : List (Term Sig)). listed e ++ l) none is_old)
     ∙ ap₂ (λ (i : ℕ) (l : List (Term Sig)). old ++ module_multiples p i u l v) negative is_m)
 
 pub pairs_small : (p : ℕ) (u v : Word) (old m : List (Term Sig)) (k : ℕ) (l : List (Term Sig))
@@ -172,19 +180,19 @@ pub pairs_small : (p : ℕ) (u v : Word) (old m : List (Term Sig)) (k : ℕ) (l 
 pairs_small p u v old m k l some a is =
     subst (AreResiduesBy p) (sym is)
     (All-append (λ t. t.coefficient < p) old (module_multiples p k u m v) a
-      (moved_are_residues same_sig p k (λ σ. sig_times u σ v) m some))
+    (moved_are_residues same_sig p k (λ σ. sig_times u σ v) m some))
 
 pub module_subtracted : (p c : ℕ) (u v : Word) (old m new : List (Term Sig))
     (empty copies pairs : List (Sig × ℕ)) (k : ℕ) (from by : List (Term Sig)) → c < p → empty ≡ []
     → from ≡ old → by ≡ m → k ≡ (p - c) % p
     → listed copies ≡ listed empty ++ from
-        → listed pairs ≡ listed copies ++ module_multiples p k u by v
-        → SameSum same_sig p new (listed pairs)
-        → SameSum same_sig p new (minus p old c (module_times u m v))
+    → listed pairs ≡ listed copies ++ module_multiples p k u by v
+    → SameSum same_sig p new (listed pairs)
+    → SameSum same_sig p new (minus p old c (module_times u m v))
 module_subtracted p c u v old m new empty copies pairs k from by small none is_old is_m negative
     copied listed_is e =
     same-trans same_sig p new (listed pairs) (minus p old c (module_times u m v)) e
     (subst (λ (l : List (Term Sig)). SameSum same_sig p l (minus p old c (module_times u m v)))
-          (sym (pairs_are p u v old m empty copies pairs k ((p - c) % p) from by none is_old is_m
-              negative copied listed_is)) (same_moved same_sig p c (λ σ. sig_times u σ v) old m
-            small))
+    (sym (pairs_are p u v old m empty copies pairs k ((p - c) % p) from by none is_old is_m
+    negative copied listed_is)) (same_moved same_sig p c (λ σ. sig_times u σ v) old m
+    small))

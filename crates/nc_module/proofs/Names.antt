@@ -18,7 +18,7 @@ not_among x (y ∷ names) e h =
     by_place : bytes_eq y x ≡ false → ¬ Among x names → (x ≡ y) ⊎ Among x names → ⊥
     by_place apart rest (inl e) =
         true≢false (sym ((bytes_eq-Decides x x).1 refl) ∙ ap (λ (n : List ℕ). bytes_eq n x) e
-          ∙ apart)
+        ∙ apart)
     by_place apart rest (inr h) = rest h
 
 -- and one that a test finds is
@@ -48,9 +48,9 @@ module _ (names : List (List ℕ)) (x : List ℕ) (some : 1 ≤ length names)
       by_names [] h e d = absurd (omega (arith, h))
       by_names (y ∷ ns) h e d =
           let whole : take (length (y ∷ ns) - 1) ns ≡ ns =
-              take_all (length (y ∷ ns) - 1) ns (omega arith) in
+          take_all (length (y ∷ ns) - 1) ns (omega arith) in
           subst (λ (rest : List (List ℕ)). (¬ Among x rest) × IsDistinct rest) (sym whole)
-              (subst (λ (z : List ℕ). ¬ Among z ns) (sym e) d.0, d.1)
+          (subst (λ (z : List ℕ). ¬ Among z ns) (sym e) d.0, d.1)
 
   pub distinct_by_parts : ¬ Among x others → IsDistinct others → IsDistinct names
   distinct_by_parts = by_names names some first
@@ -61,10 +61,11 @@ module _ (names : List (List ℕ)) (x : List ℕ) (some : 1 ≤ length names)
       by_names [] h e n d = absurd (omega (arith, h))
       by_names (y ∷ ns) h e n d =
           let whole : take (length (y ∷ ns) - 1) ns ≡ ns =
-              take_all (length (y ∷ ns) - 1) ns (omega arith) in
-          (subst (λ (z : List ℕ). ¬ Among z ns) e
+          take_all (length (y ∷ ns) - 1) ns (omega arith) in (
+            subst (λ (z : List ℕ). ¬ Among z ns) e
                 (subst (λ (rest : List (List ℕ)). ¬ Among x rest) whole n),
-                subst IsDistinct whole d)
+            subst IsDistinct whole d,
+          )
 
 pub not_true : (b : Bool) → IsTrue (not b) → b ≡ false
 not_true true h = absurd (true≢false (sym h))

@@ -34,16 +34,16 @@ pub weight_first : (s : NamedSetting) (i : ℕ) (t : Term Word) (f : Polynomial)
     → generator s.setting i ≡ t ∷ f → generator_weight s.setting i ≡ word_weight t.key
 weight_first s i t f h e =
     ap word_weight (ap (leading s.setting.prime) e
-      ∙ leading-normal s.setting.prime t f (subst (IsNormal s.setting.prime) e h.polynomial.normal))
+    ∙ leading-normal s.setting.prime t f (subst (IsNormal s.setting.prime) e h.polynomial.normal))
 
 pub first_is_short : (s : NamedSetting) (i : ℕ) (t : Term Word) (f : Polynomial) → IsSetting s
     → IsTextGenerator s.alphabet s.setting.prime (generator s.setting i)
     → generator s.setting i ≡ t ∷ f → word_weight t.key ≤ 25500
 first_is_short s i t f is h e =
     let words =
-        recursion_from_All (λ u. IsTextWord s.alphabet u.key) (t ∷ f)
-        (subst (λ (g : Polynomial). All (λ u. IsTextWord s.alphabet u.key) g) e h.polynomial.words)
-        in
+    recursion_from_All (λ u. IsTextWord s.alphabet u.key) (t ∷ f)
+    (subst (λ (g : Polynomial). All (λ u. IsTextWord s.alphabet u.key) g) e h.polynomial.words)
+    in
     let first : IsTextWord s.alphabet t.key = words.0 in
     text_word_light s.alphabet is.alphabet t.key first
 

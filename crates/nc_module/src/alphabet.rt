@@ -26,8 +26,7 @@ impl Model for Alphabet {
 
     ghost view = { λ a. record { names = a.names.items; weights = a.weights.items } };
 
-    ghost invariant =
-        { λ a. IsAlphabet (record { names = a.names.items; weights = a.weights.items }) };
+    ghost invariant = { λ a. IsAlphabet (record { names = a.names.items; weights = a.weights.items }) };
 }
 
 /// Whether a name is one of these.
@@ -77,7 +76,8 @@ impl Alphabet {
 
     /// Whether `of` takes these.
     pub fn takes(names: &[Name], weights: &[u8]) -> bool
-        ensures { IsTrue result ↔ IsAlphabet (record { names = names.now; weights = weights.now }) }
+        ensures { IsTrue result ↔ IsAlphabet
+            (record { names = names.now; weights = weights.now }) }
     {
         let few = !names.is_empty() && names.len() <= 64 && weights.len() == names.len();
         few && are_names(names)

@@ -31,9 +31,12 @@ impl Model for Part {
 
     ghost Value = { Part };
 
-    ghost view =
-        { λ p. record { coefficient = p.coefficient;
-            left = p.left; of = factor_of p.of; right = p.right } };
+    ghost view = { λ p. record {
+      coefficient = p.coefficient;
+      left = p.left;
+      of = factor_of p.of;
+      right = p.right;
+    } };
 }
 
 /// A sum of parts.

@@ -116,11 +116,11 @@ fn push_multiples(
     requires factor { c < p }
     requires residues { AreResiduesBy p m.now }
     requires degrees { All (λ t. word_weight u.now + t.key.degree + word_weight v.now ≤ 300000)
-          m.now }
+        m.now }
     requires left { All (λ t. length u.now + length t.key.left ≤ 200000) m.now }
     requires right { All (λ t. length t.key.right + length v.now ≤ 200000) m.now }
     ensures { OnOk result (listed out.new.items ≡ listed out.old.items ++ module_multiples p c u.now
-            m.now v.now) }
+        m.now v.now) }
 {
     for t in m {
         out.push(t.multiple(alloc, p, c, u, v)?)?;
@@ -169,9 +169,9 @@ fn add_value(
     requires residue { t.now.coefficient < setting.now.setting.prime }
     requires before { AreResidues setting.now.setting.prime sum.old }
     ensures sum { OnOk result (SameSum same_word setting.now.setting.prime sum.new
-            (sum.old ++ scale t.now.coefficient
-              (polynomial_times t.now.key.left (generator setting.now.setting t.now.key.generator)
-                t.now.key.right))) }
+        (sum.old ++ scale t.now.coefficient
+        (polynomial_times t.now.key.left (generator setting.now.setting t.now.key.generator)
+        t.now.key.right))) }
     ensures residues { AreResidues setting.now.setting.prime sum.new }
 {
     let p = setting.prime();
@@ -251,12 +251,12 @@ impl Module {
         requires residues { AreResiduesBy p self.old }
         requires other_residues { AreResiduesBy p m.now }
         requires degrees { All (λ t. word_weight u.now + t.key.degree + word_weight v.now ≤ 300000)
-              m.now }
+            m.now }
         requires left { All (λ t. length u.now + length t.key.left ≤ 200000) m.now }
         requires right { All (λ t. length t.key.right + length v.now ≤ 200000) m.now }
         ensures difference { OnOk result
-              (SameSum same_sig p self.new (minus p self.old c
-                  (map_keys (λ σ. sig_times u.now σ v.now) m.now))) }
+            (SameSum same_sig p self.new (minus p self.old c
+            (map_keys (λ σ. sig_times u.now σ v.now) m.now))) }
         ensures residues { AreResiduesBy p self.new }
         ensures err { OnErr result (self.new ≡ self.old) }
     {
@@ -274,7 +274,7 @@ impl Module {
         requires few { All (λ t. t.key.degree ≤ 100000) self.now }
         requires residues { AreResiduesBy setting.now.setting.prime self.now }
         ensures { IfOk result (λ f. f ≡ normal_form setting.now.setting.prime
-                (evaluation setting.now.setting (element_of self.now))) }
+            (evaluation setting.now.setting (element_of self.now))) }
     {
         let alloc = *self.kept.allocator();
         let mut sum = Accumulator::of(Poly::zero(alloc));

@@ -33,14 +33,24 @@ impl Model for Problem {
 
     ghost Value = { NamedProblem };
 
-    ghost view =
-        { λ p. record { problem = record { setting = p.setting.setting;
-              bound = bound_of p.bound; steps = p.steps }; alphabet = p.setting.alphabet } };
+    ghost view = { λ p. record {
+      problem = record {
+        setting = p.setting.setting;
+        bound = bound_of p.bound;
+        steps = p.steps;
+      };
+      alphabet = p.setting.alphabet;
+    } };
 
-    ghost invariant =
-        { λ p. IsProblem (record { problem = record { setting = p.setting.setting;
-                bound = bound_of p.bound; steps = p.steps }; alphabet = p.setting.alphabet })
-          × HasBoundDegree p.setting.setting p.bound };
+    ghost invariant = { λ p. IsProblem (record {
+      problem = record {
+        setting = p.setting.setting;
+        bound = bound_of p.bound;
+        steps = p.steps;
+      };
+      alphabet = p.setting.alphabet;
+    })
+        × HasBoundDegree p.setting.setting p.bound };
 }
 
 /// Whether they are the same monomial, with the same degree.
@@ -67,12 +77,23 @@ impl Problem {
     /// The problem with this setting, this bound and so many steps, at most 1,000,000,000. The bound has a degree of at
     /// most 80,000; if it has a monomial, that is one over the setting, with its degree beside it.
     pub fn of(setting: Setting, bound: Bound, steps: u64) -> Problem
-        requires problem { IsProblem (record
-                { problem = record { setting = setting.setting;
-                    bound = bound_of bound; steps = steps }; alphabet = setting.alphabet }) }
+        requires problem { IsProblem (record {
+          problem = record {
+            setting = setting.setting;
+            bound = bound_of bound;
+            steps = steps;
+          };
+          alphabet = setting.alphabet;
+        }) }
         requires degree { HasBoundDegree setting.setting bound }
-        ensures { result ≡ record { problem = record { setting = setting.setting;
-                  bound = bound_of bound; steps = steps }; alphabet = setting.alphabet } }
+        ensures { result ≡ record {
+          problem = record {
+            setting = setting.setting;
+            bound = bound_of bound;
+            steps = steps;
+          };
+          alphabet = setting.alphabet;
+        } }
     {
         Problem {
             setting,
@@ -90,8 +111,10 @@ impl Problem {
 
     /// The setting.
     pub fn setting(&self) -> &Setting
-        ensures setting { result.now ≡ record { alphabet = self.now.alphabet;
-                setting = self.now.problem.setting } }
+        ensures setting { result.now ≡ record {
+          alphabet = self.now.alphabet;
+          setting = self.now.problem.setting;
+        } }
         ensures problem { IsProblem self.now }
     {
         &self.setting

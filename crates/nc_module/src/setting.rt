@@ -24,13 +24,15 @@ impl Model for Setting {
 
     ghost Value = { NamedSetting };
 
-    ghost view =
-        { λ s. record { alphabet = s.alphabet;
-            setting = record { prime = s.prime; generators = s.generators.items } } };
+    ghost view = { λ s. record {
+      alphabet = s.alphabet;
+      setting = record { prime = s.prime; generators = s.generators.items };
+    } };
 
-    ghost invariant =
-        { λ s. IsSetting (record { alphabet = s.alphabet;
-              setting = record { prime = s.prime; generators = s.generators.items } }) };
+    ghost invariant = { λ s. IsSetting (record {
+      alphabet = s.alphabet;
+      setting = record { prime = s.prime; generators = s.generators.items };
+    }) };
 }
 
 /// Whether they are the same polynomials, in the same order.
@@ -48,10 +50,14 @@ impl Setting {
     /// The setting with this prime, this alphabet, and these generators, at most 1,000, none of them zero, whose words
     /// are over the alphabet and have at most 255 letters.
     pub fn of(prime: Prime, alphabet: Alphabet, generators: Vec<Poly>) -> Setting
-        requires { IsSetting (record { alphabet = alphabet;
-                  setting = record { prime = prime; generators = generators.items } }) }
-        ensures { result ≡ record { alphabet = alphabet;
-                setting = record { prime = prime; generators = generators.items } } }
+        requires { IsSetting (record {
+          alphabet = alphabet;
+          setting = record { prime = prime; generators = generators.items };
+        }) }
+        ensures { result ≡ record {
+          alphabet = alphabet;
+          setting = record { prime = prime; generators = generators.items };
+        } }
     {
         Setting {
             prime,
@@ -63,8 +69,10 @@ impl Setting {
     /// Whether `of` takes these.
     pub fn takes(prime: Prime, alphabet: &Alphabet, generators: &[Poly]) -> bool
         ensures { IsTrue result ↔ IsSetting
-              (record { alphabet = alphabet.now;
-                  setting = record { prime = prime; generators = generators.now } }) }
+            (record {
+              alphabet = alphabet.now;
+              setting = record { prime = prime; generators = generators.now };
+            }) }
     {
         alphabet.recall_rule();
         generators.len() <= 1000 && generators.iter().all(|f| alphabet.is_generator(prime, f))

@@ -30,7 +30,7 @@ pub record IsNeither (names : List Text) (number : Bool) (words words' : List Te
 both_or_neither : (names : List Text) (number : Bool) (words words' : List Text)
     (uses uses' : List Use) → are_names names ≡ true
     → AreSpelled names number uses words → AreSpelled names number uses' words'
-        → IsPermutation uses uses'
+    → IsPermutation uses uses'
     → AreBoth names number words words' ⊎ IsNeither names number words words'
 both_or_neither names number words words' uses uses' good s s' p =
     go (is_distinct uses) (is_distinct uses') refl refl
@@ -45,29 +45,32 @@ both_or_neither names number words words' uses uses' good s s' p =
         → AreBoth names number words words' ⊎ IsNeither names number words words'
     go true b d d' =
         let e : is_distinct uses' ≡ true = distinct-permutation uses uses' p d in
-        inl (record { uses = uses; uses' = uses';
-                first = with words uses true s d;
-                second = with words' uses' true s' e;
-                values = λ name. value_of-permutation name uses uses' p d })
+        inl (record {
+          uses = uses;
+          uses' = uses';
+          first = with words uses true s d;
+          second = with words' uses' true s' e;
+          values = λ name. value_of-permutation name uses uses' p d;
+        })
     go false false d d' =
         inr (record { first = with words uses false s d; second = with words' uses' false s' d' })
     go false true d d' =
         absurd (true≢false (sym (distinct-permutation uses' uses (IsPermutation-sym uses uses' p)
-              d') ∙ d))
+        d') ∙ d))
 
 -- what is read of the values is the same
 same_read : {O : Type 0} (read : (Text → Option Text) → Option O) (names : List Text)
     (number : Bool) (words words' : List Text)
     → AreBoth names number words words' ⊎ IsNeither names number words words'
     → option_and_then (λ us. read (λ name. value_of name us)) (uses_of names number words)
-        ≡ option_and_then (λ us. read (λ name. value_of name us)) (uses_of names number words')
+    ≡ option_and_then (λ us. read (λ name. value_of name us)) (uses_of names number words')
 same_read read names number words words' (inl both) =
     ap (option_and_then (λ us. read (λ name. value_of name us))) both.first
     ∙ ap read (λ i name. sym (both.values name) i)
     ∙ sym (ap (option_and_then (λ us. read (λ name. value_of name us))) both.second)
 same_read read names number words words' (inr neither) =
     ap (option_and_then (λ us. read (λ name. value_of name us))) neither.first
-        ∙ sym (ap (option_and_then (λ us. read (λ name. value_of name us))) neither.second)
+    ∙ sym (ap (option_and_then (λ us. read (λ name. value_of name us))) neither.second)
 
 same_check : (words words' : List Text) → AreBoth [] false words words'
     ⊎ IsNeither [] false words words' → check_after words ≡ check_after words'
@@ -80,13 +83,13 @@ same_check words words' (inr neither) =
 abbrev Same : List Text → List Text → List Use → List Use → Text → Type 0
 Same words words' uses uses' command =
     AreSpelled (names_of command) (takes_number command) uses words
-        → AreSpelled (names_of command) (takes_number command) uses' words'
-        → options_of (command ∷ words) ≡ options_of (command ∷ words')
+    → AreSpelled (names_of command) (takes_number command) uses' words'
+    → options_of (command ∷ words) ≡ options_of (command ∷ words')
 
 pub any_order : OptionsInAnyOrder
 any_order command words words' uses uses' s s' p =
     go (bytes_eq command (codes "basis")) (bytes_eq command (codes "member"))
-        (bytes_eq command (codes "check")) (bytes_eq command (codes "demo")) refl refl refl refl
+    (bytes_eq command (codes "check")) (bytes_eq command (codes "demo")) refl refl refl refl
   where
     at : (other : Text) → bytes_eq command other ≡ true → Same words words' uses uses' other
         → options_of (command ∷ words) ≡ options_of (command ∷ words')
@@ -102,19 +105,19 @@ any_order command words words' uses uses' s s' p =
         → options_of (command ∷ words) ≡ options_of (command ∷ words')
     go true b c d is e f g =
         at (codes "basis") is (λ t t'. same_read (λ given. option_map Basis (basis_of given))
-              basis_names false words words'
-              (both_or_neither basis_names false words words' uses uses' refl t t' p))
+        basis_names false words words'
+        (both_or_neither basis_names false words words' uses uses' refl t t' p))
     go false true c d e is f g =
         at (codes "member") is (λ t t'. same_read (λ given. option_map Member (member_of given))
-              member_names false words words'
-              (both_or_neither member_names false words words' uses uses' refl t t' p))
+        member_names false words words'
+        (both_or_neither member_names false words words' uses uses' refl t t' p))
     go false false true d e f is g =
         at (codes "check") is (λ t t'. same_check words words'
-              (both_or_neither [] false words words' uses uses' refl t t' p))
+        (both_or_neither [] false words words' uses uses' refl t t' p))
     go false false false true e f g is =
         at (codes "demo") is (λ t t'. same_read (λ given. option_map Demo (demo_of given))
-              demo_names true words words' (both_or_neither demo_names true words words' uses uses'
-                refl t t' p))
+        demo_names true words words' (both_or_neither demo_names true words words' uses uses'
+        refl t t' p))
     go false false false false e f g h =
         no_command command words (off _ e) (off _ f) (off _ g) (off _ h)
-            ∙ sym (no_command command words' (off _ e) (off _ f) (off _ g) (off _ h))
+        ∙ sym (no_command command words' (off _ e) (off _ f) (off _ g) (off _ h))

@@ -46,20 +46,20 @@ distinct_push (u ∷ us) n v d none =
     has_append u.0 us ((n, v) ∷ []) ∙ or_from _ _ here (or_from _ _ (same_sym n u.0 ∙ off) refl) in
     ap (λ b. not b && is_distinct (us ++ (n, v) ∷ [])) other
     ∙ distinct_push us n v (and_parts (not (has_name u.0 us)) _ d).1
-        (or_parts (bytes_eq u.0 n) _ none).1
+    (or_parts (bytes_eq u.0 n) _ none).1
 
 pub not_distinct : (us : List Use) (n v : Text) (more : List Use) → has_name n us ≡ true
     → is_distinct (us ++ (n, v) ∷ more) ≡ true → ⊥
 not_distinct [] n v more has d = true≢false (sym has)
 not_distinct (u ∷ us) n v more has d =
     go (bytes_eq u.0 n) refl has (λ h. not_distinct us n v more h
-      (and_parts (not (has_name u.0 (us ++ (n, v) ∷ more))) _ d).1)
+    (and_parts (not (has_name u.0 (us ++ (n, v) ∷ more))) _ d).1)
   where
     go : (b : Bool) → bytes_eq u.0 n ≡ b → (b || has_name n us) ≡ true → (has_name n us ≡ true → ⊥)
         → ⊥
     go true is h rec =
         both_ways _ (not-true _ (and_parts _ _ d).0) (has_append u.0 us ((n, v) ∷ more)
-          ∙ or_right _ _ (ap (λ b. b || has_name u.0 more) (same_sym n u.0 ∙ is)))
+        ∙ or_right _ _ (ap (λ b. b || has_name u.0 more) (same_sym n u.0 ∙ is)))
     go false is h rec = rec h
 
 -- ---- counts
@@ -89,8 +89,8 @@ pub at_most_one : (n : Text) (us : List Use) → is_distinct us ≡ true → use
 at_most_one n [] d = omega arith
 at_most_one n (u ∷ us) d =
     let all =
-        go (bytes_eq u.0 n) refl (at_most_one n us
-          (and_parts (not (has_name u.0 us)) (is_distinct us) d).1) in
+    go (bytes_eq u.0 n) refl (at_most_one n us
+    (and_parts (not (has_name u.0 us)) (is_distinct us) d).1) in
     let sum = one_more (λ (v : Use). bytes_eq v.0 n) u us in
     omega arith
   where
@@ -99,8 +99,8 @@ at_most_one n (u ∷ us) d =
     go true e rec =
         let same : u.0 ≡ n = (bytes_eq-Decides u.0 n).0 e in
         let none : has_name n us ≡ false =
-            ap (λ x. has_name x us) (sym same)
-            ∙ not-true (has_name u.0 us) (and_parts (not (has_name u.0 us)) (is_distinct us) d).0 in
+        ap (λ x. has_name x us) (sym same)
+        ∙ not-true (has_name u.0 us) (and_parts (not (has_name u.0 us)) (is_distinct us) d).0 in
         let zero : uses_named n us ≡ 0 = none_named n us none in
         omega arith
 

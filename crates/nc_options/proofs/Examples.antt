@@ -5,12 +5,12 @@ use Rattle.nc_options.specs.declared.options.Cofactors.TheVariants.{Full}
 use Rattle.nc_options.specs.declared.options.Options.TheVariants.{Basis, Check, Demo}
 
 pub between : options_of (codes "demo" ∷ codes "--degree" ∷ codes "10" ∷ codes "007"
-      ∷ codes "--workers=2" ∷ [])
+    ∷ codes "--workers=2" ∷ [])
     ≡ Some (Demo (record { number = 7; degree = 10; workers = 2; window = 64 }))
 between = refl
 
 pub any_order : options_of (codes "basis" ∷ codes "--limit=5" ∷ codes "--cofactors" ∷ codes "full"
-      ∷ [])
+    ∷ [])
     ≡ Some (Basis (record { workers = 1; window = 64; limit = 5; cofactors = Full }))
 any_order = refl
 

@@ -23,7 +23,7 @@ stray_splits number None next = refl
 stray_splits number (Some n) next = refl
 
 rest_splits : (number : Bool) (wanted : Option Text) (p : Piece) (next : Option Text
-      → Option (List Use)) → ((w : Option Text) → next w ≡ None)
+    → Option (List Use)) → ((w : Option Text) → next w ≡ None)
     → split_piece number wanted p next ≡ None
 rest_splits number None (joined n v) next none = ap (with_use n v) (none None)
 rest_splits number None (named n) next none = none (Some n)
@@ -43,7 +43,7 @@ unfit_splits names number (word ∷ rest) wanted e =
   where
     go : (p : Piece) → (not (is_stray p) && list_all (is_fit names) rest) ≡ false
         → (list_all (is_fit names) rest ≡ false → (w : Option Text)
-          → split names number rest w ≡ None)
+        → split names number rest w ≡ None)
         → split_piece number wanted p (split names number rest) ≡ None
     go stray f rec = stray_splits number wanted (split names number rest)
     go (joined n v) f rec = rest_splits number wanted (joined n v) (split names number rest) (rec f)
@@ -70,8 +70,8 @@ names_piece names n word = outer (after_hyphen word)
   where
     last : (text : Text) (z h : Bool)
         → Names (bytes_eq (name_in text) n) n
-            (if z then (if h then joined (name_in text) (value_in text) else named (name_in text))
-              else stray)
+        (if z then (if h then joined (name_in text) (value_in text) else named (name_in text))
+        else stray)
     last text true true = refl
     last text true false = refl
     last text false h = tt
@@ -99,8 +99,8 @@ counted names number n [] None more e = omega arith
 counted names number n [] (Some m) more e = absurd (none_of_some more e)
 counted names number n (word ∷ rest) wanted more e =
     let all =
-        go wanted (piece_of names word) number (names_piece names n word) e
-        (λ w m f. counted names number n rest w m f) in
+    go wanted (piece_of names word) number (names_piece names n word) e
+    (λ w m f. counted names number n rest w m f) in
     let sum = one_more (names_option n) word rest in
     omega arith
   where
@@ -112,20 +112,20 @@ counted names number n (word ∷ rest) wanted more e =
         let same : (m, v) ∷ l ≡ more = cc in
         let under : k ≤ uses_named n l = h l refl in
         let sum : one_if (bytes_eq m n) + uses_named n l ≡ uses_named n more =
-            sym (one_more (λ (u : Use). bytes_eq u.0 n) (m, v) l) ∙ ap (uses_named n) same in
+        sym (one_more (λ (u : Use). bytes_eq u.0 n) (m, v) l) ∙ ap (uses_named n) same in
         omega arith
 
     go : (w : Option Text) (p : Piece) (num : Bool) → Names (names_option n word) n p
         → split_piece num w p (split names number rest) ≡ Some more
         → ((v : Option Text) (m : List Use) → split names number rest v ≡ Some m
-              → wanted_count n v + count_by (names_option n) rest ≤ uses_named n m)
+        → wanted_count n v + count_by (names_option n) rest ≤ uses_named n m)
         → wanted_count n w + (one_if (names_option n word) + count_by (names_option n) rest)
-            ≤ uses_named n more
+        ≤ uses_named n more
     go None (joined m v) num is f rec =
         let one : one_if (names_option n word) ≡ one_if (bytes_eq m n) = ap one_if is in
         let all =
-            used m v (split names number rest None) num (count_by (names_option n) rest)
-            (λ l g. let r = rec None l g in omega arith) f in
+        used m v (split names number rest None) num (count_by (names_option n) rest)
+        (λ l g. let r = rec None l g in omega arith) f in
         omega arith
     go None (named m) num is f rec =
         let one : one_if (names_option n word) ≡ one_if (bytes_eq m n) = ap one_if is in
@@ -134,16 +134,16 @@ counted names number n (word ∷ rest) wanted more e =
     go None (plain w) true is f rec =
         let one : one_if (names_option n word) ≡ 0 = ap one_if is in
         let all =
-            used number_id w (split names number rest None) true (count_by (names_option n) rest)
-            (λ l g. let r = rec None l g in omega arith) f in
+        used number_id w (split names number rest None) true (count_by (names_option n) rest)
+        (λ l g. let r = rec None l g in omega arith) f in
         omega arith
     go None (plain w) false is f rec = absurd (none_of_some more f)
     go None stray num is f rec = absurd (none_of_some more f)
     go (Some m) (plain w) num is f rec =
         let one : one_if (names_option n word) ≡ 0 = ap one_if is in
         let all =
-            used m w (split names number rest None) num (count_by (names_option n) rest)
-            (λ l g. let r = rec None l g in omega arith) f in
+        used m w (split names number rest None) num (count_by (names_option n) rest)
+        (λ l g. let r = rec None l g in omega arith) f in
         omega arith
     go (Some m) (joined k v) num is f rec = absurd (none_of_some more f)
     go (Some m) (named k) num is f rec = absurd (none_of_some more f)
@@ -158,9 +158,9 @@ all_single names number words (n ∷ ns) more e d =
     let most : uses_named n more ≤ 1 = at_most_one n more d in
     let all = counted names number n words None more e in
     let here : nat_le (count_by (names_option n) words) 1 ≡ true =
-        le_test (count_by (names_option n) words) (omega arith) in
+    le_test (count_by (names_option n) words) (omega arith) in
     ap (λ b. b && list_all (λ name. nat_le (count_by (names_option name) words) 1) ns) here
-        ∙ all_single names number words ns more e d
+    ∙ all_single names number words ns more e d
   where
     le_test : (k : ℕ) → k ≤ 1 → nat_le k 1 ≡ true
     le_test k h = le-leb k 1 h

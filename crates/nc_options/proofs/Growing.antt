@@ -18,11 +18,15 @@ number_joins (m ∷ ms) = ap (λ rs. option_arg m ∷ rs) (number_joins ms)
 pub option_added : (name : Text) (ns : List Text) (n : Text)
     → with_rule (command_for name ns false) (option_arg n) ≡ command_for name (ns ++ n ∷ []) false
 option_added name ns n =
-    ap (λ rs. record { top = record (new_shape name) { rules = rs; disable_help_flag = true };
-        subs = [] }) (option_joins ns n)
+    ap (λ rs. record {
+      top = record (new_shape name) { rules = rs; disable_help_flag = true };
+      subs = [];
+    }) (option_joins ns n)
 
 pub number_added : (name : Text) (ns : List Text) → with_rule (command_for name ns false) number_arg
     ≡ command_for name ns true
 number_added name ns =
-    ap (λ rs. record { top = record (new_shape name) { rules = rs; disable_help_flag = true };
-        subs = [] }) (number_joins ns)
+    ap (λ rs. record {
+      top = record (new_shape name) { rules = rs; disable_help_flag = true };
+      subs = [];
+    }) (number_joins ns)

@@ -40,7 +40,7 @@ has_use name value (u ∷ us) e = go (bytes_eq u.0 name) e (has_use name value u
     go true f rec =
         let same : u.1 ≡ value = cc in
         ap (λ x. bytes_eq x value || list_any (is_use name value) us) same
-            ∙ ap (λ b. b || list_any (is_use name value) us) (same_self value)
+        ∙ ap (λ b. b || list_any (is_use name value) us) (same_self value)
 
 use_has_name : (name value : Text) (us : List Use) → list_any (is_use name value) us ≡ true
     → has_name name us ≡ true
@@ -64,14 +64,14 @@ of_use name value (u ∷ us) d e =
     other : bytes_eq u.0 name ≡ true → list_any (is_use name value) us ≡ true → ⊥
     other is f =
         true≢false (sym (ap (λ n. has_name n us) ((bytes_eq-Decides u.0 name).0 is)
-                ∙ use_has_name name value us f)
-              ∙ not-true (has_name u.0 us) (and_parts (not (has_name u.0 us)) (is_distinct us) d).0)
+        ∙ use_has_name name value us f)
+        ∙ not-true (has_name u.0 us) (and_parts (not (has_name u.0 us)) (is_distinct us) d).0)
 
     go : (a b : Bool) → bytes_eq u.0 name ≡ a → bytes_eq u.1 value ≡ b
         → ((a && b) || list_any (is_use name value) us) ≡ true
         → (list_any (is_use name value) us ≡ true → value_of name us ≡ Some value)
         → option_map (λ (v : Use). v.1) (cond a (Some u) (find (λ v. bytes_eq v.0 name) us))
-            ≡ Some value
+        ≡ Some value
     go true true is same f rec = ap Some ((bytes_eq-Decides u.1 value).0 same)
     go true false is differs f rec = absurd (other is f)
     go false b is same f rec = rec f
@@ -80,7 +80,7 @@ kept : (name value : Text) (us vs : List Use) → IsPermutation us vs → is_dis
     → value_of name us ≡ Some value → value_of name vs ≡ Some value
 kept name value us vs p d e =
     of_use name value vs (distinct-permutation us vs p d)
-        (sym (list_any-IsPermutation (is_use name value) us vs p) ∙ has_use name value us e)
+    (sym (list_any-IsPermutation (is_use name value) us vs p) ∙ has_use name value us e)
 
 -- each name keeps its value
 pub value_of-permutation : (name : Text) (us vs : List Use) → IsPermutation us vs

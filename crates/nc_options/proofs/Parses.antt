@@ -65,15 +65,15 @@ pub simple : (name : Text) (names : List Text) (number : Bool)
     → is_simple (command_for name names number) ≡ true
 simple name names number =
     ap₂ (λ x a. (x && true) && (Rattle.clap.specs.Simple.is_ready a.top
-            && list_all Rattle.clap.specs.Simple.is_ready_leaf a.subs)) (all_simple names number)
-        (built_is name names number)
+    && list_all Rattle.clap.specs.Simple.is_ready_leaf a.subs)) (all_simple names number)
+    (built_is name names number)
     ∙ ap₂ (λ x y. (x && not y) && true) (table_simple names number) (none_early _ names number)
 
 pub simple_and_free : (name : Text) (names : List Text) (number : Bool)
     → is_simple_and_free (command_for name names number) ≡ true
 simple_and_free name names number =
     ap₂ (λ x a. x && Rattle.clap.specs.Faults.is_free_app a) (simple name names number)
-        (built_is name names number)
+    (built_is name names number)
     ∙ ap (λ x. x && true) (table_free names number)
 
 -- ---- after the walk
@@ -88,11 +88,11 @@ unfolding defaults_fault
 no_defaults rows [] false = refl
 no_defaults rows [] true =
     ap (λ b. or_else (if b then [] else Rattle.clap.specs.Faults.given_default_fault number_rule [])
-      []) (or_right (has_row number_id rows) true refl)
+    []) (or_right (has_row number_id rows) true refl)
 no_defaults rows (n ∷ ns) number =
     ap (λ b. or_else (if b then [] else Rattle.clap.specs.Faults.given_default_fault (option_rule n)
-            []) (defaults_fault (with_default rows (option_rule n)) (table ns number)))
-        (or_right (has_row n rows) true refl)
+    []) (defaults_fault (with_default rows (option_rule n)) (table ns number)))
+    (or_right (has_row n rows) true refl)
     ∙ no_defaults (with_default rows (option_rule n)) ns number
 
 nothing_added : (rows : List Row) (names : List Text) (number : Bool)
@@ -141,9 +141,9 @@ fault_is : (name : Text) (names : List Text) (number : Bool) (command : Text) (w
 fault_is name names number command words =
     ap (λ a. built_fault a nothing_held words) (built_is name names number)
     ∙ ap₂ (λ o below. level_fault (shape_for name names number) [] nothing_held words (is_some o)
-          below)
+    below)
     (none_entered name (table names number)
-          (walk (table names number) [] nothing_held words).stopped)
+    (walk (table names number) [] nothing_held words).stopped)
     (none_below name (table names number) (walk (table names number) [] nothing_held words).stopped)
 
 level_passes : (name : Text) (names : List Text) (number : Bool) (words : List Text)
@@ -153,9 +153,9 @@ level_passes name names number words e =
     both_none _ _ (first_none _ _ e)
     (both_none _ _ (second_none _ _ e)
     (both_none _ _ (no_defaults (settled (table names number)
-              (end_of names number (walk_at [] nothing 1) words).held).rows names number)
+    (end_of names number (walk_at [] nothing 1) words).held).rows names number)
     (checked name names number (finished (table names number)
-            (end_of names number (walk_at [] nothing 1) words).held))))
+    (end_of names number (walk_at [] nothing 1) words).held))))
 
 level_refuses : (name : Text) (names : List Text) (number : Bool) (words : List Text)
     → level name names number words ≡ [] → rest_fault name names number (walk_at [] nothing 1) words
@@ -163,24 +163,24 @@ level_refuses : (name : Text) (names : List Text) (number : Bool) (words : List 
 level_refuses name names number words e =
     let walk_part = walk_fault (shape_for name names number) [] (walk_at [] nothing 1) words in
     let end_part =
-        settle_fault (table names number) false
-        (end_of names number (walk_at [] nothing 1) words).held in
+    settle_fault (table names number) false
+    (end_of names number (walk_at [] nothing 1) words).held in
     let last_part =
-        or_else (defaults_fault (settled (table names number)
-            (end_of names number (walk_at [] nothing 1) words).held).rows (table names number))
+    or_else (defaults_fault (settled (table names number)
+    (end_of names number (walk_at [] nothing 1) words).held).rows (table names number))
     (check_fault (shape_for name names number)
-          (finished (table names number) (end_of names number (walk_at [] nothing 1) words).held)
-          false) in
+    (finished (table names number) (end_of names number (walk_at [] nothing 1) words).held)
+    false) in
     both_none walk_part end_part (first_none walk_part (or_else end_part last_part) e)
-        (first_none end_part last_part (second_none walk_part (or_else end_part last_part) e))
+    (first_none end_part last_part (second_none walk_part (or_else end_part last_part) e))
 
 matches_are : (name : Text) (names : List Text) (number : Bool) (command : Text) (words : List Text)
     → matches_of (command_for name names number) (command ∷ words)
-        ≡ (settled (table names number)
-          (end_of names number (walk_at [] nothing 1) words).held).rows
+    ≡ (settled (table names number)
+    (end_of names number (walk_at [] nothing 1) words).held).rows
 matches_are name names number command words =
     ap (λ (a : App). Rattle.clap.specs.Walk.rows_after a.top.rules (names_of a) words)
-        (built_is name names number)
+    (built_is name names number)
     ∙ nothing_added _ names number
 
 -- `clap` takes the words, and finds the uses
@@ -208,21 +208,21 @@ no_uses (Some m) h = go (is_distinct m) refl
 
 pub decided : (name : Text) (names : List Text) (number : Bool) (command : Text) (words : List Text)
     → is_among names [] ≡ false → is_among names number_id ≡ false
-        → list_all (is_fit names) words ≡ true
+    → list_all (is_fit names) words ≡ true
     → Takes name names number command words ⊎ Refuses name names number command words
 decided name names number command words empty none fit =
     elim (follow name names number words empty none fit [] nothing 1 refl tt (inl (refl, refl))) [
-  | inl f ↦ inl (record {
-    uses = f.more;
-    is = ap (option_and_then if_distinct) f.is ∙ ap (λ b. if b then Some f.more else None)
-        f.distinct;
-    fault = fault_is name names number command words
-        ∙ level_passes name names number words f.passes;
-    found = matches_are name names number command words ∙ f.rows;
-  })
-  | inr f ↦ inr (record {
-    is = no_uses (split names number words None) f.undefined;
-    fault = λ e. f.refused (level_refuses name names number words
-          (sym (fault_is name names number command words) ∙ e));
-  })
-]
+      | inl f ↦ inl (record {
+        uses = f.more;
+        is = ap (option_and_then if_distinct) f.is ∙ ap (λ b. if b then Some f.more else None)
+            f.distinct;
+        fault = fault_is name names number command words
+            ∙ level_passes name names number words f.passes;
+        found = matches_are name names number command words ∙ f.rows;
+      })
+      | inr f ↦ inr (record {
+        is = no_uses (split names number words None) f.undefined;
+        fault = λ e. f.refused (level_refuses name names number words
+            (sym (fault_is name names number command words) ∙ e));
+      })
+    ]

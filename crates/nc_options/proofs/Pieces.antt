@@ -24,7 +24,7 @@ no_hyphen : (names : List Text) (b : ℕ) (bs : Text) → (b == 45) ≡ false
 no_hyphen names b bs off = (
   ap (λ x. x && bytes_eq bs (45 ∷ [])) off,
   ap (λ x. option_and_then long_of_rest
-        (option_and_then (strip_byte 45) (if x then Some bs else None))) off,
+      (option_and_then (strip_byte 45) (if x then Some bs else None))) off,
   ap (λ x. option_and_then short_of_rest (if x then Some bs else None)) off,
   refl,
 )
@@ -34,11 +34,13 @@ not_dashes b c x xs =
     ap (λ y. (b == 45) && y) (and_right (c == 45) false refl) ∙ and_right (b == 45) false refl
 
 long_here : (b c x : ℕ) (xs : Text) → (b == 45) ≡ true → (c == 45) ≡ true
-    → long_of (b ∷ c ∷ x ∷ xs) ≡ Some (name_in (x ∷ xs),
-          if has_equals (x ∷ xs) then Some (value_in (x ∷ xs)) else None)
+    → long_of (b ∷ c ∷ x ∷ xs) ≡ Some (
+      name_in (x ∷ xs),
+      if has_equals (x ∷ xs) then Some (value_in (x ∷ xs)) else None,
+    )
 long_here b c x xs e f =
     ap (λ y. option_and_then long_of_rest
-          (option_and_then (strip_byte 45) (if y then Some (c ∷ x ∷ xs) else None))) e
+    (option_and_then (strip_byte 45) (if y then Some (c ∷ x ∷ xs) else None))) e
     ∙ ap (λ y. option_and_then long_of_rest (if y then Some (x ∷ xs) else None)) f
 
 pub reads : (names : List Text) (word : Text) → is_among names [] ≡ false
@@ -58,7 +60,7 @@ reads names (b ∷ c ∷ []) none = go (b == 45) refl
 
     go : (x : Bool) → (b == 45) ≡ x
         → Reads names (b ∷ c ∷ []) (hyphen_piece names (b ∷ c ∷ [])
-              (if x then Some (c ∷ []) else None))
+        (if x then Some (c ∷ []) else None))
     go false e = no_hyphen names b (c ∷ []) e
     go true e = subst (λ p. Reads names (b ∷ c ∷ []) p) (sym (all_stray (c == 45))) tt
 reads names (b ∷ c ∷ x ∷ xs) none = go (b == 45) refl
@@ -67,13 +69,19 @@ reads names (b ∷ c ∷ x ∷ xs) none = go (b == 45) refl
         → (b == 45) ≡ true → (c == 45) ≡ true
         → Reads names (b ∷ c ∷ x ∷ xs)
         (if z then (if h then joined (name_in (x ∷ xs)) (value_in (x ∷ xs)) else named
-                (name_in (x ∷ xs))) else stray)
-    last true true h f e e2 =
-        (not_dashes b c x xs, long_here b c x xs e e2
-          ∙ ap (λ y. Some (name_in (x ∷ xs), if y then Some (value_in (x ∷ xs)) else None)) h, f)
-    last true false h f e e2 =
-        (not_dashes b c x xs, long_here b c x xs e e2
-          ∙ ap (λ y. Some (name_in (x ∷ xs), if y then Some (value_in (x ∷ xs)) else None)) h, f)
+        (name_in (x ∷ xs))) else stray)
+    last true true h f e e2 = (
+      not_dashes b c x xs,
+      long_here b c x xs e e2
+          ∙ ap (λ y. Some (name_in (x ∷ xs), if y then Some (value_in (x ∷ xs)) else None)) h,
+      f,
+    )
+    last true false h f e e2 = (
+      not_dashes b c x xs,
+      long_here b c x xs e e2
+          ∙ ap (λ y. Some (name_in (x ∷ xs), if y then Some (value_in (x ∷ xs)) else None)) h,
+      f,
+    )
     last false h g f e e2 = tt
 
     two : (y : Bool) → (c == 45) ≡ y → (b == 45) ≡ true
@@ -83,6 +91,6 @@ reads names (b ∷ c ∷ x ∷ xs) none = go (b == 45) refl
 
     go : (y : Bool) → (b == 45) ≡ y
         → Reads names (b ∷ c ∷ x ∷ xs)
-            (hyphen_piece names (b ∷ c ∷ x ∷ xs) (if y then Some (c ∷ x ∷ xs) else None))
+        (hyphen_piece names (b ∷ c ∷ x ∷ xs) (if y then Some (c ∷ x ∷ xs) else None))
     go false e = no_hyphen names b (c ∷ x ∷ xs) e
     go true e = two (c == 45) refl e

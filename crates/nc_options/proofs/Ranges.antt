@@ -52,9 +52,11 @@ or_in_range low high default (Some text) n above below e = in_range low high tex
 basis_parts : (w x l : Option ℕ) (c : Option Cofactors) (o : BasisOptions)
     → basis_with w x l c ≡ Some o → (w ≡ Some o.workers) × (x ≡ Some o.window) × (l ≡ Some o.limit)
 basis_parts (Some w) (Some x) (Some l) (Some c) o e =
-    let same : record { workers = w; window = x; limit = l; cofactors = c } ≡ o = cc in
-    (ap (λ (p : BasisOptions). Some p.workers) same, ap (λ (p : BasisOptions). Some p.window) same,
-          ap (λ (p : BasisOptions). Some p.limit) same)
+    let same : record { workers = w; window = x; limit = l; cofactors = c } ≡ o = cc in (
+      ap (λ (p : BasisOptions). Some p.workers) same,
+      ap (λ (p : BasisOptions). Some p.window) same,
+      ap (λ (p : BasisOptions). Some p.limit) same,
+    )
 basis_parts (Some w) (Some x) (Some l) None o e = absurd (none_of_some o e)
 basis_parts (Some w) (Some x) None c o e = absurd (none_of_some o e)
 basis_parts (Some w) None l c o e = absurd (none_of_some o e)
@@ -63,10 +65,11 @@ basis_parts None x l c o e = absurd (none_of_some o e)
 member_parts : (w x l : Option ℕ) (f : Option Form) (o : MemberOptions)
     → member_with w x l f ≡ Some o → (w ≡ Some o.workers) × (x ≡ Some o.window) × (l ≡ Some o.limit)
 member_parts (Some w) (Some x) (Some l) (Some f) o e =
-    let same : record { workers = w; window = x; limit = l; form = f } ≡ o = cc in
-    (ap (λ (p : MemberOptions). Some p.workers) same,
-          ap (λ (p : MemberOptions). Some p.window) same,
-          ap (λ (p : MemberOptions). Some p.limit) same)
+    let same : record { workers = w; window = x; limit = l; form = f } ≡ o = cc in (
+      ap (λ (p : MemberOptions). Some p.workers) same,
+      ap (λ (p : MemberOptions). Some p.window) same,
+      ap (λ (p : MemberOptions). Some p.limit) same,
+    )
 member_parts (Some w) (Some x) (Some l) None o e = absurd (none_of_some o e)
 member_parts (Some w) (Some x) None f o e = absurd (none_of_some o e)
 member_parts (Some w) None l f o e = absurd (none_of_some o e)
@@ -75,10 +78,12 @@ member_parts None x l f o e = absurd (none_of_some o e)
 demo_parts : (n d w x : Option ℕ) (o : DemoOptions) → demo_with n d w x ≡ Some o
     → (n ≡ Some o.number) × (d ≡ Some o.degree) × (w ≡ Some o.workers) × (x ≡ Some o.window)
 demo_parts (Some n) (Some d) (Some w) (Some x) o e =
-    let same : record { number = n; degree = d; workers = w; window = x } ≡ o = cc in
-    (ap (λ (p : DemoOptions). Some p.number) same, ap (λ (p : DemoOptions). Some p.degree) same,
-          ap (λ (p : DemoOptions). Some p.workers) same,
-          ap (λ (p : DemoOptions). Some p.window) same)
+    let same : record { number = n; degree = d; workers = w; window = x } ≡ o = cc in (
+      ap (λ (p : DemoOptions). Some p.number) same,
+      ap (λ (p : DemoOptions). Some p.degree) same,
+      ap (λ (p : DemoOptions). Some p.workers) same,
+      ap (λ (p : DemoOptions). Some p.window) same,
+    )
 demo_parts (Some n) (Some d) (Some w) None o e = absurd (none_of_some o e)
 demo_parts (Some n) (Some d) None x o e = absurd (none_of_some o e)
 demo_parts (Some n) None w x o e = absurd (none_of_some o e)
@@ -99,26 +104,30 @@ basis_in : (given : Text → Option Text) (o : BasisOptions) → basis_of given 
     → AreInRange (Basis o)
 basis_in given o e =
     let parts =
-        basis_parts (workers_option given) (window_option given) (limit_option given)
-        (cofactors_option given) o e in
-    (workers_in given o.workers parts.0, window_in given o.window parts.1,
-          limit_in given o.limit parts.2)
+    basis_parts (workers_option given) (window_option given) (limit_option given)
+    (cofactors_option given) o e in (
+      workers_in given o.workers parts.0,
+      window_in given o.window parts.1,
+      limit_in given o.limit parts.2,
+    )
 
 member_in : (given : Text → Option Text) (o : MemberOptions) → member_of given ≡ Some o
     → AreInRange (Member o)
 member_in given o e =
     let parts =
-        member_parts (workers_option given) (window_option given) (limit_option given)
-        (form_option given) o e in
-    (workers_in given o.workers parts.0, window_in given o.window parts.1,
-          limit_in given o.limit parts.2)
+    member_parts (workers_option given) (window_option given) (limit_option given)
+    (form_option given) o e in (
+      workers_in given o.workers parts.0,
+      window_in given o.window parts.1,
+      limit_in given o.limit parts.2,
+    )
 
 demo_in : (given : Text → Option Text) (o : DemoOptions) → demo_of given ≡ Some o
     → AreInRange (Demo o)
 demo_in given o e =
     let parts =
-        demo_parts (number_option given) (degree_option given) (workers_option given)
-        (window_option given) o e in (
+    demo_parts (number_option given) (degree_option given) (workers_option given)
+    (window_option given) o e in (
       number_in_range (given number_id) parts.0,
       or_in_range 2 10 6 (given (codes "degree")) o.degree (omega arith) (omega arith) parts.1,
       workers_in given o.workers parts.2,
@@ -136,7 +145,7 @@ made : {T : Type 0} (read : (Text → Option Text) → Option T) (make : T → O
     (uses : Option (List Use)) (o : Options)
     → ((given : Text → Option Text) (t : T) → read given ≡ Some t → AreInRange (make t))
     → option_and_then (λ us. option_map make (read (λ name. value_of name us))) uses ≡ Some o
-        → AreInRange o
+    → AreInRange o
 made read make None o h e = absurd (none_of_some o e)
 made {T} read make (Some us) o h e = go (read (λ name. value_of name us)) refl e
   where
@@ -161,8 +170,8 @@ ranges (command ∷ words) o e =
     (bytes_eq command (codes "check")) (bytes_eq command (codes "demo")) e
   where
     go : (a b c d : Bool) → (if a then basis_after words else
-          (if b then member_after words else
-            (if c then check_after words else (if d then demo_after words else None)))) ≡ Some o
+        (if b then member_after words else
+        (if c then check_after words else (if d then demo_after words else None)))) ≡ Some o
         → AreInRange o
     go true b c d f = made basis_of Basis (uses_of basis_names false words) o basis_in f
     go false true c d f = made member_of Member (uses_of member_names false words) o member_in f

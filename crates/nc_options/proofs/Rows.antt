@@ -16,8 +16,13 @@ use Rattle.nc_options.proofs.Distinct.{has_name}
 
 abbrev pub row_for : Use → Row
 row_for u =
-    record { id = u.0; values = u.1 ∷ [];
-      count = None; source = Some CommandLine; reading = AsWritten }
+    record {
+      id = u.0;
+      values = u.1 ∷ [];
+      count = None;
+      source = Some CommandLine;
+      reading = AsWritten;
+    }
 
 abbrev pub rows_for : List Use → List Row
 rows_for [] = []
@@ -33,7 +38,7 @@ first_of_for id (u ∷ us) = go (bytes_eq u.0 id) (first_of_for id us)
   where
     go : (b : Bool) → first_of id (rows_for us) ≡ value_of id us
         → option_and_then (λ (r : Row). slice_get r.values 0)
-            (cond b (Some (row_for u)) (find (λ r. bytes_eq r.id id) (rows_for us)))
+        (cond b (Some (row_for u)) (find (λ r. bytes_eq r.id id) (rows_for us)))
         ≡ option_map (λ (v : Use). v.1) (cond b (Some u) (find (λ v. bytes_eq v.0 id) us))
     go true e = refl
     go false e = e
@@ -47,8 +52,8 @@ at_none : (id : Text) (change : Row → List Row) (missing : List Row) (us : Lis
 at_none id change missing [] none = refl
 at_none id change missing (u ∷ us) none =
     ap (λ b. cond b (change (row_for u) ++ rows_for us)
-          (row_for u ∷ at_row id change missing (rows_for us)))
-        (or_parts (bytes_eq u.0 id) _ none).0
+    (row_for u ∷ at_row id change missing (rows_for us)))
+    (or_parts (bytes_eq u.0 id) _ none).0
     ∙ ap (λ rs. row_for u ∷ rs) (at_none id change missing us (or_parts (bytes_eq u.0 id) _ none).1)
 
 -- a use of an argument that was not used joins the rows
@@ -57,20 +62,20 @@ pub used_new : (id v : Text) (l : Option Text) (i : Option ℕ) (us : List Use)
     → used (usual_rule id l i) (v ∷ []) (rows_for us) ≡ rows_for (us ++ (id, v) ∷ [])
 used_new id v l i us none =
     ap (λ rs. at_row id (more_values CommandLine (v ∷ [])) (row_for (id, v) ∷ []) rs)
-        (at_none id (λ _. []) [] us none ∙ append-nil (rows_for us))
+    (at_none id (λ _. []) [] us none ∙ append-nil (rows_for us))
     ∙ at_none id (more_values CommandLine (v ∷ [])) (row_for (id, v) ∷ []) us none
-        ∙ rows_push us (id, v)
+    ∙ rows_push us (id, v)
 
 pub use_fault_new : (id v : Text) (l : Option Text) (i : Option ℕ) (us : List Use)
     → has_name id us ≡ false
     → use_fault false (usual_rule id l i) (v ∷ []) (rows_for us) ≡ []
 use_fault_new id v l i us none =
     ap (λ b. or_else (if b && true then kind.ArgumentConflict ∷ [] else []) [])
-        (has_row_for id us ∙ none)
+    (has_row_for id us ∙ none)
 
 pub use_fault_again : (id v : Text) (l : Option Text) (i : Option ℕ) (us : List Use)
     → has_name id us ≡ true
     → use_fault false (usual_rule id l i) (v ∷ []) (rows_for us) ≡ kind.ArgumentConflict ∷ []
 use_fault_again id v l i us some =
     ap (λ b. or_else (if b && true then kind.ArgumentConflict ∷ [] else []) [])
-        (has_row_for id us ∙ some)
+    (has_row_for id us ∙ some)

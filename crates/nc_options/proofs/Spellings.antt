@@ -36,9 +36,9 @@ name_in-joined [] value none = name_in-cons 61 value
 name_in-joined (b ∷ name) value none =
     name_in-cons b (name ++ 61 ∷ value)
     ∙ ap (λ z. cond (not z) (b ∷ name_in (name ++ 61 ∷ value)) [])
-        (or_parts (b == 61) (has_equals name) none).0
+    (or_parts (b == 61) (has_equals name) none).0
     ∙ ap (λ text. b ∷ text) (name_in-joined name value
-          (or_parts (b == 61) (has_equals name) none).1)
+    (or_parts (b == 61) (has_equals name) none).1)
 
 value_in-joined : (name value : Text) → has_equals name ≡ false
     → value_in (name ++ 61 ∷ value) ≡ value
@@ -46,7 +46,7 @@ value_in-joined [] value none = value_in-cons 61 value
 value_in-joined (b ∷ name) value none =
     value_in-cons b (name ++ 61 ∷ value)
     ∙ ap (λ z. cond z (name ++ 61 ∷ value) (value_in (name ++ 61 ∷ value)))
-        (or_parts (b == 61) (has_equals name) none).0
+    (or_parts (b == 61) (has_equals name) none).0
     ∙ value_in-joined name value (or_parts (b == 61) (has_equals name) none).1
 
 has_equals-joined : (name value : Text) → has_equals (name ++ 61 ∷ value) ≡ true
@@ -96,10 +96,10 @@ joined_piece names name value good among =
     let none : has_equals name ≡ false = no_equals names name good among in
     let text : Text = name ++ 61 ∷ value in
     ap (λ n. if is_among names n then
-          (if has_equals text then joined n (value_in text) else named n) else stray)
-        (name_in-joined name value none)
+    (if has_equals text then joined n (value_in text) else named n) else stray)
+    (name_in-joined name value none)
     ∙ ap (λ z. if z then (if has_equals text then joined name (value_in text) else named name) else
-          stray) among
+    stray) among
     ∙ ap (λ z. if z then joined name (value_in text) else named name) (has_equals-joined name value)
     ∙ ap (joined name) (value_in-joined name value none)
 
@@ -108,10 +108,10 @@ named_piece : (names : List Text) (name : Text) → are_names names ≡ true
 named_piece names name good among =
     let none : has_equals name ≡ false = no_equals names name good among in
     ap (λ n. if is_among names n then
-          (if has_equals name then joined n (value_in name) else named n) else stray)
-        (name_in-name name none)
+    (if has_equals name then joined n (value_in name) else named n) else stray)
+    (name_in-name name none)
     ∙ ap (λ z. if z then (if has_equals name then joined name (value_in name) else named name) else
-          stray) among
+    stray) among
     ∙ ap (λ z. if z then joined name (value_in name) else named name) none
 
 -- what is spelled is split into the uses
@@ -121,7 +121,7 @@ pub spelled_splits : (names : List Text) (takes_number : Bool) (uses : List Use)
 spelled_splits names takes_number [] words good s = ap (λ ws. split names takes_number ws None) s
 spelled_splits names takes_number (u ∷ uses) words good s =
     ap (λ ws. split names takes_number ws None) s.2 ∙ one s.0 s.1 s.3
-        ∙ ap (with_use u.0 u.1) (spelled_splits names takes_number uses s.1 good s.4)
+    ∙ ap (with_use u.0 u.1) (spelled_splits names takes_number uses s.1 good s.4)
   where
     one : (first rest : List Text) → IsSpelled names takes_number u first
         → split names takes_number (first ++ rest) None ≡ with_use u.0 u.1
@@ -129,19 +129,19 @@ spelled_splits names takes_number (u ∷ uses) words good s =
     one first rest (inl j) =
         ap (λ ws. split names takes_number (ws ++ rest) None) j.words_are
         ∙ ap (λ p. split_piece takes_number None p (split names takes_number rest))
-            (joined_piece names u.0 u.1 good j.option)
+        (joined_piece names u.0 u.1 good j.option)
     one first rest (inr (inl j)) =
         ap (λ ws. split names takes_number (ws ++ rest) None) j.words_are
         ∙ ap (λ p. split_piece takes_number None p (split names takes_number (u.1 ∷ rest)))
-            (named_piece names u.0 good j.option)
+        (named_piece names u.0 good j.option)
         ∙ ap (λ o. split_piece takes_number (Some u.0) (hyphen_piece names u.1 o)
-              (split names takes_number rest)) j.value
+        (split names takes_number rest)) j.value
     one first rest (inr (inr j)) =
         ap (λ ws. split names takes_number (ws ++ rest) None) j.words_are
         ∙ ap (λ o. split_piece takes_number None (hyphen_piece names u.1 o)
-              (split names takes_number rest)) j.value
+        (split names takes_number rest)) j.value
         ∙ ap (λ z. if z then with_use number_id u.1 (split names takes_number rest None) else None)
-            j.taken
+        j.taken
         ∙ ap (λ n. with_use n u.1 (split names takes_number rest None)) (sym j.name)
 
 -- ---- what is split was spelled
@@ -165,14 +165,16 @@ says names (b ∷ c ∷ text) = first (b == 45) refl
   where
     last : (x y : Bool) → is_among names (name_in text) ≡ x → has_equals text ≡ y → b ≡ 45 → c ≡ 45
         → Says names (b ∷ c ∷ text) (if x then
-              (if y then joined (name_in text) (value_in text) else named (name_in text)) else
-              stray)
-    last true true among some is is2 =
-        (ap₂ (λ x y. x ∷ y ∷ text) is is2 ∙ ap (λ t. 45 ∷ 45 ∷ t) (sym (joined_again text some)),
-          among)
-    last true false among none is is2 =
-        (ap₂ (λ x y. x ∷ y ∷ text) is is2 ∙ ap (λ t. 45 ∷ 45 ∷ t) (sym (name_in-name text none)),
-          among)
+        (if y then joined (name_in text) (value_in text) else named (name_in text)) else
+        stray)
+    last true true among some is is2 = (
+      ap₂ (λ x y. x ∷ y ∷ text) is is2 ∙ ap (λ t. 45 ∷ 45 ∷ t) (sym (joined_again text some)),
+      among,
+    )
+    last true false among none is is2 = (
+      ap₂ (λ x y. x ∷ y ∷ text) is is2 ∙ ap (λ t. 45 ∷ 45 ∷ t) (sym (name_in-name text none)),
+      among,
+    )
     last false y among some is is2 = tt
 
     second : (x : Bool) → (c == 45) ≡ x → b ≡ 45
@@ -183,7 +185,7 @@ says names (b ∷ c ∷ text) = first (b == 45) refl
 
     first : (x : Bool) → (b == 45) ≡ x
         → Says names (b ∷ c ∷ text) (hyphen_piece names (b ∷ c ∷ text)
-          (if x then Some (c ∷ text) else None))
+        (if x then Some (c ∷ text) else None))
     first true is = second (c == 45) refl (eqb-true b 45 is)
     first false is = (refl, ap (λ x. if x then Some (c ∷ text) else None) is)
 
@@ -199,51 +201,60 @@ IsOption names (Some name) = is_among names name ≡ true
 one_more : (names : List Text) (takes_number : Bool) (name value : Text) (first rest : List Text)
     (o : Option (List Use)) (uses : List Use)
     → IsSpelled names takes_number (name, value) first
-        → ((more : List Use) → o ≡ Some more → AreSpelled names takes_number more rest)
+    → ((more : List Use) → o ≡ Some more → AreSpelled names takes_number more rest)
     → with_use name value o ≡ Some uses → AreSpelled names takes_number uses (first ++ rest)
 one_more names takes_number name value first rest None uses one more e =
     absurd (none_of_some uses e)
 one_more names takes_number name value first rest (Some l) uses one more e =
     let same : (name, value) ∷ l ≡ uses = cc in
-    subst (λ us. AreSpelled names takes_number us (first ++ rest)) same (first, rest, refl, one,
-          more l refl)
+    subst (λ us. AreSpelled names takes_number us (first ++ rest)) same (
+      first,
+      rest,
+      refl,
+      one,
+      more l refl,
+    )
 
 pub split_spelled : (names : List Text) (takes_number : Bool) (words : List Text)
     (wanted : Option Text) (uses : List Use) → IsOption names wanted
     → split names takes_number words wanted ≡ Some uses
-        → AreSpelled names takes_number uses (before wanted words)
+    → AreSpelled names takes_number uses (before wanted words)
 split_spelled names takes_number [] None uses known e =
     let same : [] ≡ uses = cc in
     subst (λ us. AreSpelled names takes_number us []) same refl
 split_spelled names takes_number [] (Some name) uses known e = absurd (none_of_some uses e)
 split_spelled names takes_number (word ∷ rest) wanted uses known e =
     go wanted (piece_of names word) known (says names word) e
-        (λ w us k f. split_spelled names takes_number rest w us k f)
+    (λ w us k f. split_spelled names takes_number rest w us k f)
   where
     alone : (w : Text) (z : Bool) → takes_number ≡ z → word ≡ w → IsPlain w
         → (if z then with_use number_id w (split names takes_number rest None) else None)
         ≡ Some uses
         → ((us : List Use) → split names takes_number rest None ≡ Some us
-              → AreSpelled names takes_number us rest)
-            → AreSpelled names takes_number uses (word ∷ rest)
+        → AreSpelled names takes_number us rest)
+        → AreSpelled names takes_number uses (word ∷ rest)
     alone w true taken is no_hyphen f rec =
         one_more names takes_number number_id w (word ∷ []) rest
-            (split names takes_number rest None) uses
-        (inr (inr (record { taken = taken;
-                    name = refl; value = no_hyphen; words_are = ap (λ x. x ∷ []) is }))) rec f
+        (split names takes_number rest None) uses
+        (inr (inr (record {
+          taken = taken;
+          name = refl;
+          value = no_hyphen;
+          words_are = ap (λ x. x ∷ []) is;
+        }))) rec f
     alone w false taken is no_hyphen f rec = absurd (none_of_some uses f)
 
     go : (w : Option Text) (p : Piece) → IsOption names w → Says names word p
         → split_piece takes_number w p (split names takes_number rest) ≡ Some uses
         → ((v : Option Text) (us : List Use) → IsOption names v
-              → split names takes_number rest v ≡ Some us
-              → AreSpelled names takes_number us (before v rest))
+        → split names takes_number rest v ≡ Some us
+        → AreSpelled names takes_number us (before v rest))
         → AreSpelled names takes_number uses (before w (word ∷ rest))
     go None (joined name value) k s f rec =
         one_more names takes_number name value (word ∷ []) rest (split names takes_number rest None)
-            uses
+        uses
         (inl (record { option = s.1; words_are = ap (λ x. x ∷ []) s.0 })) (λ us g. rec None us tt g)
-            f
+        f
     go None (named name) k s f rec =
         subst (λ x. AreSpelled names takes_number uses (x ∷ rest)) (sym s.0)
         (rec (Some name) uses s.1 f)
@@ -251,10 +262,13 @@ split_spelled names takes_number (word ∷ rest) wanted uses known e =
     go None stray k s f rec = absurd (none_of_some uses f)
     go (Some name) (plain w) k s f rec =
         one_more names takes_number name w (option_word name ∷ word ∷ []) rest
-            (split names takes_number rest None) uses
-        (inr (inl (record { option = k;
-                    value = s.1; words_are = ap (λ x. option_word name ∷ x ∷ []) s.0 })))
-            (λ us g. rec None us tt g) f
+        (split names takes_number rest None) uses
+        (inr (inl (record {
+          option = k;
+          value = s.1;
+          words_are = ap (λ x. option_word name ∷ x ∷ []) s.0;
+        })))
+        (λ us g. rec None us tt g) f
     go (Some name) (joined n v) k s f rec = absurd (none_of_some uses f)
     go (Some name) (named n) k s f rec = absurd (none_of_some uses f)
     go (Some name) stray k s f rec = absurd (none_of_some uses f)
@@ -284,21 +298,24 @@ uses_split names takes_number words uses e = go (split names takes_number words 
 spelled_uses : (names : List Text) (takes_number : Bool) (words : List Text) (uses : List Use)
     → are_names names ≡ true
     → AreSpelled names takes_number uses words → is_distinct uses ≡ true
-        → uses_of names takes_number words ≡ Some uses
+    → uses_of names takes_number words ≡ Some uses
 spelled_uses names takes_number words uses good s d =
     ap (option_and_then if_distinct) (spelled_splits names takes_number uses words good s)
-        ∙ ap (λ z. if z then Some uses else None) d
+    ∙ ap (λ z. if z then Some uses else None) d
 
 pub uses_are_spelled : UsesAreSpelled
 uses_are_spelled names takes_number words uses good = (
-  λ e. (split_spelled names takes_number words None uses tt
+  λ e. (
+    split_spelled names takes_number words None uses tt
         (uses_split names takes_number words uses e).0,
-        (uses_split names takes_number words uses e).1),
+    (uses_split names takes_number words uses e).1,
+  ),
   λ both. spelled_uses names takes_number words uses good both.0 both.1,
 )
 
 pub order_is_free : OrderIsFree
 order_is_free names takes_number words words' uses uses' good e s p =
-    let d : is_distinct uses ≡ true = (uses_split names takes_number words uses e).1 in
-    (spelled_uses names takes_number words' uses' good s (distinct-permutation uses uses' p d),
-          λ name. value_of-permutation name uses uses' p d)
+    let d : is_distinct uses ≡ true = (uses_split names takes_number words uses e).1 in (
+      spelled_uses names takes_number words' uses' good s (distinct-permutation uses uses' p d),
+      λ name. value_of-permutation name uses uses' p d,
+    )

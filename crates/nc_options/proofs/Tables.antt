@@ -53,7 +53,7 @@ long_found (m ∷ ms) number n e = go (bytes_eq m n) refl e (long_found ms numbe
     go : (b : Bool) → bytes_eq m n ≡ b → (b || is_among ms n) ≡ true
         → (is_among ms n ≡ true → arg_by_long (table ms number) n ≡ Some (option_rule n))
         → cond (b || false) (Some (option_rule m)) (arg_by_long (table ms number) n)
-            ≡ Some (option_rule n)
+        ≡ Some (option_rule n)
     go true is e rec = ap (λ x. Some (option_rule x)) ((bytes_eq-Decides m n).0 is)
     go false is e rec = rec e
 
@@ -73,7 +73,7 @@ pub number_found : (names : List Text) → is_among names number_id ≡ false
 number_found [] e = refl
 number_found (m ∷ ms) e =
     ap (λ b. cond b (Some (option_rule m)) (arg_by_id (table ms true) number_id))
-        (or_parts (bytes_eq m number_id) _ e).0
+    (or_parts (bytes_eq m number_id) _ e).0
     ∙ number_found ms (or_parts (bytes_eq m number_id) _ e).1
 
 abbrev pub first_place : Bool → Option Rule

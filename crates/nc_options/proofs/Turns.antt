@@ -62,8 +62,13 @@ held_for us hold = record { rows = rows_for us; pending = pending_by hold; skip 
 
 abbrev pub walk_at : List Use → Hold → ℕ → Walk
 walk_at us hold pos =
-    record { held = held_for us hold;
-      waiting = waiting_by hold; position = pos; is_trailing = false; stopped = None }
+    record {
+      held = held_for us hold;
+      waiting = waiting_by hold;
+      position = pos;
+      is_trailing = false;
+      stopped = None;
+    }
 
 -- ---- verdicts
 
@@ -73,7 +78,7 @@ end_of names number w words = fold (walked (table names number) []) w words
 abbrev pub rest_fault : Text → List Text → Bool → Walk → List Text → Kinds
 rest_fault name names number w words =
     or_else (walk_fault (shape_for name names number) [] w words)
-        (settle_fault (table names number) false (end_of names number w words).held)
+    (settle_fault (table names number) false (end_of names number w words).held)
 
 -- the rest of the words goes through, as `split` says
 pub record Fits (name : Text) (names : List Text) (number : Bool) (w : Walk) (words : List Text)
@@ -100,21 +105,21 @@ Verdict name names number w words all spl =
 pub advance : (name : Text) (names : List Text) (number : Bool) (w w2 : Walk) (word : Text)
     (rest : List Text)
     → turn_fault (shape_for name names number) [] w word ≡ []
-        → walked (table names number) [] w word ≡ w2
+    → walked (table names number) [] w word ≡ w2
     → rest_fault name names number w (word ∷ rest) ≡ rest_fault name names number w2 rest
 unfolding walk_fault
 advance name names number w w2 word rest none is =
     ap (λ x. or_else (or_else x (walk_fault (shape_for name names number) []
-              (walked (table names number) [] w word) rest))
+    (walked (table names number) [] w word) rest))
     (settle_fault (table names number) false
-          (end_of names number (walked (table names number) [] w word) rest).held)) none
+    (end_of names number (walked (table names number) [] w word) rest).held)) none
     ∙ ap (λ v. rest_fault name names number v rest) is
 
 -- a turn that is refused
 pub halt : (name : Text) (names : List Text) (number : Bool) (w : Walk) (word : Text)
     (rest : List Text)
     → (turn_fault (shape_for name names number) [] w word ≡ [] → ⊥)
-        → rest_fault name names number w (word ∷ rest) ≡ [] → ⊥
+    → rest_fault name names number w (word ∷ rest) ≡ [] → ⊥
 unfolding walk_fault
 halt name names number w word rest bad e = bad (first_none _ _ (first_none _ _ e))
 
@@ -125,9 +130,9 @@ none_of_some x e = cc
 pub carry : (name : Text) (names : List Text) (number : Bool) (w w2 : Walk) (word : Text)
     (rest : List Text) (all : List Use) (n v : Text) (spl : Option (List Use))
     → turn_fault (shape_for name names number) [] w word ≡ []
-        → walked (table names number) [] w word ≡ w2
+    → walked (table names number) [] w word ≡ w2
     → Verdict name names number w2 rest (all ++ (n, v) ∷ []) spl
-        → Verdict name names number w (word ∷ rest) all (with_use n v spl)
+    → Verdict name names number w (word ∷ rest) all (with_use n v spl)
 carry name names number w w2 word rest all n v spl none is (inl f) = inl (record {
   more = (n, v) ∷ f.more;
   is = ap (with_use n v) f.is;
@@ -153,7 +158,7 @@ carry name names number w w2 word rest all n v spl none is (inr f) = inr (record
 pub pass_on : (name : Text) (names : List Text) (number : Bool) (w w2 : Walk) (word : Text)
     (rest : List Text) (all : List Use) (spl : Option (List Use))
     → turn_fault (shape_for name names number) [] w word ≡ []
-        → walked (table names number) [] w word ≡ w2
+    → walked (table names number) [] w word ≡ w2
     → Verdict name names number w2 rest all spl → Verdict name names number w (word ∷ rest) all spl
 pass_on name names number w w2 word rest all spl none is (inl f) = inl (record {
   more = f.more;
@@ -179,19 +184,24 @@ pub turn_of : (name : Text) (names : List Text) (number : Bool) (w : Walk) (word
     → turn_fault (shape_for name names number) [] w word ≡ ks
 turn_of name names number w word ks h v on fault met =
     ap (λ o. if Rattle.std.specs.Prelude.is_some o then [] else or_else
-          (word_fault (shape_for name names number) [] w.is_trailing w.waiting word w.held)
+    (word_fault (shape_for name names number) [] w.is_trailing w.waiting word w.held)
     (step_fault (shape_for name names number) w.position
-          (word_met (table names number) [] w.is_trailing w.waiting w.position word w.held).0
-          (word_met (table names number) [] w.is_trailing w.waiting w.position word w.held).1)) on
+    (word_met (table names number) [] w.is_trailing w.waiting w.position word w.held).0
+    (word_met (table names number) [] w.is_trailing w.waiting w.position word w.held).1)) on
     ∙ ap₂ (λ x m. or_else x (step_fault (shape_for name names number) w.position m.0 m.1)) fault met
-        ∙ or_else_nil ks
+    ∙ or_else_nil ks
 
 pub walked_to : (names : List Text) (number : Bool) (us : List Use) (hold : Hold) (pos : ℕ)
     (word : Text) (h : Held) (v : Waiting)
     → word_met (table names number) [] false (waiting_by hold) pos word (held_for us hold)
-        ≡ (h, next v)
-    → walked (table names number) [] (walk_at us hold pos) word ≡ record { held = h;
-          waiting = v; position = pos; is_trailing = false; stopped = None }
+    ≡ (h, next v)
+    → walked (table names number) [] (walk_at us hold pos) word ≡ record {
+      held = h;
+      waiting = v;
+      position = pos;
+      is_trailing = false;
+      stopped = None;
+    }
 unfolding walked
 walked_to names number us hold pos word h v met =
     ap (λ m. after_step (table names number) word (walk_at us hold pos) m.0 m.1) met
@@ -200,20 +210,20 @@ walked_to names number us hold pos word h v met =
 pub joined_met : (names : List Text) (number : Bool) (pos : ℕ) (word n v : Text) (h : Held)
     → Reads names word (joined n v)
     → word_met (table names number) [] false idle pos word h
-        ≡ (reacted (table names number) (option_rule n) (v ∷ []) h, next idle)
+    ≡ (reacted (table names number) (option_rule n) (v ∷ []) h, next idle)
 joined_met names number pos word n v h r =
     ap (λ b. if b then (h, trailing pos) else long_or_other (table names number) idle word
-          (long_of word) h) r.0
+    (long_of word) h) r.0
     ∙ ap (λ o. long_or_other (table names number) idle word o h) r.1
     ∙ ap (λ a. after_flag (table names number) idle word
-          (long_met (table names number) a (Some v) h).0
-          (long_met (table names number) a (Some v) h).1) (long_found names number n r.2)
+    (long_met (table names number) a (Some v) h).0
+    (long_met (table names number) a (Some v) h).1) (long_found names number n r.2)
 
 pub long_refused : (name : Text) (names : List Text) (number : Bool) (waiting : Waiting)
     (word n : Text) (o : Option Text) (h : Held)
     → bytes_eq word dashes ≡ false → long_of word ≡ Some (n, o) → is_among names n ≡ true
     → word_fault (shape_for name names number) [] false waiting word h ≡ long_fault
-        (table names number) false (Some (option_rule n)) o h
+    (table names number) false (Some (option_rule n)) o h
 long_refused name names number idle word n o h off is among =
     ap (λ b. if b then [] else flag_word_fault (table names number) false (long_of word) word h) off
     ∙ ap (λ x. flag_word_fault (table names number) false x word h) is
@@ -230,31 +240,31 @@ long_refused name names number Rattle.clap.specs.Walk.positional word n o h off 
 pub named_met : (names : List Text) (number : Bool) (pos : ℕ) (word n : Text) (h : Held)
     → Reads names word (named n)
     → word_met (table names number) [] false idle pos word h
-        ≡ (record (settled (table names number) h) { pending = Some (n, []) }, next (option n))
+    ≡ (record (settled (table names number) h) { pending = Some (n, []) }, next (option n))
 named_met names number pos word n h r =
     ap (λ b. if b then (h, trailing pos) else long_or_other (table names number) idle word
-          (long_of word) h) r.0
+    (long_of word) h) r.0
     ∙ ap (λ o. long_or_other (table names number) idle word o h) r.1
     ∙ ap (λ a. after_flag (table names number) idle word (long_met (table names number) a None h).0
-          (long_met (table names number) a None h).1) (long_found names number n r.2)
+    (long_met (table names number) a None h).1) (long_found names number n r.2)
 
 pub plain_met : (names : List Text) (number : Bool) (waiting : Waiting) (pos : ℕ) (word w : Text)
     (h : Held) → Reads names word (plain w)
     → word_met (table names number) [] false waiting pos word h ≡ plain_word (table names number)
-        waiting word h
+    waiting word h
 plain_met names number idle pos word w h r =
     ap (λ b. if b then (h, trailing pos) else long_or_other (table names number) idle word
-          (long_of word) h) r.0
+    (long_of word) h) r.0
     ∙ ap (λ o. long_or_other (table names number) idle word o h) r.1
     ∙ ap (λ o. short_or_plain (table names number) idle word o h) r.2
 plain_met names number (option n) pos word w h r =
     ap (λ b. if b then (h, trailing pos) else long_or_other (table names number) (option n) word
-          (long_of word) h) r.0
+    (long_of word) h) r.0
     ∙ ap (λ o. long_or_other (table names number) (option n) word o h) r.1
     ∙ ap (λ o. short_or_plain (table names number) (option n) word o h) r.2
 plain_met names number Rattle.clap.specs.Walk.positional pos word w h r =
     ap (λ b. if b then (h, trailing pos) else long_or_other (table names number)
-          Rattle.clap.specs.Walk.positional word (long_of word) h) r.0
+    Rattle.clap.specs.Walk.positional word (long_of word) h) r.0
     ∙ ap (λ o. long_or_other (table names number) Rattle.clap.specs.Walk.positional word o h) r.1
     ∙ ap (λ o. short_or_plain (table names number) Rattle.clap.specs.Walk.positional word o h) r.2
 
@@ -263,9 +273,9 @@ pub plain_refused : (name : Text) (names : List Text) (number : Bool) (waiting :
     → word_fault (shape_for name names number) [] false waiting word h ≡ []
 plain_refused name names number waiting word w h r =
     ap (λ o. Rattle.clap.specs.Faults.other_fault (shape_for name names number) o word h)
-        (no_sub waiting)
+    (no_sub waiting)
     ∙ ap (λ b. if b then [] else flag_word_fault (table names number) false (long_of word) word h)
-        r.0
+    r.0
     ∙ ap (λ x. flag_word_fault (table names number) false x word h) r.1
     ∙ ap (λ o. option_map_or (λ flags. bundle_fault (table names number) false flags h) o []) r.2
   where
@@ -308,7 +318,7 @@ settles names number us (kept id v) free known d = go (has_name id us) refl
     used_fault : (l : Option Text) (i : Option ℕ)
         → arg_by_id (table names number) id ≡ Some (usual_rule id l i)
         → settle_fault (table names number) false (held_for us (kept id v)) ≡ use_fault false
-            (usual_rule id l i) (v ∷ []) (rows_for us)
+        (usual_rule id l i) (v ∷ []) (rows_for us)
     used_fault l i e =
         ap (λ o. option_map_or (λ a. use_fault false a (v ∷ []) (rows_for us)) o []) e
 
@@ -316,16 +326,19 @@ settles names number us (kept id v) free known d = go (has_name id us) refl
         ⊎ Clashes names number us (kept id v)
     go false e = inl (record {
       fault = used_fault known.0 known.1 known.2 ∙ use_fault_new id v known.0 known.1 us e;
-      rows = ap (λ o. record { rows = used_by_id o (v ∷ []) (rows_for us);
-              pending = None; skip = 0 }) known.2
+      rows = ap (λ o. record {
+        rows = used_by_id o (v ∷ []) (rows_for us);
+        pending = None;
+        skip = 0;
+      }) known.2
           ∙ ap (λ rs. record { rows = rs; pending = None; skip = 0 })
-              (used_new id v known.0 known.1 us e);
+          (used_new id v known.0 known.1 us e);
       distinct = distinct_push us id v d e;
     })
     go true e = inr (record {
       fault = λ f. kind_not_none _ _
           (sym (used_fault known.0 known.1 known.2 ∙ use_fault_again id v known.0 known.1 us e)
-            ∙ f);
+          ∙ f);
       twice = λ more f. not_distinct us id v more e
           (ap is_distinct (sym (append_assoc us ((id, v) ∷ []) more)) ∙ f);
     })

@@ -20,7 +20,7 @@ UsesAreSpelled =
     (names : List Text) (takes_number : Bool) (words : List Text) (uses : List Use)
     → are_names names ≡ true
     → (uses_of names takes_number words ≡ Some uses)
-        ↔ (AreSpelled names takes_number uses words × (is_distinct uses ≡ true))
+    ↔ (AreSpelled names takes_number uses words × (is_distinct uses ≡ true))
 
 -- the order of the uses is free: with the same uses in another order, in any spelling, each name
 -- has the same value
@@ -29,6 +29,6 @@ OrderIsFree =
     (names : List Text) (takes_number : Bool) (words words' : List Text) (uses uses' : List Use)
     → are_names names ≡ true
     → uses_of names takes_number words ≡ Some uses → AreSpelled names takes_number uses' words'
-        → IsPermutation uses uses'
+    → IsPermutation uses uses'
     → (uses_of names takes_number words' ≡ Some uses')
-        × ((name : Text) → value_of name uses' ≡ value_of name uses)
+    × ((name : Text) → value_of name uses' ≡ value_of name uses)

@@ -24,8 +24,8 @@ takes_number command = bytes_eq command (codes "demo")
 abbrev pub OptionsInAnyOrder : Type 0
 OptionsInAnyOrder = (command : Text) (words words' : List Text) (uses uses' : List Use)
     → AreSpelled (names_of command) (takes_number command) uses words
-        → AreSpelled (names_of command) (takes_number command) uses' words'
-        → IsPermutation uses uses'
+    → AreSpelled (names_of command) (takes_number command) uses' words'
+    → IsPermutation uses uses'
     → options_of (command ∷ words) ≡ options_of (command ∷ words')
 
 -- the number lies in the range, both ends included

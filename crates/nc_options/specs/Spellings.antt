@@ -47,4 +47,4 @@ abbrev pub AreSpelled : List Text → Bool → List Use → List Text → Type 0
 AreSpelled names takes_number [] words = words ≡ []
 AreSpelled names takes_number (u ∷ uses) words =
     (first : List Text) × (rest : List Text) × (words ≡ first ++ rest)
-        × IsSpelled names takes_number u first × AreSpelled names takes_number uses rest
+    × IsSpelled names takes_number u first × AreSpelled names takes_number uses rest

@@ -73,8 +73,7 @@ fn are_single(names: &[&str], words: &[String]) -> bool
 
 /// Whether each word is fit and no option stands in two.
 pub fn are_fit_and_single(names: &[&str], words: &[String]) -> bool
-    ensures { result ≡ are_fit_and_single (map (λ n. n.now) names.now) (map string_bytes words.now)
-          }
+    ensures { result ≡ are_fit_and_single (map (λ n. n.now) names.now) (map string_bytes words.now) }
 {
     are_fit(names, words) && are_single(names, words)
 }

@@ -44,7 +44,7 @@ fn command<'a>(
     takes_number: bool,
 ) -> Result<Command<'a>, AllocError>
     ensures { IfOk result (λ c. app_of c ≡ command_for name.entry.now
-            (map (λ n. n.now) names.entry.now) takes_number) }
+        (map (λ n. n.now) names.entry.now) takes_number) }
 {
     let mut command = bare_command(alloc, name);
     for option_name in names {
@@ -80,7 +80,7 @@ pub fn split_words<'a>(
     requires named { is_among (map (λ n. n.now) names.now) [] ≡ false }
     requires apart { is_among (map (λ n. n.now) names.now) number_id ≡ false }
     ensures { AnswersUses (uses_of (map (λ n. n.now) names.entry.now) takes_number
-            (drop 1 (map string_bytes words.entry.now))) result }
+        (drop 1 (map string_bytes words.entry.now))) result }
 {
     if !are_fit_and_single(names, &words[1..]) {
         return Err(OptionsError::Usage);

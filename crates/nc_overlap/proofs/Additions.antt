@@ -31,8 +31,10 @@ module _ (P : Problem) where
   pub adds_one : (l : List Sig) (σ : Sig) → HasDegree P.setting σ → IsWithin P (monomial_of σ)
       → AddsAmbiguities P (λ ρ. ρ ≡ monomial_of σ) l (l ++ σ ∷ [])
   adds_one l σ h w =
-      record { degrees = λ a. All-push (HasDegree P.setting) l σ a h;
-        exact = λ ρ. (forth ρ, back ρ) }
+      record {
+        degrees = λ a. All-push (HasDegree P.setting) l σ a h;
+        exact = λ ρ. (forth ρ, back ρ);
+      }
     where
       pushed : map monomial_of (l ++ σ ∷ []) ≡ map monomial_of l ++ monomial_of σ ∷ []
       pushed = map-append monomial_of l (σ ∷ [])
@@ -41,7 +43,7 @@ module _ (P : Problem) where
           → Contains (map monomial_of l) ρ ⊎ (IsWithin P ρ × (ρ ≡ monomial_of σ))
       forth ρ c =
           go (Contains-push_cases (map monomial_of l) (monomial_of σ) ρ
-            (subst (λ x. Contains x ρ) pushed c))
+          (subst (λ x. Contains x ρ) pushed c))
         where
           go : Contains (map monomial_of l) ρ ⊎ (monomial_of σ ≡ ρ) → Contains (map monomial_of l) ρ
               ⊎ (IsWithin P ρ × (ρ ≡ monomial_of σ))
@@ -56,15 +58,20 @@ module _ (P : Problem) where
       back ρ (inr e) =
           subst (λ x. Contains x ρ) (sym pushed)
           (subst (Contains (map monomial_of l ++ monomial_of σ ∷ [])) (sym e.1)
-            (Contains-push (map monomial_of l) (monomial_of σ)))
+          (Contains-push (map monomial_of l) (monomial_of σ)))
 
   -- another set with the same ones within the bound
   pub adds_same : (A B : Monomial → Type 0) (x y : List Sig) → ((ρ : Monomial) → A ρ → B ρ)
       → ((ρ : Monomial) → IsWithin P ρ → B ρ → A ρ) → AddsAmbiguities P A x y
       → AddsAmbiguities P B x y
   adds_same A B x y to from a =
-      record { degrees = a.degrees; exact = λ ρ. (λ c. forth ρ ((a.exact ρ).0 c),
-          λ c. (a.exact ρ).1 (back ρ c)) }
+      record {
+        degrees = a.degrees;
+        exact = λ ρ. (
+          λ c. forth ρ ((a.exact ρ).0 c),
+          λ c. (a.exact ρ).1 (back ρ c),
+        );
+      }
     where
       forth : (ρ : Monomial) → Contains (map monomial_of x) ρ ⊎ (IsWithin P ρ × A ρ)
           → Contains (map monomial_of x) ρ ⊎ (IsWithin P ρ × B ρ)
@@ -80,8 +87,10 @@ module _ (P : Problem) where
   pub adds_both : (A B : Monomial → Type 0) (x y z : List Sig) → AddsAmbiguities P A x y
       → AddsAmbiguities P B y z → AddsAmbiguities P (λ ρ. A ρ ⊎ B ρ) x z
   adds_both A B x y z a b =
-      record { degrees = λ all. b.degrees (a.degrees all);
-        exact = λ ρ. (λ c. forth ρ ((b.exact ρ).0 c), back ρ) }
+      record {
+        degrees = λ all. b.degrees (a.degrees all);
+        exact = λ ρ. (λ c. forth ρ ((b.exact ρ).0 c), back ρ);
+      }
     where
       first : (ρ : Monomial) → Contains (map monomial_of x) ρ ⊎ (IsWithin P ρ × A ρ)
           → Contains (map monomial_of x) ρ ⊎ (IsWithin P ρ × (A ρ ⊎ B ρ))
@@ -137,22 +146,33 @@ module _ (P : Problem) where
       → bound_degree P.setting P.bound < n + degree P.setting f.signature → IsWithin P ρ
       → MeetAt P.setting e f k ρ → k < n
   room e f n k ρ past w m =
-      omega (arith, past, m.around.2, degree_within P.setting P.bound ρ w.1,
-        length_at_most m.before, degree-times (generator_weight P.setting) m.before m.behind_second
-        f.signature, at_least m.greater)
+      omega (
+        arith,
+        past,
+        m.around.2,
+        degree_within P.setting P.bound ρ w.1,
+        length_at_most m.before,
+        degree-times (generator_weight P.setting) m.before m.behind_second
+            f.signature,
+        at_least m.greater,
+      )
     where
       at_least : IsGreaterOf P.setting (times [] e.signature m.behind_first)
           (times m.before f.signature m.behind_second) ρ
           → degree P.setting (times m.before f.signature m.behind_second) ≤ degree P.setting ρ
       at_least (inl g) =
           let same : degree P.setting ρ ≡ degree P.setting
-              (times m.before f.signature m.behind_second) =
-              ap (degree P.setting) g.1 in omega (arith, same)
+          (times m.before f.signature m.behind_second) =
+          ap (degree P.setting) g.1 in omega (arith, same)
       at_least (inr g) =
           let same : degree P.setting ρ ≡ degree P.setting (times [] e.signature m.behind_first) =
-              ap (degree P.setting) g.1 in
-          omega (arith, same, degrees P.setting (times m.before f.signature m.behind_second)
-                (times [] e.signature m.behind_first) (inr g.0))
+          ap (degree P.setting) g.1 in
+          omega (
+            arith,
+            same,
+            degrees P.setting (times m.before f.signature m.behind_second)
+                (times [] e.signature m.behind_first) (inr g.0),
+          )
 
   -- all places where one leading word begins within another
   pub adds_places : (e f : Entry) (n : ℕ) (x y : List Sig)
@@ -179,12 +199,12 @@ module _ (P : Problem) where
       → k < length entries → AddsAmbiguities P (MeetSomewhere P.setting (get_or entries k new) new)
       x y → AddsAmbiguities P (MeetSomewhere P.setting new (get_or entries k new)) y z
       → AddsAmbiguities P (OfEntry entries (λ e ρ. MeetSomewhere P.setting e new ρ
-              ⊎ MeetSomewhere P.setting new e ρ) k) x z
+      ⊎ MeetSomewhere P.setting new e ρ) k) x z
   adds_entry entries new k x y z h a b =
       adds_same (Either new e) (OfEntry entries (Either new) k) x z
-          (λ ρ m. (e, (k, h, found), refl, m))
-          (λ ρ w m. subst (λ (d : Entry). Either new d ρ)
-            (listed_same entries m.0 e m.1 (k, h, found) m.2) m.3)
+      (λ ρ m. (e, (k, h, found), refl, m))
+      (λ ρ w m. subst (λ (d : Entry). Either new d ρ)
+      (listed_same entries m.0 e m.1 (k, h, found) m.2) m.3)
       (adds_both (MeetSomewhere P.setting e new) (MeetSomewhere P.setting new e) x y z a b)
     where
       e : Entry
@@ -196,7 +216,7 @@ module _ (P : Problem) where
   pub adds_entries : (entries : List Entry) (new : Entry) (n : ℕ) (x y : List Sig)
       → length entries ≤ n → AddsAmbiguities P
       (Before (OfEntry entries (λ e ρ. MeetSomewhere P.setting e new ρ
-            ⊎ MeetSomewhere P.setting new e ρ)) n) x y
+      ⊎ MeetSomewhere P.setting new e ρ)) n) x y
       → AddsAmbiguities P (MeetsEither P.setting entries new) x y
   adds_entries entries new n x y h =
       adds_same (Before (OfEntry entries (Either new)) n) (MeetsEither P.setting entries new) x y

@@ -17,7 +17,7 @@ module _ (s : Setting) (entries : List Entry) (new : Entry) (ρ : Monomial) wher
       ⊎ MeetSomewhere s f e ρ → MeetSomewhere s new new ρ ⊎ MeetsEither s entries new ρ
   with_new e f c i m =
       subst (λ x. MeetSomewhere s x f ρ ⊎ MeetSomewhere s f x ρ → MeetSomewhere s new new ρ
-        ⊎ MeetsEither s entries new ρ) (sym i) (go (Contains-push_cases entries new f c)) m
+      ⊎ MeetsEither s entries new ρ) (sym i) (go (Contains-push_cases entries new f c)) m
     where
       itself : (g : Entry) → new ≡ g → MeetSomewhere s new g ρ ⊎ MeetSomewhere s g new ρ
           → MeetSomewhere s new new ρ
@@ -62,10 +62,10 @@ module _ (s : Setting) (entries : List Entry) (new : Entry) (ρ : Monomial) wher
       → NewAmbiguity s entries new ρ
   meets_new (inl m) =
       first_new new (from_meeting s (entries ++ new ∷ []) ρ new new (Contains-push entries new)
-        (Contains-push entries new) m)
+      (Contains-push entries new) m)
   meets_new (inr (e, c, inl m)) =
       second_new e (from_meeting s (entries ++ new ∷ []) ρ e new
-        (Contains-append_left entries (new ∷ []) e c) (Contains-push entries new) m)
+      (Contains-append_left entries (new ∷ []) e c) (Contains-push entries new) m)
   meets_new (inr (e, c, inr m)) =
       first_new e (from_meeting s (entries ++ new ∷ []) ρ new e (Contains-push entries new)
-        (Contains-append_left entries (new ∷ []) e c) m)
+      (Contains-append_left entries (new ∷ []) e c) m)

@@ -33,15 +33,19 @@ module _ (x : Snapshot) (is : IsSnapshot x) (i : ℕ) (e : Entry)
 
   pub over : IsGenerator x.problem.problem.setting e.signature.generator
   over = ((facts x.problem is.problem (snapshot_prime x is) x.handled x.state is.run).entries_within
-        e listed).0.0
+      e listed).0.0
 
 -- an entry with this leading word and this signature
 pub some_entry : (p : ℕ) → 1 < p → (w : Word) (σ : Monomial) → (e : Entry)
     × (leading p e.polynomial ≡ w) × (e.signature ≡ σ)
-some_entry p h w σ =
-    (record { signature = σ; polynomial = one ∷ []; trace = no_trace },
-      leading-normal p one [] ((omega arith, tt, tt),
-        All-from_recursion (λ (t : Term Word). t.coefficient < p) (one ∷ []) (h, tt)), refl)
+some_entry p h w σ = (
+  record { signature = σ; polynomial = one ∷ []; trace = no_trace },
+  leading-normal p one [] (
+    (omega arith, tt, tt),
+    All-from_recursion (λ (t : Term Word). t.coefficient < p) (one ∷ []) (h, tt),
+  ),
+  refl,
+)
   where
     one : Term Word
     one = record { coefficient = 1; key = w }

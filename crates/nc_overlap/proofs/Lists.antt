@@ -44,56 +44,59 @@ module _ {X Y : Type 0} (f : X → Y) where
 
 module _ {X : Type 0} (value : X → Sig) (xs ys zs : List X) (moved : IsPermutation xs ys)
     (kept : IsFiltered (DiffersFromLast (λ x y. is_eq (compare_sigs (value x) (value y)))) [] ys zs)
-    where
-  same : X → X → Bool
-  same x y = is_eq (compare_sigs (value x) (value y))
+  where
+    same : X → X → Bool
+    same x y = is_eq (compare_sigs (value x) (value y))
 
-  left : zs ≡ dedup (λ x y. is_eq (compare_sigs (value x) (value y))) ys
-  left = dedup_is (λ x y. is_eq (compare_sigs (value x) (value y))) ys zs kept
+    left : zs ≡ dedup (λ x y. is_eq (compare_sigs (value x) (value y))) ys
+    left = dedup_is (λ x y. is_eq (compare_sigs (value x) (value y))) ys zs kept
 
-  pub all_left : (P : Sig → Type 0) → All P (map value xs) → All P (map value zs)
-  all_left P a =
-      All-map P value zs (subst (All (λ x. P (value x))) (sym left)
+    pub all_left : (P : Sig → Type 0) → All P (map value xs) → All P (map value zs)
+    all_left P a =
+        All-map P value zs (subst (All (λ x. P (value x))) (sym left)
         (All-dedup (λ x y. is_eq (compare_sigs (value x) (value y))) (λ x. P (value x)) ys
-          (All-permutation (λ x. P (value x)) xs ys moved (all_before value P xs a))))
+        (All-permutation (λ x. P (value x)) xs ys moved (all_before value P xs a))))
 
-  pub ascending_left : IsSorted (λ x y. compare_sigs (value x) (value y)) ys
-      → IsStrictlySortedBy compare_sigs (map value zs)
-  ascending_left sorted =
-      sorted_map value compare_sigs zs
-      (subst (IsStrictlySortedBy (λ x y. compare_sigs (value x) (value y))) (sym left)
+    pub ascending_left : IsSorted (λ x y. compare_sigs (value x) (value y)) ys
+        → IsStrictlySortedBy compare_sigs (map value zs)
+    ascending_left sorted =
+        sorted_map value compare_sigs zs
+        (subst (IsStrictlySortedBy (λ x y. compare_sigs (value x) (value y))) (sym left)
         (IsStrictlySortedBy-dedup (on_total value sigs_order) (λ x y. refl) ys sorted))
 
-  back : (x : X) → Contains zs x → Contains xs x
-  back x c =
-      Contains-permutation ys xs x (IsPermutation-sym xs ys moved)
-      (Contains-from_dedup (λ x y. is_eq (compare_sigs (value x) (value y))) ys x
+    back : (x : X) → Contains zs x → Contains xs x
+    back x c =
+        Contains-permutation ys xs x (IsPermutation-sym xs ys moved)
+        (Contains-from_dedup (λ x y. is_eq (compare_sigs (value x) (value y))) ys x
         (subst (λ l. Contains l x) left c))
 
-  forth : (x : X) → Contains xs x → (y : X) × Contains zs y × (value x ≡ value y)
-  forth x c =
-      let a = Any-dedup (eq_by_cmp_equiv (on_total value sigs_order)) ys x
-          (Contains-permutation xs ys x moved c) in
-      (a.1, subst (λ l. Contains l a.1) (sym left) (a.0, a.2, a.3),
-            sigs_same (value x) (value a.1) ((Equal-is (compare_sigs (value x) (value a.1))).0 a.4))
+    forth : (x : X) → Contains xs x → (y : X) × Contains zs y × (value x ≡ value y)
+    forth x c =
+        let a = Any-dedup (eq_by_cmp_equiv (on_total value sigs_order)) ys x
+        (Contains-permutation xs ys x moved c) in (
+          a.1,
+          subst (λ l. Contains l a.1) (sym left) (a.0, a.2, a.3),
+          sigs_same (value x) (value a.1) ((Equal-is (compare_sigs (value x) (value a.1))).0 a.4),
+        )
 
-  -- the same monomials are left
-  pub same_left : (ρ : Monomial) → Contains (map monomial_of (map value zs)) ρ
-      ↔ Contains (map monomial_of (map value xs)) ρ
-  same_left ρ = (from, to)
-    where
-      from : Contains (map monomial_of (map value zs)) ρ
-          → Contains (map monomial_of (map value xs)) ρ
-      from c =
-          let a = preimage monomial_of (map value zs) ρ c in
-          let b = preimage value zs a.0 a.1 in
-          subst (Contains (map monomial_of (map value xs))) (ap monomial_of b.2 ∙ a.2)
-              (image monomial_of (map value xs) (value b.0) (image value xs b.0 (back b.0 b.1)))
+    -- the same monomials are left
+    pub same_left : (ρ : Monomial) → Contains (map monomial_of (map value zs)) ρ
+        ↔ Contains (map monomial_of (map value xs)) ρ
+    same_left ρ = (from, to)
+      where
+        from : Contains (map monomial_of (map value zs)) ρ
+            → Contains (map monomial_of (map value xs)) ρ
+        from c =
+            let a = preimage monomial_of (map value zs) ρ c in
+            let b = preimage value zs a.0 a.1 in
+            subst (Contains (map monomial_of (map value xs))) (ap monomial_of b.2 ∙ a.2)
+            (image monomial_of (map value xs) (value b.0) (image value xs b.0 (back b.0 b.1)))
 
-      to : Contains (map monomial_of (map value xs)) ρ → Contains (map monomial_of (map value zs)) ρ
-      to c =
-          let a = preimage monomial_of (map value xs) ρ c in
-          let b = preimage value xs a.0 a.1 in
-          let y = forth b.0 b.1 in
-          subst (Contains (map monomial_of (map value zs))) (ap monomial_of (sym y.2 ∙ b.2) ∙ a.2)
-              (image monomial_of (map value zs) (value y.0) (image value zs y.0 y.1))
+        to : Contains (map monomial_of (map value xs)) ρ
+            → Contains (map monomial_of (map value zs)) ρ
+        to c =
+            let a = preimage monomial_of (map value xs) ρ c in
+            let b = preimage value xs a.0 a.1 in
+            let y = forth b.0 b.1 in
+            subst (Contains (map monomial_of (map value zs))) (ap monomial_of (sym y.2 ∙ b.2) ∙ a.2)
+            (image monomial_of (map value zs) (value y.0) (image value zs y.0 y.1))

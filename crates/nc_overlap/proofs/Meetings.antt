@@ -41,8 +41,8 @@ module _ (s : Setting) (e f : Entry) (σ τ : Sig) (u v : Word) (k n : ℕ)
         none : (x y z : Word) → ¬ AreAround u v k x y z
         none x y z a =
             differ (at_end ∙ (ap (take n) at_rest
-                ∙ ((around_parts u v k n x y z (omega (arith, within)) counted a).0
-                  ∙ sym at_begin)))
+            ∙ ((around_parts u v k n x y z (omega (arith, within)) counted a).0
+            ∙ sym at_begin)))
 
     -- where they agree, the greater side is the signature
     module _ (before behind_second behind_first : Word) (at_before : before ≡ take k u)
@@ -58,22 +58,22 @@ module _ (s : Setting) (e f : Entry) (σ τ : Sig) (u v : Word) (k n : ℕ)
       around_words =
           subst (λ w. AreAround u v k w behind_first behind_second) (sym at_before)
           (subst (λ w. AreAround u v k (take k u) w behind_second) (sym at_first)
-            (subst (λ w. AreAround u v k (take k u) (drop n v) w)
-              (sym (at_second ∙ ap (drop n) at_rest)) made))
+          (subst (λ w. AreAround u v k (take k u) (drop n v) w)
+          (sym (at_second ∙ ap (drop n) at_rest)) made))
 
       around_leads : AreAround (leading s.prime e.polynomial) (leading s.prime f.polynomial) k
           before behind_first behind_second
       around_leads =
           subst (λ w. AreAround w (leading s.prime f.polynomial) k before behind_first
-            behind_second) (sym led) (subst (λ w. AreAround u w k before behind_first behind_second)
-            (sym led') around_words)
+          behind_second) (sym led) (subst (λ w. AreAround u w k before behind_first behind_second)
+          (sym led') around_words)
 
       pub meets : 0 < k + length v → (o : Option Monomial)
           → IsOnly (IsGreaterOf s (monomial_of (sig_times [] σ behind_first))
-            (monomial_of (sig_times before τ behind_second))) o → IsOnly (MeetAt s e f k) o
+          (monomial_of (sig_times before τ behind_second))) o → IsOnly (MeetAt s e f k) o
       meets some o greater =
           met s e f k before behind_first behind_second (times [] (monomial_of σ) behind_first)
-              (times before (monomial_of τ) behind_second) around_leads
-              (omega (arith, within, ap length led)) (omega (arith, some, ap length led'))
+          (times before (monomial_of τ) behind_second) around_leads
+          (omega (arith, within, ap length led)) (omega (arith, some, ap length led'))
           (ap (λ (z : Monomial). times [] z behind_first) (sym signed))
-              (ap (λ (z : Monomial). times before z behind_second) (sym signed')) o greater
+          (ap (λ (z : Monomial). times before z behind_second) (sym signed')) o greater

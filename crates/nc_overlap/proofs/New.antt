@@ -19,7 +19,7 @@ module _ (P : Problem) (entries : List Entry) (new : Entry) (none x y : List Sig
       (NewAmbiguity P.setting entries new) none y (meets_new P.setting entries new)
       (λ ρ w. new_meets P.setting entries new ρ)
       (adds_both P (MeetSomewhere P.setting new new) (MeetsEither P.setting entries new) none x y
-        itself others)
+      itself others)
 
   nothing : (l : List Sig) (ρ : Monomial) → l ≡ [] → ¬ Contains (map monomial_of l) ρ
   nothing [] ρ e c = omega (arith, c.1)

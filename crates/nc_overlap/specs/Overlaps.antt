@@ -22,7 +22,7 @@ abbrev pub AreNewSignatures : Problem → List Entry → Word → Monomial → L
 AreNewSignatures P entries w σ found =
     (new : Entry) → new.signature ≡ σ → leading P.setting.prime new.polynomial ≡ w
     → (ρ : Monomial) → Contains (map monomial_of found) ρ
-        ↔ (IsWithin P ρ × NewAmbiguity P.setting entries new ρ)
+    ↔ (IsWithin P ρ × NewAmbiguity P.setting entries new ρ)
 
 -- the degree beside the signature is its degree in the setting, which has its generator
 pub record IsSignatureOver (s : Setting) (σ : Sig) : Type 0 where
@@ -42,10 +42,10 @@ MeetsEither s entries new ρ =
 -- the later list has what the earlier one has and what the set has within the bound, each with its
 -- degree
 pub record AddsAmbiguities (P : Problem) (set : Monomial → Type 0) (old new : List Sig) : Type 0
-    where
-  pub degrees : All (HasDegree P.setting) old → All (HasDegree P.setting) new
-  pub exact : (ρ : Monomial) → Contains (map monomial_of new) ρ
-      ↔ (Contains (map monomial_of old) ρ ⊎ (IsWithin P ρ × set ρ))
+  where
+    pub degrees : All (HasDegree P.setting) old → All (HasDegree P.setting) new
+    pub exact : (ρ : Monomial) → Contains (map monomial_of new) ρ
+        ↔ (Contains (map monomial_of old) ρ ⊎ (IsWithin P ρ × set ρ))
 
 -- no more than n places count, or those from n on are past the bound for an entry of this degree
 abbrev pub IsEnough : Problem → ℕ → ℕ → ℕ → Type 0

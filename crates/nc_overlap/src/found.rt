@@ -29,8 +29,8 @@ fn add_side(
 ) -> Result<(), AllocError>
     requires over { IsSignatureOver problem.now.problem.setting side.now.sig.now }
     ensures { OnOk result (AddsAmbiguities problem.now.problem
-            (λ ρ. ρ ≡ monomial_of (side_sig side.now)) (map arc_value found.old.items)
-            (map arc_value found.new.items)) }
+        (λ ρ. ρ ≡ monomial_of (side_sig side.now)) (map arc_value found.old.items)
+        (map arc_value found.new.items)) }
 {
     if side.is_within(problem) {
         let sig = side.make(alloc, problem)?;
@@ -52,9 +52,9 @@ fn add_at(
     requires second { IsSignatureOver problem.now.problem.setting second.now.sig.now }
     requires within { at < length first.now.word.now }
     ensures { OnOk result ((e f : Entry) → IsLedBy problem.now.problem.setting first.now e
-            → IsLedBy problem.now.problem.setting second.now f
-            → AddsAmbiguities problem.now.problem (MeetAt problem.now.problem.setting e f at)
-            (map arc_value found.old.items) (map arc_value found.new.items)) }
+        → IsLedBy problem.now.problem.setting second.now f
+        → AddsAmbiguities problem.now.problem (MeetAt problem.now.problem.setting e f at)
+        (map arc_value found.old.items) (map arc_value found.new.items)) }
 {
     match greater_side(first, second, at) {
         Some(side) => add_side(alloc, problem, found, &side),
@@ -67,7 +67,7 @@ fn add_at(
 fn places(problem: &Problem, first: &Lead, second: &Lead) -> usize
     ensures few { result ≤ length first.now.word.now }
     ensures enough { IsEnough problem.now.problem (length first.now.word.now)
-          second.now.sig.now.degree result }
+        second.now.sig.now.degree result }
 {
     let limit = match problem.bound() {
         Bound::Degree(d) => *d,
@@ -92,7 +92,7 @@ fn add_pair(
     requires first { IsSignatureOver problem.now.problem.setting first.now.sig.now }
     requires second { IsSignatureOver problem.now.problem.setting second.now.sig.now }
     ensures { OnOk result (AddsMeetings problem.now.problem first.now second.now
-            (map arc_value found.old.items) (map arc_value found.new.items)) }
+        (map arc_value found.old.items) (map arc_value found.new.items)) }
 {
     for at in 0..places(problem, first, second) {
         add_at(alloc, problem, found, first, second, at)?;
@@ -105,7 +105,7 @@ fn lead_of(snapshot: &Snapshot, n: u32) -> Lead<'_>
     requires some { 1 ≤ n }
     requires within { n ≤ length snapshot.now.state.entries }
     ensures lead { (d : Entry) → IsLedBy snapshot.now.problem.problem.setting result
-          (get_or snapshot.now.state.entries (n - 1) d) }
+        (get_or snapshot.now.state.entries (n - 1) d) }
     ensures over { IsSignatureOver snapshot.now.problem.problem.setting result.sig.now }
 {
     snapshot.recall_rule();
@@ -128,9 +128,9 @@ fn add_entries(
 ) -> Result<(), AllocError>
     requires { IsSignatureOver snapshot.now.problem.problem.setting new.now.sig.now }
     ensures { OnOk result ((e : Entry) → IsLedBy snapshot.now.problem.problem.setting new.now e
-            → AddsAmbiguities snapshot.now.problem.problem
-            (MeetsEither snapshot.now.problem.problem.setting snapshot.now.state.entries e)
-            (map arc_value found.old.items) (map arc_value found.new.items)) }
+        → AddsAmbiguities snapshot.now.problem.problem
+        (MeetsEither snapshot.now.problem.problem.setting snapshot.now.state.entries e)
+        (map arc_value found.old.items) (map arc_value found.new.items)) }
 {
     let problem: &Problem = snapshot.problem();
     for index in 0..snapshot.entries() {
@@ -153,10 +153,9 @@ pub fn signatures(
     requires degree { HasDegree snapshot.now.problem.problem.setting sig.now.value }
     ensures ascending { IfOk result (λ l. IsStrictlySortedBy compare_sigs (map arc_value l.items)) }
     ensures degrees { IfOk result (λ l. All (HasDegree snapshot.now.problem.problem.setting)
-            (map arc_value l.items)) }
+        (map arc_value l.items)) }
     ensures exact { IfOk result (λ l. AreNewSignatures snapshot.now.problem.problem
-            snapshot.now.state.entries lead.now (monomial_of sig.now.value) (map arc_value l.items))
-          }
+        snapshot.now.state.entries lead.now (monomial_of sig.now.value) (map arc_value l.items)) }
 {
     let new = Lead {
         word: lead.letters(),

@@ -24,10 +24,10 @@ pub(crate) struct Lead<'a> {
 pub(crate) fn greater_side<'a>(first: &Lead<'a>, second: &Lead<'a>, at: usize) -> Option<Side<'a>>
     requires { at < length first.now.word.now }
     ensures greater { (s : Setting) (e f : Entry) → HasDegree s first.now.sig.now
-          → HasDegree s second.now.sig.now → IsLedBy s first.now e → IsLedBy s second.now f
-          → IsOnly (MeetAt s e f at) (option_map (λ x. monomial_of (side_sig x)) result) }
+        → HasDegree s second.now.sig.now → IsLedBy s first.now e → IsLedBy s second.now f
+        → IsOnly (MeetAt s e f at) (option_map (λ x. monomial_of (side_sig x)) result) }
     ensures sig { IfSome result (λ x. (x.sig.now ≡ first.now.sig.now)
-            ⊎ (x.sig.now ≡ second.now.sig.now)) }
+        ⊎ (x.sig.now ≡ second.now.sig.now)) }
 {
     if at == 0 && second.word.is_empty() {
         return None;

@@ -55,12 +55,12 @@ impl<'a> Side<'a> {
     /// The greater one, where they differ.
     pub(crate) fn greater(&self, other: &Side<'a>) -> Option<Side<'a>>
         ensures greater { (s : Setting) → HasDegree s (side_sig self.now)
-              → HasDegree s (side_sig other.now)
-              → IsOnly (IsGreaterOf s (monomial_of (side_sig self.now))
-                (monomial_of (side_sig other.now)))
-              (option_map (λ x. monomial_of (side_sig x)) result) }
+            → HasDegree s (side_sig other.now)
+            → IsOnly (IsGreaterOf s (monomial_of (side_sig self.now))
+            (monomial_of (side_sig other.now)))
+            (option_map (λ x. monomial_of (side_sig x)) result) }
         ensures sig { IfSome result (λ x. (x.sig.now ≡ self.now.sig.now)
-                ⊎ (x.sig.now ≡ other.now.sig.now)) }
+            ⊎ (x.sig.now ≡ other.now.sig.now)) }
     {
         match self.compare(other) {
             Ordering::Less => Some(*other),

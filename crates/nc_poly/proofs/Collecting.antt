@@ -27,8 +27,10 @@ IsUpTo w v = (w ≡ v) ⊎ IsWordLess w v
 gained_key : (p : ℕ) (t u : Term Word) → (gained p t u).key ≡ u.key
 gained_key p t u = go (same_word t.key u.key)
   where
-    go : (b : Bool) → (cond b (record { coefficient = (t.coefficient + u.coefficient) % p;
-              key = u.key }) u).key ≡ u.key
+    go : (b : Bool) → (cond b (record {
+      coefficient = (t.coefficient + u.coefficient) % p;
+      key = u.key;
+    }) u).key ≡ u.key
     go true = refl
     go false = refl
 
@@ -42,14 +44,15 @@ left_key t u = go (same_word t.key u.key)
 carried_up_to : (p : ℕ) (w : Word) (t : Term Word) (f : Polynomial) → IsUpTo t.key w → AllUpTo w f
     → AllUpTo w (carried_behind p t f)
 carried_up_to p w t [] h a = (h, tt)
-carried_up_to p w t (u ∷ f) h a =
-    (subst (λ v. IsUpTo v w) (sym (left_key t u)) h,
-      carried_up_to p w (gained p t u) f (subst (λ v. IsUpTo v w) (sym (gained_key p t u)) a.0) a.1)
+carried_up_to p w t (u ∷ f) h a = (
+  subst (λ v. IsUpTo v w) (sym (left_key t u)) h,
+  carried_up_to p w (gained p t u) f (subst (λ v. IsUpTo v w) (sym (gained_key p t u)) a.0) a.1,
+)
 
 -- the sum stays
 pair_same : (p : ℕ) (t u : Term Word) (s : ℕ) (x : Word)
     → ((left_of t u).coefficient * is_at same_word x (left_of t u).key
-      + ((gained p t u).coefficient * is_at same_word x (gained p t u).key + s))
+    + ((gained p t u).coefficient * is_at same_word x (gained p t u).key + s))
     % p ≡ (t.coefficient * is_at same_word x t.key + (u.coefficient * is_at same_word x u.key + s))
     % p
 pair_same p t u s x = go (same_word t.key u.key) refl
@@ -59,30 +62,30 @@ pair_same p t u s x = go (same_word t.key u.key) refl
 
     go : (b : Bool) → same_word t.key u.key ≡ b
         → ((cond b (record { coefficient = 0; key = t.key }) t).coefficient * is_at same_word x
-          (cond b (record { coefficient = 0; key = t.key }) t).key
-          + ((cond b (record { coefficient = (t.coefficient + u.coefficient) % p; key = u.key })
-              u).coefficient * is_at same_word x
-            (cond b (record { coefficient = (t.coefficient + u.coefficient) % p; key = u.key })
-              u).key + s)) % p ≡ (t.coefficient * is_at same_word x t.key
-          + (u.coefficient * is_at same_word x u.key + s)) % p
+        (cond b (record { coefficient = 0; key = t.key }) t).key
+        + ((cond b (record { coefficient = (t.coefficient + u.coefficient) % p; key = u.key })
+        u).coefficient * is_at same_word x
+        (cond b (record { coefficient = (t.coefficient + u.coefficient) % p; key = u.key })
+        u).key + s)) % p ≡ (t.coefficient * is_at same_word x t.key
+        + (u.coefficient * is_at same_word x u.key + s)) % p
     go false e = refl
     go true e =
         let keys : is_at same_word x t.key ≡ is_at same_word x u.key =
-            ap (is_at same_word x) (word_laws.same_eq t.key u.key e) in
+        ap (is_at same_word x) (word_laws.same_eq t.key u.key e) in
         ap (λ n. n % p) (omega arith) ∙ (scaled p (t.coefficient + u.coefficient)
-              (is_at same_word x u.key) s ∙ ap (λ n. n % p)
-              (omega (arith, ap (λ n. t.coefficient * n) keys)))
+        (is_at same_word x u.key) s ∙ ap (λ n. n % p)
+        (omega (arith, ap (λ n. t.coefficient * n) keys)))
 
 carried_at : (p : ℕ) (t : Term Word) (f : Polynomial) (x : Word)
     → coefficient (carried_behind p t f) x % p ≡ coefficient (t ∷ f) x % p
 carried_at p t [] x = refl
 carried_at p t (u ∷ f) x =
     add-mod ((left_of t u).coefficient * is_at same_word x (left_of t u).key)
-        (coefficient (carried_behind p (gained p t u) f) x) p
+    (coefficient (carried_behind p (gained p t u) f) x) p
     ∙ (ap (λ n. (((left_of t u).coefficient * is_at same_word x (left_of t u).key) % p + n) % p)
-          (carried_at p (gained p t u) f x)
+    (carried_at p (gained p t u) f x)
     ∙ (sym (add-mod ((left_of t u).coefficient * is_at same_word x (left_of t u).key)
-            (coefficient (gained p t u ∷ f) x) p) ∙ pair_same p t u (coefficient f x) x))
+    (coefficient (gained p t u ∷ f) x) p) ∙ pair_same p t u (coefficient f x) x))
 
 -- and coefficients stay residues
 left_residue : (p : ℕ) (t u : Term Word) → t.coefficient < p → (left_of t u).coefficient < p
@@ -96,8 +99,10 @@ gained_residue : (p : ℕ) (t u : Term Word) → t.coefficient < p → u.coeffic
     → (gained p t u).coefficient < p
 gained_residue p t u h k = go (same_word t.key u.key)
   where
-    go : (b : Bool) → (cond b (record { coefficient = (t.coefficient + u.coefficient) % p;
-              key = u.key }) u).coefficient < p
+    go : (b : Bool) → (cond b (record {
+      coefficient = (t.coefficient + u.coefficient) % p;
+      key = u.key;
+    }) u).coefficient < p
     go true = mod-lt (t.coefficient + u.coefficient) (omega arith)
     go false = k
 
@@ -120,7 +125,7 @@ filter_at (t ∷ f) x = go (nat_eq t.coefficient 0) refl (filter_at f x)
         ≡ coefficient (t ∷ f) x
     go true e h =
         let z : t.coefficient ≡ 0 =
-            eqb-true t.coefficient 0 e in omega (arith, h, ap (λ n. n * is_at same_word x t.key) z)
+        eqb-true t.coefficient 0 e in omega (arith, h, ap (λ n. n * is_at same_word x t.key) z)
     go false e h = omega (arith, h)
 
 filter_less : (w v : Word) (f : Polynomial) → IsWordLess w v → AllUpTo w f
@@ -152,7 +157,7 @@ descends p t (u ∷ f) h =
     less : same_word t.key u.key ≡ false → IsUpTo u.key t.key → IsWordLess u.key t.key
     less e (inl i) =
         absurd (false≢true (sym e ∙ subst (λ w. same_word t.key w ≡ true) (sym i)
-            (word_laws.same_refl t.key)))
+        (word_laws.same_refl t.key)))
     less e (inr l) = l
 
     last : (b : Bool) → nat_eq t.coefficient 0 ≡ b → IsWordLess u.key t.key → (rest : Polynomial)
@@ -164,7 +169,7 @@ descends p t (u ∷ f) h =
         → IsDescending (filter has_coefficient (carried_behind p (gained p t u) f))
         → AllUpTo u.key (carried_behind p (gained p t u) f)
         → IsDescending (filter has_coefficient
-          (cond b (record { coefficient = 0; key = t.key }) t ∷ carried_behind p (gained p t u) f))
+        (cond b (record { coefficient = 0; key = t.key }) t ∷ carried_behind p (gained p t u) f))
     go true e d a = d
     go false e d a =
         last (nat_eq t.coefficient 0) refl (less e h.0.0)
@@ -181,10 +186,12 @@ collected_at p (t ∷ f) x = ap (λ n. n % p) (filter_at (carried_behind p t f) 
 collected_normal : (p : ℕ) (f : Polynomial) → IsFalling f
     → AllByRecursion (λ t. t.coefficient < p) f → IsNormal p (collected p f)
 collected_normal p [] h a = (tt, All-from_recursion (λ t. t.coefficient < p) [] tt)
-collected_normal p (t ∷ f) h a =
-    (descends p t f h, All-filter has_coefficient (λ t. t.coefficient < p) (carried_behind p t f)
+collected_normal p (t ∷ f) h a = (
+  descends p t f h,
+  All-filter has_coefficient (λ t. t.coefficient < p) (carried_behind p t f)
       (All-from_recursion (λ t. t.coefficient < p) (carried_behind p t f)
-        (carried_residues p t f a.0 a.1)))
+      (carried_residues p t f a.0 a.1)),
+)
 
 -- sorted and collected, a list of terms is in normal form
 pub collected_is : (p : ℕ) (f g : Polynomial) → AreResidues p f → IsPermutation f g → IsFalling g
@@ -195,6 +202,6 @@ collected_is p [] (t ∷ g) a h d = absurd (omega (arith, length_permutation [] 
 collected_is p (t ∷ f) g a h d =
     let small = (recursion_from_All (λ u. u.coefficient < p) (t ∷ f) a).0 in
     normal_form_only p (t ∷ f) (collected p g) (omega arith)
-        (collected_normal p g d (recursion_from_All (λ u. u.coefficient < p) g
-            (All-permutation (λ u. u.coefficient < p) (t ∷ f) g h a))) record
-        { at = λ x. collected_at p g x ∙ sym ((same-permutation same_word p (t ∷ f) g h).at x) }
+    (collected_normal p g d (recursion_from_All (λ u. u.coefficient < p) g
+    (All-permutation (λ u. u.coefficient < p) (t ∷ f) g h a))) record
+    { at = λ x. collected_at p g x ∙ sym ((same-permutation same_word p (t ∷ f) g h).at x) }

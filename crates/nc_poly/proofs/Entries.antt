@@ -88,10 +88,12 @@ module _ {K S : Type 0} (φ : S → ℕ) (p : ℕ) where
   entries_small : 0 < p → (es : List (K × S))
       → AllByRecursion (λ t. t.coefficient < p) (terms_by φ es) → AllByRecursion (λ e. φ e.1 < p) es
   entries_small some [] a = tt
-  entries_small some (e ∷ es) a =
-      (go (nat_eq (φ e.1) 0) refl (back_all (λ t. t.coefficient < p) (terms_by φ es)
-          (shown (φ e.1) e.0) a), entries_small some es
-        (front_all (λ t. t.coefficient < p) (terms_by φ es) (shown (φ e.1) e.0) a))
+  entries_small some (e ∷ es) a = (
+    go (nat_eq (φ e.1) 0) refl (back_all (λ t. t.coefficient < p) (terms_by φ es)
+        (shown (φ e.1) e.0) a),
+    entries_small some es
+        (front_all (λ t. t.coefficient < p) (terms_by φ es) (shown (φ e.1) e.0) a),
+  )
     where
       go : (b : Bool) → nat_eq (φ e.1) 0 ≡ b
           → AllByRecursion (λ t. t.coefficient < p)
@@ -132,68 +134,76 @@ terms_same {K} P φ ψ h (e ∷ es) a =
 -- ---- an entry written at a key
 
 module _ {K S : Type 0} {cmp : K → K → Ordering} (o : IsTotalOrder cmp) (φ : S → ℕ) (k : K) (w : S)
-    where
-  -- what stood at the key
-  abbrev pub found_at : List (K × S) → ℕ
-  found_at es = unwrap_or (option_map φ (lookup (tree.is_at (cmp k)) es)) 0
+  where
+    -- what stood at the key
+    abbrev pub found_at : List (K × S) → ℕ
+    found_at es = unwrap_or (option_map φ (lookup (tree.is_at (cmp k)) es)) 0
 
-  absent : (e : K × S) (es : List (K × S)) → IsStrictlySortedBy cmp (keys_of (e ∷ es))
-      → cmp k e.0 ≡ Less → found_at es ≡ 0
-  absent e es s less =
-      ap (λ (x : Option S). unwrap_or (option_map φ x) 0)
-      (lookup-none (tree.is_at (cmp k)) es (none_below_head o k e es s less).1)
+    absent : (e : K × S) (es : List (K × S)) → IsStrictlySortedBy cmp (keys_of (e ∷ es))
+        → cmp k e.0 ≡ Less → found_at es ≡ 0
+    absent e es s less =
+        ap (λ (x : Option S). unwrap_or (option_map φ x) 0)
+        (lookup-none (tree.is_at (cmp k)) es (none_below_head o k e es s less).1)
 
-  pub inserted_weighs : (F : K → ℕ) → ((x : K) → cmp k x ≡ Equal → F x ≡ F k) → (es : List (K × S))
-      → IsStrictlySortedBy cmp (keys_of es) → linear_sum F (terms_by φ (insert_entry cmp es k w))
-      + found_at es * F k ≡ linear_sum F (terms_by φ es) + φ w * F k
-  inserted_weighs F same [] s = omega (arith, linear_terms φ F (k, w) [])
-  inserted_weighs F same (e ∷ es) s =
-      go (cmp k e.0) refl (inserted_weighs F same es (sorted_tail cmp e.0 (keys_of es) s))
-    where
-      go : (r : Ordering) → cmp k e.0 ≡ r → linear_sum F (terms_by φ (insert_entry cmp es k w))
-          + found_at es * F k ≡ linear_sum F (terms_by φ es) + φ w * F k
-          → linear_sum F (terms_by φ (match_ordering r ((k, w) ∷ e ∷ es) ((e.0, w) ∷ es)
-              (e ∷ insert_entry cmp es k w)))
-          + unwrap_or (option_map φ (cond (is_eq r) (Some e.1) (lookup (tree.is_at (cmp k)) es))) 0
-          * F k ≡ linear_sum F (terms_by φ (e ∷ es)) + φ w * F k
-      go Less d h =
-          omega (arith, linear_terms φ F (k, w) (e ∷ es), ap (λ n. n * F k) (absent e es s d))
-      go Equal d h =
-          omega (arith, linear_terms φ F (e.0, w) es, linear_terms φ F e es,
-            ap (λ n. φ w * n) (same e.0 d), ap (λ n. φ e.1 * n) (same e.0 d))
-      go Greater d h =
-          omega (arith, linear_terms φ F e (insert_entry cmp es k w), linear_terms φ F e es, h)
+    pub inserted_weighs : (F : K → ℕ) → ((x : K) → cmp k x ≡ Equal → F x ≡ F k)
+        → (es : List (K × S))
+        → IsStrictlySortedBy cmp (keys_of es) → linear_sum F (terms_by φ (insert_entry cmp es k w))
+        + found_at es * F k ≡ linear_sum F (terms_by φ es) + φ w * F k
+    inserted_weighs F same [] s = omega (arith, linear_terms φ F (k, w) [])
+    inserted_weighs F same (e ∷ es) s =
+        go (cmp k e.0) refl (inserted_weighs F same es (sorted_tail cmp e.0 (keys_of es) s))
+      where
+        go : (r : Ordering) → cmp k e.0 ≡ r → linear_sum F (terms_by φ (insert_entry cmp es k w))
+            + found_at es * F k ≡ linear_sum F (terms_by φ es) + φ w * F k
+            → linear_sum F (terms_by φ (match_ordering r ((k, w) ∷ e ∷ es) ((e.0, w) ∷ es)
+            (e ∷ insert_entry cmp es k w)))
+            + unwrap_or (option_map φ (cond (is_eq r) (Some e.1) (lookup (tree.is_at (cmp k)) es)))
+            0
+            * F k ≡ linear_sum F (terms_by φ (e ∷ es)) + φ w * F k
+        go Less d h =
+            omega (arith, linear_terms φ F (k, w) (e ∷ es), ap (λ n. n * F k) (absent e es s d))
+        go Equal d h =
+            omega (
+              arith,
+              linear_terms φ F (e.0, w) es,
+              linear_terms φ F e es,
+              ap (λ n. φ w * n) (same e.0 d),
+              ap (λ n. φ e.1 * n) (same e.0 d),
+            )
+        go Greater d h =
+            omega (arith, linear_terms φ F e (insert_entry cmp es k w), linear_terms φ F e es, h)
 
-  -- where the reading stays, so do the terms
-  pub inserted_same : (es : List (K × S)) → IsStrictlySortedBy cmp (keys_of es) → φ w ≡ found_at es
-      → terms_by φ (insert_entry cmp es k w) ≡ terms_by φ es
-  inserted_same [] s q = shown_zero (φ w) k q
-  inserted_same (e ∷ es) s q =
-      go (cmp k e.0) refl q (inserted_same es (sorted_tail cmp e.0 (keys_of es) s))
-    where
-      go : (r : Ordering) → cmp k e.0 ≡ r
-          → φ w ≡ unwrap_or (option_map φ
+    -- where the reading stays, so do the terms
+    pub inserted_same : (es : List (K × S)) → IsStrictlySortedBy cmp (keys_of es)
+        → φ w ≡ found_at es
+        → terms_by φ (insert_entry cmp es k w) ≡ terms_by φ es
+    inserted_same [] s q = shown_zero (φ w) k q
+    inserted_same (e ∷ es) s q =
+        go (cmp k e.0) refl q (inserted_same es (sorted_tail cmp e.0 (keys_of es) s))
+      where
+        go : (r : Ordering) → cmp k e.0 ≡ r
+            → φ w ≡ unwrap_or (option_map φ
             (cond (is_eq r) (Some e.1) (lookup (tree.is_at (cmp k)) es))) 0
-          → (φ w ≡ found_at es → terms_by φ (insert_entry cmp es k w) ≡ terms_by φ es)
-          → terms_by φ (match_ordering r ((k, w) ∷ e ∷ es) ((e.0, w) ∷ es)
+            → (φ w ≡ found_at es → terms_by φ (insert_entry cmp es k w) ≡ terms_by φ es)
+            → terms_by φ (match_ordering r ((k, w) ∷ e ∷ es) ((e.0, w) ∷ es)
             (e ∷ insert_entry cmp es k w)) ≡ terms_by φ (e ∷ es)
-      go Less d q h =
-          ap (λ (l : List (Term K)). terms_by φ (e ∷ es) ++ l)
-          (shown_zero (φ w) k (q ∙ absent e es s d)) ∙ append-nil (terms_by φ (e ∷ es))
-      go Equal d q h = ap (λ n. terms_by φ es ++ shown n e.0) q
-      go Greater d q h = ap (λ (l : List (Term K)). l ++ shown (φ e.1) e.0) (h q)
+        go Less d q h =
+            ap (λ (l : List (Term K)). terms_by φ (e ∷ es) ++ l)
+            (shown_zero (φ w) k (q ∙ absent e es s d)) ∙ append-nil (terms_by φ (e ∷ es))
+        go Equal d q h = ap (λ n. terms_by φ es ++ shown n e.0) q
+        go Greater d q h = ap (λ (l : List (Term K)). l ++ shown (φ e.1) e.0) (h q)
 
-  pub inserted_all : (P : S → Type 0) (es : List (K × S)) → AllByRecursion (λ e. P e.1) es → P w
-      → AllByRecursion (λ e. P e.1) (insert_entry cmp es k w)
-  inserted_all P [] a b = (b, tt)
-  inserted_all P (e ∷ es) a b = go (cmp k e.0) (inserted_all P es a.1 b)
-    where
-      go : (r : Ordering) → AllByRecursion (λ e. P e.1) (insert_entry cmp es k w)
-          → AllByRecursion (λ e. P e.1) (match_ordering r ((k, w) ∷ e ∷ es) ((e.0, w) ∷ es)
+    pub inserted_all : (P : S → Type 0) (es : List (K × S)) → AllByRecursion (λ e. P e.1) es → P w
+        → AllByRecursion (λ e. P e.1) (insert_entry cmp es k w)
+    inserted_all P [] a b = (b, tt)
+    inserted_all P (e ∷ es) a b = go (cmp k e.0) (inserted_all P es a.1 b)
+      where
+        go : (r : Ordering) → AllByRecursion (λ e. P e.1) (insert_entry cmp es k w)
+            → AllByRecursion (λ e. P e.1) (match_ordering r ((k, w) ∷ e ∷ es) ((e.0, w) ∷ es)
             (e ∷ insert_entry cmp es k w))
-      go Less h = (b, a)
-      go Equal h = (b, a.1)
-      go Greater h = (a.0, h)
+        go Less h = (b, a)
+        go Equal h = (b, a.1)
+        go Greater h = (a.0, h)
 
 -- ---- a term added in a pass
 
@@ -222,7 +232,7 @@ module _ {K : Type 0} {cmp : K → K → Ordering} (o : IsTotalOrder cmp) where
       → sums.is_at (eq_by_cmp cmp) x y ≡ sums.is_at (eq_by_cmp cmp) x k
   at_same x k y e =
       ap (λ r. cond (is_eq r) 1 0) (o.antisymm x y
-        ∙ (ap ordering_reverse (sym (o.congr k y x e)) ∙ sym (o.antisymm x k)))
+      ∙ (ap ordering_reverse (sym (o.congr k y x e)) ∙ sym (o.antisymm x k)))
 
   module _ (p pass : ℕ) (k : K) (c : ℕ) (es : List (K × Slot)) where
     -- what is written
@@ -238,9 +248,9 @@ module _ {K : Type 0} {cmp : K → K → Ordering} (o : IsTotalOrder cmp) where
           let weighs = inserted_weighs o now_of k (added pass p c slot) F (at_same x k) es s in
           let old = read now_of (lookup (tree.is_at (cmp k)) es) (fresh pass) refl in
           step_mod p (linear_sum F (terms_by now_of (insert_entry cmp es k (added pass p c slot))))
-              (linear_sum F (terms_by now_of es)) slot.now c (F k)
-              (ap (λ n. linear_sum F (terms_by now_of (insert_entry cmp es k (added pass p c slot)))
-                  + n * F k) old ∙ weighs);
+          (linear_sum F (terms_by now_of es)) slot.now c (F k)
+          (ap (λ n. linear_sum F (terms_by now_of (insert_entry cmp es k (added pass p c slot)))
+          + n * F k) old ∙ weighs);
     }
 
     before_same : before_at pass (added pass p c slot) ≡ before_at pass slot
@@ -264,24 +274,24 @@ module _ {K : Type 0} {cmp : K → K → Ordering} (o : IsTotalOrder cmp) where
     added_before s =
         inserted_same o (before_at pass) k (added pass p c slot) es s
         (before_same ∙ read (before_at pass) (lookup (tree.is_at (cmp k)) es) (fresh pass)
-          before_fresh)
+        before_fresh)
 
     pub slot_residue : 0 < p → AreResiduesBy p (terms_by now_of es) → slot.now < p
     slot_residue some a =
         unwrapped (λ s. s.now < p) (lookup (tree.is_at (cmp k)) es) (fresh pass)
         (All-lookup (λ s. s.now < p) (tree.is_at (cmp k)) es
-          (All-from_recursion (λ e. e.1.now < p) es (entries_residues now_of p some es a))) some
+        (All-from_recursion (λ e. e.1.now < p) es (entries_residues now_of p some es a))) some
 
     pub added_residues : 0 < p → AreResiduesBy p (terms_by now_of es)
         → AreResiduesBy p (terms_by now_of (insert_entry cmp es k (added pass p c slot)))
     added_residues some a =
         terms_residues now_of p (insert_entry cmp es k (added pass p c slot))
         (inserted_all o now_of k (added pass p c slot) (λ s. s.now < p) es
-          (entries_residues now_of p some es a) (mod-lt (slot.now + c) some))
+        (entries_residues now_of p some es a) (mod-lt (slot.now + c) some))
 
     pub added_stamps : All (λ e. e.1.pass ≤ pass) es
         → All (λ e. e.1.pass ≤ pass) (insert_entry cmp es k (added pass p c slot))
     added_stamps a =
         All-from_recursion (λ e. e.1.pass ≤ pass) _
         (inserted_all o now_of k (added pass p c slot) (λ s. s.pass ≤ pass) es
-          (recursion_from_All (λ e. e.1.pass ≤ pass) es a) (omega arith))
+        (recursion_from_All (λ e. e.1.pass ≤ pass) es a) (omega arith))

@@ -14,10 +14,11 @@ abbrev pub same_term : Term Word → Term Word → Bool
 same_term t u = nat_eq t.coefficient u.coefficient && same_word t.key u.key
 
 term_decides : (t u : Term Word) → Decides (same_term t u) (t ≡ u)
-term_decides t u =
-    (λ e. join (parts (nat_eq t.coefficient u.coefficient) (same_word t.key u.key) e),
-      λ e. both_true (eq-eqb t.coefficient u.coefficient (ap (λ z. z.coefficient) e))
-      (subst (λ z. same_word t.key z ≡ true) (ap (λ z. z.key) e) (word_laws.same_refl t.key)))
+term_decides t u = (
+  λ e. join (parts (nat_eq t.coefficient u.coefficient) (same_word t.key u.key) e),
+  λ e. both_true (eq-eqb t.coefficient u.coefficient (ap (λ z. z.coefficient) e))
+      (subst (λ z. same_word t.key z ≡ true) (ap (λ z. z.key) e) (word_laws.same_refl t.key)),
+)
   where
     parts : (a b : Bool) → (a && b) ≡ true → (a ≡ true) × (b ≡ true)
     parts a b e = grind (arith, e)
@@ -25,8 +26,8 @@ term_decides t u =
     join : (nat_eq t.coefficient u.coefficient ≡ true) × (same_word t.key u.key ≡ true) → t ≡ u
     join (a, b) =
         let i : t.coefficient ≡ u.coefficient =
-            eqb-true t.coefficient u.coefficient a in let j : t.key ≡ u.key =
-            word_laws.same_eq t.key u.key b in λ k. record { coefficient = i k; key = j k }
+        eqb-true t.coefficient u.coefficient a in let j : t.key ≡ u.key =
+        word_laws.same_eq t.key u.key b in λ k. record { coefficient = i k; key = j k }
 
 -- what `==` answers at their lists
 pub terms_decide : (f g : Polynomial) → Decides (pointwise same_term f g) (f ≡ g)

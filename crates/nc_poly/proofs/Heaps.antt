@@ -22,9 +22,10 @@ use Rattle.std.specs.List.{AllByRecursion}
 
 pub less_below : (w : Word) (f : Polynomial) → AllLess w f → AllBelow compare_words w f
 less_below w [] a = tt
-less_below w (t ∷ f) a =
-    (compare_less compare_words IsWordLess words_compare word_irrefl word_trans t.key w a.0,
-      less_below w f a.1)
+less_below w (t ∷ f) a = (
+  compare_less compare_words IsWordLess words_compare word_irrefl word_trans t.key w a.0,
+  less_below w f a.1,
+)
 
 below_less : (w : Word) (f : Polynomial) → AllBelow compare_words w f → AllLess w f
 below_less w [] a = tt
@@ -48,7 +49,7 @@ same_swap p f g = record {
       let left = linear_sum-append (is_at same_word x) f g in
       let right = linear_sum-append (is_at same_word x) g f in
       let same : linear_sum (is_at same_word x) (f ++ g) ≡ linear_sum (is_at same_word x) (g ++ f) =
-          omega arith in
+      omega arith in
       ap (λ n. n % p) same;
 }
 
@@ -60,10 +61,10 @@ heap_subtracted p c u v old new g product small falls residues same is =
     normal_form_only p (minus p old c (polynomial_times u g v)) new (omega arith) (falls, residues)
     (same-trans same_word p new (product ++ old) (minus p old c (polynomial_times u g v)) same
     (same-trans same_word p (product ++ old) (old ++ product)
-          (minus p old c (polynomial_times u g v)) (same_swap p product old)
+    (minus p old c (polynomial_times u g v)) (same_swap p product old)
     (subst (λ (l : Polynomial). SameSum same_word p (old ++ l)
-            (minus p old c (polynomial_times u g v))) (sym is)
-          (same_subtracted p c u v old g small))))
+    (minus p old c (polynomial_times u g v))) (sym is)
+    (same_subtracted p c u v old g small))))
 
 -- pairs whose terms have residues
 listed_small : {K : Type 0} (p : ℕ) (es : List (K × ℕ))
@@ -90,7 +91,7 @@ pub next_term : (terms left rest sum : Polynomial) (t : Term Word) → IsDescend
     × AllBelow compare_words t.key sum
 next_term terms left rest sum t d is parts =
     let all : terms ≡ rest ++ t ∷ sum =
-        sym is ∙ (ap (λ (l : Polynomial). l ++ sum) parts ∙ append_assoc rest (t ∷ []) sum) in
+    sym is ∙ (ap (λ (l : Polynomial). l ++ sum) parts ∙ append_assoc rest (t ∷ []) sum) in
     let down = descends_back rest (t ∷ sum) (subst (λ (l : Polynomial). IsDescending l) all d) in
     (down.0, less_below t.key sum down.1)
 
@@ -101,10 +102,10 @@ pub listed_more : {K : Type 0} (start front : List (Term K)) (items new : List (
 listed_more {K} start front items new t e so_far is key coefficient =
     let term : Term K = record { coefficient = e.1; key = e.0 } in
     let same : term ≡ t =
-        ap₂ (λ n k. let r : Term K = record { coefficient = n; key = k } in r) coefficient key in
+    ap₂ (λ n k. let r : Term K = record { coefficient = n; key = k } in r) coefficient key in
     ap listed is ∙ (listed_push items e
-          ∙ (ap₂ (λ (l : List (Term K)) (s : Term K). l ++ s ∷ []) so_far same
-            ∙ append_assoc start front (t ∷ [])))
+    ∙ (ap₂ (λ (l : List (Term K)) (s : Term K). l ++ s ∷ []) so_far same
+    ∙ append_assoc start front (t ∷ [])))
 
 pub pairs_more : (p c : ℕ) (u v : Word) (g start : Polynomial) (items new : List (Word × ℕ)) (i : ℕ)
     (t : Term Word) (e : Word × ℕ) → i < length g → t ≡ get_or g i t
@@ -113,7 +114,7 @@ pub pairs_more : (p c : ℕ) (u v : Word) (g start : Polynomial) (items new : Li
     → listed new ≡ start ++ multiples_of p c u (take (i + 1) g) v
 pairs_more p c u v g start items new i t e within at so_far is key coefficient =
     listed_more start (multiples_of p c u (take i g) v) items new (multiple_of p c u v t) e so_far
-        is key coefficient
+    is key coefficient
     ∙ ap (λ (l : Polynomial). start ++ l)
-        (ap (λ (s : Term Word). multiples_of p c u (take i g) v ++ s ∷ [])
-          (ap (multiple_of p c u v) at) ∙ sym (map_more (multiple_of p c u v) g i t within))
+    (ap (λ (s : Term Word). multiples_of p c u (take i g) v ++ s ∷ [])
+    (ap (multiple_of p c u v) at) ∙ sym (map_more (multiple_of p c u v) g i t within))

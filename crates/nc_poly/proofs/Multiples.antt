@@ -26,11 +26,11 @@ module _ {K : Type 0} (same : K → K → Bool) (p c : ℕ) (φ : K → K) where
   moved_at (t ∷ g) x =
       let a = is_at same x (φ t.key) in
       add-mod (((c * t.coefficient) % p) * is_at same x (φ t.key))
-          (coefficient_by same (moved_by p c φ g) x) p
+      (coefficient_by same (moved_by p c φ g) x) p
       ∙ (ap₂ (λ m n. (m + n) % p) (mul-mod_first (c * t.coefficient) (is_at same x (φ t.key)) p)
-            (moved_at g x)
+      (moved_at g x)
       ∙ (sym (add-mod ((c * t.coefficient) * is_at same x (φ t.key))
-              (c * coefficient_by same (map_keys φ g) x) p) ∙ ap (λ n. n % p) (omega arith)))
+      (c * coefficient_by same (map_keys φ g) x) p) ∙ ap (λ n. n % p) (omega arith)))
 
   moved_residues : (g : List (Term K)) → 0 < p
       → AllByRecursion (λ t. t.coefficient < p) (moved_by p c φ g)
@@ -64,20 +64,20 @@ same_moved {K} same p c φ old g small = record { at = each }
     sums x =
         moved_at same p ((p - c) % p) φ g x
         ∙ (ap (λ n. (n * coefficient_by same (map_keys φ g) x) % p) (negative_same p c small)
-          ∙ mul-mod_first ((p - 1) * c) (coefficient_by same (map_keys φ g) x) p)
+        ∙ mul-mod_first ((p - 1) * c) (coefficient_by same (map_keys φ g) x) p)
 
     each : (x : K) → coefficient_by same (old ++ moved_by p ((p - c) % p) φ g) x
         % p ≡ coefficient_by same (minus p old c (map_keys φ g)) x % p
     each x =
         ap (λ n. n % p) (linear_sum-append (is_at same x) old (moved_by p ((p - c) % p) φ g))
         ∙ (add-mod (coefficient_by same old x)
-              (coefficient_by same (moved_by p ((p - c) % p) φ g) x) p
+        (coefficient_by same (moved_by p ((p - c) % p) φ g) x) p
         ∙ (ap (λ n. (coefficient_by same old x % p + n) % p) (sums x)
         ∙ (sym (add-mod (coefficient_by same old x)
-                ((p - 1) * c * coefficient_by same (map_keys φ g) x) p)
+        ((p - 1) * c * coefficient_by same (map_keys φ g) x) p)
         ∙ ap (λ n. n % p) (sym (linear_sum-append (is_at same x) old
-                (scale ((p - 1) * c) (map_keys φ g)) ∙ ap (λ n. coefficient_by same old x + n)
-                (linear_sum-scale (is_at same x) ((p - 1) * c) (map_keys φ g)))))))
+        (scale ((p - 1) * c) (map_keys φ g)) ∙ ap (λ n. coefficient_by same old x + n)
+        (linear_sum-scale (is_at same x) ((p - 1) * c) (map_keys φ g)))))))
 
 -- for polynomials: it subtracts c u g v
 pub same_subtracted : (p c : ℕ) (u v : Word) (old g : Polynomial) → c < p
@@ -98,10 +98,10 @@ pub same_subtracted_from : (p c : ℕ) (u v : Word) (old kept items g : Polynomi
     → SameSum same_word p items (minus p old c (polynomial_times u g v))
 same_subtracted_from p c u v old kept items g small same is =
     subst (λ (l : Polynomial). SameSum same_word p l (minus p old c (polynomial_times u g v)))
-        (sym is)
+    (sym is)
     (same-trans same_word p (kept ++ multiples_of p ((p - c) % p) u g v)
-          (old ++ multiples_of p ((p - c) % p) u g v) (minus p old c (polynomial_times u g v))
+    (old ++ multiples_of p ((p - c) % p) u g v) (minus p old c (polynomial_times u g v))
     (same-append same_word p kept old (multiples_of p ((p - c) % p) u g v)
-          (multiples_of p ((p - c) % p) u g v) same
-          (same-refl same_word p (multiples_of p ((p - c) % p) u g v)))
+    (multiples_of p ((p - c) % p) u g v) same
+    (same-refl same_word p (multiples_of p ((p - c) % p) u g v)))
     (same_subtracted p c u v old g small))

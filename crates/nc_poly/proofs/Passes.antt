@@ -27,13 +27,13 @@ pub All-front : {X : Type 0} (P : X → Type 0) (zs xs ys : List X) → zs ≡ x
     → All P xs
 All-front P zs xs ys e a =
     All-from_recursion P xs (front_all P xs ys
-      (subst (AllByRecursion P) e (recursion_from_All P zs a)))
+    (subst (AllByRecursion P) e (recursion_from_All P zs a)))
 
 pub All-push : {X : Type 0} (P : X → Type 0) (zs xs : List X) (y : X) → zs ≡ xs ++ y ∷ [] → All P xs
     → P y → All P zs
 All-push P zs xs y e a b =
     All-from_recursion P zs (subst (AllByRecursion P) (sym e)
-      (both_all P xs (y ∷ []) (recursion_from_All P xs a) (b, tt)))
+    (both_all P xs (y ∷ []) (recursion_from_All P xs a) (b, tt)))
 
 pub All-last : {X : Type 0} (P : X → Type 0) (zs xs : List X) (y : X) → zs ≡ xs ++ y ∷ [] → All P zs
     → P y
@@ -54,7 +54,7 @@ pub last_is : {X : Type 0} (zs xs : List X) (y z : X) → slice_get zs (length z
 last_is zs xs y z h e =
     let place : length zs - 1 ≡ length xs = omega (arith, ap length e, length_push xs y) in
     let same : Some y ≡ Some z =
-        sym (at_end xs y) ∙ (ap₂ (λ l i. slice_get l i) (sym e) (sym place) ∙ h) in
+    sym (at_end xs y) ∙ (ap₂ (λ l i. slice_get l i) (sym e) (sym place) ∙ h) in
     cc
 
 pub split_last : {X : Type 0} (zs : List X) (z : X) → slice_get zs (length zs - 1) ≡ Some z
@@ -66,7 +66,7 @@ split_last {X} (y ∷ (x ∷ zs)) z h =
     let inner : length (x ∷ zs) - 1 ≡ length zs = omega arith in
     let at : slice_get (x ∷ zs) (length zs) ≡ Some z = ap (slice_get (y ∷ (x ∷ zs))) place ∙ h in
     let rest : (xs : List X) × (x ∷ zs ≡ xs ++ z ∷ []) =
-        split_last (x ∷ zs) z (ap (slice_get (x ∷ zs)) inner ∙ at) in
+    split_last (x ∷ zs) z (ap (slice_get (x ∷ zs)) inner ∙ at) in
     (y ∷ rest.0, ap (λ l. y ∷ l) rest.1)
 
 pub snoc_same : {X : Type 0} (zs xs ys : List X) (x y : X) → zs ≡ xs ++ x ∷ [] → zs ≡ ys ++ y ∷ []
@@ -125,24 +125,28 @@ module _ {K : Type 0} {cmp : K → K → Ordering} (o : IsTotalOrder cmp) (p pas
           % p ≡ coefficient_by (eq_by_cmp cmp) (listed terms ++ terms_by now_of start) x % p
       each x =
           let lists : listed rest ≡ listed left ++ record { coefficient = c; key = k } ∷ [] =
-              ap listed parts ∙ listed_push left (k, c) in
+          ap listed parts ∙ listed_push left (k, c) in
           let old : linear_sum (F x) (listed rest ++ terms_by now_of now) ≡ linear_sum (F x)
-              (listed left) + (c * F x k + linear_sum (F x) (terms_by now_of now)) =
-          omega (arith, linear_sum-append (F x) (listed rest) (terms_by now_of now),
-                ap (linear_sum (F x)) lists, linear_sum-append (F x) (listed left)
-                (record { coefficient = c; key = k } ∷ [])) in
+          (listed left) + (c * F x k + linear_sum (F x) (terms_by now_of now)) =
+          omega (
+            arith,
+            linear_sum-append (F x) (listed rest) (terms_by now_of now),
+            ap (linear_sum (F x)) lists,
+            linear_sum-append (F x) (listed left)
+                (record { coefficient = c; key = k } ∷ []),
+          ) in
           ap (λ n. n % p) (linear_sum-append (F x) (listed left) (terms_by now_of new))
           ∙ (mod_add_left p (linear_sum (F x) (listed left))
-                (linear_sum (F x) (terms_by now_of new))
-                (c * F x k + linear_sum (F x) (terms_by now_of now))
-                (ap (λ l. linear_sum (F x) (terms_by now_of l) % p) is
-                  ∙ (added_sum o p pass k c now s).at x)
+          (linear_sum (F x) (terms_by now_of new))
+          (c * F x k + linear_sum (F x) (terms_by now_of now))
+          (ap (λ l. linear_sum (F x) (terms_by now_of l) % p) is
+          ∙ (added_sum o p pass k c now s).at x)
           ∙ (ap (λ n. n % p) (sym old) ∙ h.sum.at x))
 
 -- ---- undoing a pass, and forgetting its number
 
 module _ {F K : Type 0} (T : F → K → Slot → Bool → Slot → F → Type 0) (I : F → Type 0) (φ : Slot
-      → ℕ) where
+    → ℕ) where
   -- each call writes what φ reads, and drops nothing but zeros
   abbrev pub Rewrites : Type 0
   Rewrites =
@@ -162,18 +166,18 @@ module _ {F K : Type 0} (T : F → K → Slot → Bool → Slot → F → Type 0
       go true d z q = ap₂ (λ (l : List (Term K)) n. l ++ shown n e.0) q d
       go false d z q =
           q ∙ sym (ap (λ (l : List (Term K)). terms_by φ es ++ l)
-            (shown_zero (φ e.1) e.0 (sym d ∙ z refl)) ∙ append-nil (terms_by φ es))
+          (shown_zero (φ e.1) e.0 (sym d ∙ z refl)) ∙ append-nil (terms_by φ es))
 
 module _ {F K : Type 0} (T : F → K → Slot → Bool → Slot → F → Type 0) (I : F → Type 0) (P Q : Slot
-      → Type 0) where
+    → Type 0) where
   pub retained_all : ((f : F) (k : K) (v : Slot) (b : Bool) (w : Slot) (f' : F) → I f
-        → T f k v b w f' → (P v → Q w) × I f') → (f : F) (es kept : List (K × Slot)) → I f
+      → T f k v b w f' → (P v → Q w) × I f') → (f : F) (es kept : List (K × Slot)) → I f
       → RetainsPairs T f es kept → AllByRecursion (λ e. P e.1) es → AllByRecursion (λ e. Q e.1) kept
   retained_all h f [] kept i r a = subst (AllByRecursion (λ e. Q e.1)) (sym r) tt
   retained_all h f (e ∷ es) kept i (b, w, f', rest, t, r, is) a =
       let said = h f e.0 e.1 b w f' i t in
       subst (AllByRecursion (λ e. Q e.1)) (sym is)
-          (go b (said.0 a.0) (retained_all h f' es rest said.1 r a.1))
+      (go b (said.0 a.0) (retained_all h f' es rest said.1 r a.1))
     where
       go : (b : Bool) → Q w → AllByRecursion (λ e. Q e.1) rest
           → AllByRecursion (λ e. Q e.1) (cond b ((e.0, w) ∷ rest) rest)
@@ -186,7 +190,7 @@ pub dropped : {K : Type 0} (old new : List (K × Slot)) (e : K × Slot) → old 
     → e.1.now ≡ 0 → terms_by now_of new ≡ terms_by now_of old
 dropped {K} old new e is z =
     sym (ap (terms_by now_of) is ∙ (terms_push now_of new e
-        ∙ ap (λ (l : List (Term K)). l ++ terms_by now_of new) (shown_zero e.1.now e.0 z)))
+    ∙ ap (λ (l : List (Term K)). l ++ terms_by now_of new) (shown_zero e.1.now e.0 z)))
 
 pub dropped_last : {K : Type 0} (old new front : List (K × Slot)) (x e : K × Slot)
     → old ≡ new ++ x ∷ [] → old ≡ front ++ e ∷ [] → e.1.now ≡ 0

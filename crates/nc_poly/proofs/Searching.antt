@@ -73,7 +73,7 @@ module _ (w : Word) where
   at_place (t ∷ f) h zero d l e = ap (coefficient (t ∷ f)) e ∙ first_coefficient t f h.1
   at_place (t ∷ f) h (suc i) d l e =
       other_coefficient t f w (λ k. word_irrefl t.key
-        (subst (λ y. IsWordLess y t.key) (sym e ∙ k) (less_at t.key f h.1 i d (omega arith))))
+      (subst (λ y. IsWordLess y t.key) (sym e ∙ k) (less_at t.key f h.1 i d (omega arith))))
       ∙ at_place f h.2 i d (omega arith) e
 
   -- what the search finds
@@ -83,7 +83,7 @@ module _ (w : Word) where
   found f h i l r t e =
       ap (λ (u : Term Word). u.coefficient) e
       ∙ sym (at_place f h i t l (equal (compare_words w (get_or f i t).key)
-          (words_compare w (get_or f i t).key) (r t)))
+      (words_compare w (get_or f i t).key) (r t)))
     where
       equal : (o : Ordering) → MatchOrdering o (IsWordLess w (get_or f i t).key)
           (w ≡ (get_or f i t).key) (IsWordLess (get_or f i t).key w) → o ≡ Equal

@@ -21,11 +21,13 @@ use Rattle.std.specs.Ordering.{match_ordering, ordering_reverse}
 module _ {K : Type 0} where
   -- an entry with a coefficient behind the others gives the first term
   pub first_term : (old new : List (K × Slot)) (k : K) (s : Slot) → old ≡ new ++ (k, s) ∷ []
-      → 0 < s.now → terms_by now_of old ≡ record { coefficient = s.now;
-        key = k } ∷ terms_by now_of new
+      → 0 < s.now → terms_by now_of old ≡ record {
+        coefficient = s.now;
+        key = k;
+      } ∷ terms_by now_of new
   first_term old new k s is some =
       ap (terms_by now_of) is ∙ (terms_push now_of new (k, s)
-        ∙ ap (λ (l : List (Term K)). l ++ terms_by now_of new) (shown_some s.now k some))
+      ∙ ap (λ (l : List (Term K)). l ++ terms_by now_of new) (shown_some s.now k some))
 
   -- the last entry that goes
   pub taken : (old new : List (K × Slot)) (k : K) (s : Slot) → IsTopped old
@@ -39,7 +41,7 @@ module _ {K : Type 0} where
       × (terms_by now_of es ≡ record { coefficient = s.now; key = k } ∷ others)
   top_shown es k s top h =
       let parts : (front : List (K × Slot)) × (es ≡ front ++ (k, s) ∷ []) =
-          split_last es (k, s) h in (terms_by now_of parts.0, taken es parts.0 k s top parts.1)
+      split_last es (k, s) h in (terms_by now_of parts.0, taken es parts.0 k s top parts.1)
 
   pub topped_push : (old new : List (K × Slot)) (k : K) (s : Slot) → new ≡ old ++ (k, s) ∷ []
       → 0 < s.now → IsTopped new
@@ -84,7 +86,7 @@ module _ {K S : Type 0} (cmp : K → K → Ordering) (φ : S → ℕ) where
       where
         go : (b : Bool) → nat_eq c 0 ≡ b
             → Descends cmp (cond {A = List (Term K)} b []
-              (record { coefficient = c; key = k } ∷ []))
+            (record { coefficient = c; key = k } ∷ []))
         go true e = tt
         go false e = (positive c e, tt, tt)
     descends_push (t ∷ f) d a = (d.0, below_push t.key f a.0 d.1, descends_push f d.2 a.1)
@@ -114,11 +116,13 @@ module _ {K : Type 0} {cmp : K → K → Ordering} (o : IsTotalOrder cmp) (k : K
       (flipped e.0 (subst (AllBelow cmp k) (shown_some e.1.now e.0 (top [] e refl)) b).0, tt)
   above (e ∷ (d ∷ es)) top h b =
       let rest =
-          above (d ∷ es) (λ front x is. top (e ∷ front) x (ap (λ l. e ∷ l) is))
-          (sorted_tail cmp e.0 (keys_of (d ∷ es)) h)
-          (below_front (terms_by now_of (d ∷ es)) (shown e.1.now e.0) b) in
-      (flipped e.0 (o.trans e.0 d.0 k (sorted_head cmp e.0 (keys_of (d ∷ es)) h).0
-              (o.antisymm d.0 k ∙ ap ordering_reverse rest.0)), rest)
+      above (d ∷ es) (λ front x is. top (e ∷ front) x (ap (λ l. e ∷ l) is))
+      (sorted_tail cmp e.0 (keys_of (d ∷ es)) h)
+      (below_front (terms_by now_of (d ∷ es)) (shown e.1.now e.0) b) in (
+        flipped e.0 (o.trans e.0 d.0 k (sorted_head cmp e.0 (keys_of (d ∷ es)) h).0
+            (o.antisymm d.0 k ∙ ap ordering_reverse rest.0)),
+        rest,
+      )
 
   appended : (es : List (K × Slot)) → AllByRecursion (λ e. cmp k e.0 ≡ Greater) es
       → insert_entry cmp es k s ≡ es ++ (k, s) ∷ []

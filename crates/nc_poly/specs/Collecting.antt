@@ -25,8 +25,10 @@ left_of t u = cond (same_word t.key u.key) (record { coefficient = 0; key = t.ke
 -- what becomes of u behind t
 abbrev pub gained : ℕ → Term Word → Term Word → Term Word
 gained p t u =
-    cond (same_word t.key u.key) (record { coefficient = (t.coefficient + u.coefficient) % p;
-        key = u.key }) u
+    cond (same_word t.key u.key) (record {
+      coefficient = (t.coefficient + u.coefficient) % p;
+      key = u.key;
+    }) u
 
 -- all coefficients carried on, where t stands first
 abbrev pub carried_behind : ℕ → Term Word → Polynomial → Polynomial

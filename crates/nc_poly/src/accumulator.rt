@@ -46,7 +46,7 @@ fn push_whole_multiple(
     requires few { All (λ t. length u.now + length t.key + length v.now ≤ 200000) g.now }
     requires before { AreResidues p out.old.items }
     ensures appended { OnOk result
-          (out.new.items ≡ out.old.items ++ multiples_of p c u.now g.now v.now) }
+        (out.new.items ≡ out.old.items ++ multiples_of p c u.now g.now v.now) }
     ensures residues { AreResidues p out.new.items }
     ensures err { OnErr result (out.new.items ≡ out.old.items) }
 {
@@ -103,8 +103,8 @@ impl Accumulator {
         requires other_residues { AreResidues p g.now }
         requires few { All (λ t. length u.now + length t.key + length v.now ≤ 200000) g.now }
         ensures difference { OnOk result
-              (SameSum same_word p self.new (minus p self.old c
-                  (polynomial_times u.now g.now v.now))) }
+            (SameSum same_word p self.new (minus p self.old c
+            (polynomial_times u.now g.now v.now))) }
         ensures residues { AreResidues p self.new }
         ensures err { OnErr result (SameSum same_word p self.new self.old) }
     {

@@ -28,8 +28,8 @@ fn carry_pair(p: Prime, terms: &mut Vec<Term>, at: usize)
     ensures residues { AreResidues p terms.new.items }
     ensures long { vec_len terms.new ≡ vec_len terms.old }
     ensures pair { (front rest : Polynomial) (t u : Value Word)
-          → terms.old.items ≡ front ++ t ∷ (u ∷ rest) → length front + 1 ≡ at
-          → terms.new.items ≡ front ++ left_of t u ∷ (gained p t u ∷ rest) }
+        → terms.old.items ≡ front ++ t ∷ (u ∷ rest) → length front + 1 ≡ at
+        → terms.new.items ≡ front ++ left_of t u ∷ (gained p t u ∷ rest) }
 {
     if terms[at - 1].has_word_of(&terms[at]) {
         let c = terms[at - 1].take_coefficient();

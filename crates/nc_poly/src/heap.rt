@@ -65,7 +65,7 @@ impl Heap {
     pub fn greatest(&self) -> Option<(&Word, &Residue)>
         ensures none { IsNone result ↔ (self.now ≡ []) }
         ensures some { IfSome result (λ t. (others : Polynomial)
-                × (self.now ≡ record { coefficient = t.1.now; key = t.0.now } ∷ others)) }
+            × (self.now ≡ record { coefficient = t.1.now; key = t.0.now } ∷ others)) }
     {
         self.sum.greatest()
     }
@@ -97,7 +97,7 @@ impl Heap {
         requires other_residues { AreResidues p g.now }
         requires few { All (λ t. length u.now + length t.key + length v.now ≤ 200000) g.now }
         ensures difference { OnOk result
-              (self.new ≡ normal_form p (minus p self.old c (polynomial_times u.now g.now v.now))) }
+            (self.new ≡ normal_form p (minus p self.old c (polynomial_times u.now g.now v.now))) }
         ensures residues { AreResidues p self.new }
         ensures err { OnErr result (self.new ≡ self.old) }
     {

@@ -24,7 +24,7 @@ pub fn push_multiple(
     requires residues { AreResidues p g.now }
     requires few { All (λ t. length u.now + length t.key + length v.now ≤ 200000) g.now }
     ensures appended { OnOk result
-          (out.new.items ≡ out.old.items ++ multiples_of p c u.now g.now v.now) }
+        (out.new.items ≡ out.old.items ++ multiples_of p c u.now g.now v.now) }
     ensures front { take (length out.old.items) out.new.items ≡ out.old.items }
 {
     for t in g {
@@ -44,7 +44,7 @@ pub fn push_shifted(
 ) -> Result<(), AllocError>
     requires few { All (λ t. length u.now + length t.key + length v.now ≤ 200000) g.now }
     ensures appended { OnOk result
-          (out.new.items ≡ out.old.items ++ map (shifted_of u.now v.now) g.now) }
+        (out.new.items ≡ out.old.items ++ map (shifted_of u.now v.now) g.now) }
 {
     for t in g {
         let term = t.shifted(alloc, u, v)?;
@@ -67,7 +67,7 @@ pub fn push_pairs(
     requires residues { AreResidues p g.now }
     requires few { All (λ t. length u.now + length t.key + length v.now ≤ 200000) g.now }
     ensures appended { OnOk result
-          (listed out.new.items ≡ listed out.old.items ++ multiples_of p c u.now g.now v.now) }
+        (listed out.new.items ≡ listed out.old.items ++ multiples_of p c u.now g.now v.now) }
 {
     for t in g {
         let term = t.multiple(alloc, p, c, u, v)?;

@@ -53,8 +53,8 @@ fn subtract(
     requires other_residues { AreResidues p g.now }
     requires few { All (λ t. length u.now + length t.key + length v.now ≤ 200000) g.now }
     ensures difference { OnOk result
-          (kept.new.items ≡ normal_form p
-            (minus p kept.old.items c (polynomial_times u.now g.now v.now))) }
+        (kept.new.items ≡ normal_form p
+        (minus p kept.old.items c (polynomial_times u.now g.now v.now))) }
     ensures descending { IsDescending kept.old.items → IsDescending kept.new.items }
     ensures residues { AreResidues p kept.new.items }
     ensures err { OnErr result (kept.new.items ≡ kept.old.items) }
@@ -201,7 +201,7 @@ impl Poly {
         requires other_residues { AreResidues p g.now }
         requires few { All (λ t. length u.now + length t.key + length v.now ≤ 200000) g.now }
         ensures difference { OnOk result
-              (self.new ≡ normal_form p (minus p self.old c (polynomial_times u.now g.now v.now))) }
+            (self.new ≡ normal_form p (minus p self.old c (polynomial_times u.now g.now v.now))) }
         ensures residues { AreResidues p self.new }
         ensures err { OnErr result (self.new ≡ self.old) }
     {

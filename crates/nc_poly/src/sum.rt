@@ -85,7 +85,7 @@ fn add_at<K: Ord + Drop>(
     requires residues { AreResiduesBy p (terms_by now_of map.old.entries) }
     requires factor { c < p }
     ensures entries { OnOk result (map.new.entries ≡ insert_entry K.cmp map.old.entries key
-            (added pass p c (unwrap_or (get K.cmp map.old key) (fresh pass)))) }
+        (added pass p c (unwrap_or (get K.cmp map.old key) (fresh pass)))) }
     ensures err { OnErr result (map.new.entries ≡ map.old.entries) }
     ensures ordered { IsOrdered K.cmp map.old }
     ensures ordered_after { IsOrdered K.cmp map.new }
@@ -105,12 +105,12 @@ fn add_each<K: Ord + Drop>(
     requires residues { AreResiduesBy p (terms_by now_of map.old.entries) }
     requires factors { All (λ e. e.1 < p) terms.items }
     ensures sum { OnOk result (SameSum (eq_by_cmp K.cmp) p (terms_by now_of map.new.entries)
-            (listed terms.items ++ terms_by now_of map.old.entries)) }
+        (listed terms.items ++ terms_by now_of map.old.entries)) }
     ensures before { terms_by (before_at pass) map.new.entries ≡ terms_by (before_at pass)
-          map.old.entries }
+        map.old.entries }
     ensures residues { AreResiduesBy p (terms_by now_of map.new.entries) }
     ensures stamps { All (λ e. e.1.pass ≤ pass) map.old.entries
-          → All (λ e. e.1.pass ≤ pass) map.new.entries }
+        → All (λ e. e.1.pass ≤ pass) map.new.entries }
 {
     let mut left = terms;
     while let Some((key, c)) = left.pop() {
@@ -123,7 +123,7 @@ fn add_each<K: Ord + Drop>(
 fn go_back<K: Ord + Drop>(map: &mut BTreeMap<K, Slot>, pass: u64)
     ensures terms { terms_by now_of map.new.entries ≡ terms_by (before_at pass) map.old.entries }
     ensures stamps { All (λ e. e.1.pass ≤ pass) map.old.entries
-          → All (λ e. e.1.pass ≤ pass) map.new.entries }
+        → All (λ e. e.1.pass ≤ pass) map.new.entries }
 {
     map.retain(|_, slot| slot.go_back(pass));
 }
@@ -160,7 +160,7 @@ fn ends_in_zero<K: Ord>(map: &BTreeMap<K, Slot>) -> bool
 fn drop_zeros<K: Ord + Drop>(map: &mut BTreeMap<K, Slot>)
     ensures terms { terms_by now_of map.new.entries ≡ terms_by now_of map.old.entries }
     ensures stamps { (pass : ℕ) → All (λ e. e.1.pass ≤ pass) map.old.entries
-          → All (λ e. e.1.pass ≤ pass) map.new.entries }
+        → All (λ e. e.1.pass ≤ pass) map.new.entries }
     ensures topped { IsTopped map.new.entries }
     ensures ordered { IsOrdered K.cmp map.new }
 {
@@ -180,7 +180,7 @@ fn add_or_go_back<K: Ord + Drop>(
     requires factors { All (λ e. e.1 < p) terms.items }
     requires stamps { All (λ e. e.1.pass < pass) map.old.entries }
     ensures sum { OnOk result (SameSum (eq_by_cmp K.cmp) p (terms_by now_of map.new.entries)
-            (listed terms.items ++ terms_by now_of map.old.entries)) }
+        (listed terms.items ++ terms_by now_of map.old.entries)) }
     ensures residues { AreResiduesBy p (terms_by now_of map.new.entries) }
     ensures stamps { All (λ e. e.1.pass ≤ pass) map.new.entries }
     ensures topped { IsTopped map.new.entries }
@@ -219,8 +219,7 @@ impl<K: Ord> Model for Sum<K> {
 
     ghost view = { λ s. terms_by now_of s.kept.entries };
 
-    ghost invariant =
-        { λ s. IsTopped s.kept.entries × All (λ e. e.1.pass ≤ s.pass) s.kept.entries };
+    ghost invariant = { λ s. IsTopped s.kept.entries × All (λ e. e.1.pass ≤ s.pass) s.kept.entries };
 }
 
 impl<K: Ord> Sum<K> {
@@ -238,7 +237,7 @@ impl<K: Ord> Sum<K> {
     pub fn greatest(&self) -> Option<(&K, &Residue)>
         ensures none { IsNone result ↔ (self.now ≡ []) }
         ensures some { IfSome result (λ t. (others : List (Term _))
-                × (self.now ≡ record { coefficient = t.1.now; key = t.0.now } ∷ others)) }
+            × (self.now ≡ record { coefficient = t.1.now; key = t.0.now } ∷ others)) }
     {
         match self.kept.last_key_value() {
             Some((key, slot)) => Some((key, &slot.now)),
@@ -268,8 +267,10 @@ impl<K: Ord + Drop> Sum<K> {
     pub fn take_greatest(&mut self) -> Option<(K, Residue)>
         ensures none { IsNone result ↔ (self.old ≡ []) }
         ensures unchanged { IsNone result → self.new ≡ self.old }
-        ensures some { IfSome result (λ t. self.old ≡ record { coefficient = t.1;
-                  key = t.0 } ∷ self.new) }
+        ensures some { IfSome result (λ t. self.old ≡ record {
+          coefficient = t.1;
+          key = t.0;
+        } ∷ self.new) }
     {
         match self.kept.pop_last() {
             Some((key, slot)) => {
@@ -285,7 +286,7 @@ impl<K: Ord + Drop> Sum<K> {
         requires residues { AreResiduesBy p self.old }
         requires factors { All (λ e. e.1 < p) terms.items }
         ensures sum { OnOk result (SameSum (eq_by_cmp K.cmp) p self.new
-                (listed terms.items ++ self.old)) }
+            (listed terms.items ++ self.old)) }
         ensures residues { AreResiduesBy p self.new }
         ensures descending { Descends K.cmp self.new }
         ensures err { OnErr result (self.new ≡ self.old) }

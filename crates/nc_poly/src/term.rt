@@ -99,8 +99,10 @@ impl Term {
     pub(crate) fn gain(&mut self, p: Prime, c: Residue)
         requires first { self.old.coefficient < p }
         requires second { c < p }
-        ensures { self.new ≡ record { coefficient = (c + self.old.coefficient) % p;
-                key = self.old.key } }
+        ensures { self.new ≡ record {
+          coefficient = (c + self.old.coefficient) % p;
+          key = self.old.key;
+        } }
     {
         self.coefficient = p.add(c, self.coefficient);
     }
@@ -117,8 +119,10 @@ impl Term {
         requires factor { c < p }
         requires residue { self.now.coefficient < p }
         requires few { length u.now + length self.now.key + length v.now ≤ 200000 }
-        ensures { IfOk result (λ t. t ≡ record { coefficient = (c * self.now.coefficient) % p;
-                  key = u.now ++ (self.now.key ++ v.now) }) }
+        ensures { IfOk result (λ t. t ≡ record {
+          coefficient = (c * self.now.coefficient) % p;
+          key = u.now ++ (self.now.key ++ v.now);
+        }) }
     {
         let word = Word::join(alloc, u, self.word.letters(), v)?;
         Ok(Term::of(p.mul(c, self.coefficient), word))

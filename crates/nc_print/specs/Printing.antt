@@ -55,7 +55,7 @@ poly_text names (t ∷ f) = joined (codes " + ") (map (term_text names) (t ∷ f
 abbrev pub sig_text : List (List ℕ) → Monomial → List ℕ
 sig_text names σ =
     word_text names σ.left ++ (codes " ["
-      ++ (decimal σ.generator ++ (codes "] " ++ word_text names σ.right)))
+    ++ (decimal σ.generator ++ (codes "] " ++ word_text names σ.right)))
 
 -- the monomial alone where the coefficient is 1, else behind the coefficient
 abbrev pub module_term_text : List (List ℕ) → Term Monomial → List ℕ
@@ -81,7 +81,7 @@ printed_weights weights = codes "weights" ++ flat_map (λ m. codes " " ++ decima
 abbrev pub printed_alphabet : Alphabet → List (List ℕ)
 printed_alphabet a =
     names_line a.names ∷ (if list_all (λ m. m == 1) a.weights then [] else printed_weights a.weights
-      ∷ [])
+    ∷ [])
 
 -- a generator behind its keyword
 abbrev pub generator_line : List (List ℕ) → Polynomial → List ℕ
@@ -102,8 +102,8 @@ factor_text (Factor.a_line k) = codes " {" ++ (decimal k ++ codes "} ")
 abbrev pub part_line : List (List ℕ) → Part → List ℕ
 part_line names part =
     codes "part " ++ (decimal part.coefficient
-      ++ (codes " " ++ (word_text names part.left
-          ++ (factor_text part.of ++ word_text names part.right))))
+    ++ (codes " " ++ (word_text names part.left
+    ++ (factor_text part.of ++ word_text names part.right))))
 
 -- the line `line`, and the parts
 abbrev pub printed_line : List (List ℕ) → List Part → List (List ℕ)

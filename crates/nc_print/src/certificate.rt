@@ -33,7 +33,7 @@ fn write_part(out: &mut Vec<u8>, names: &[Name], part: &Part) -> Result<(), Allo
     requires left { All (λ x. x.index < length names.now) part.now.left }
     requires right { All (λ x. x.index < length names.now) part.now.right }
     ensures { OnOk result (out.new.items ≡ out.old.items
-            ++ (part_line names.now part.now ++ 10 ∷ [])) }
+        ++ (part_line names.now part.now ++ 10 ∷ [])) }
 {
     out.extend_from_slice(b"part ")?;
     push_number(out, part.coefficient)?;
@@ -49,7 +49,7 @@ fn write_parts(out: &mut Vec<u8>, names: &[Name], parts: &[Part]) -> Result<(), 
     requires left { All (λ part. All (λ x. x.index < length names.now) part.left) parts.now }
     requires right { All (λ part. All (λ x. x.index < length names.now) part.right) parts.now }
     ensures { OnOk result (out.new.items ≡ out.old.items
-            ++ ended (map (part_line names.now) parts.now)) }
+        ++ ended (map (part_line names.now) parts.now)) }
 {
     for part in parts {
         write_part(out, names, part)?;
@@ -61,8 +61,8 @@ fn write_parts(out: &mut Vec<u8>, names: &[Name], parts: &[Part]) -> Result<(), 
 fn write_line(out: &mut Vec<u8>, names: &[Name], line: &Line) -> Result<(), AllocError>
     requires left { All (λ part. All (λ x. x.index < length names.now) part.left) line.now }
     requires right { All (λ part. All (λ x. x.index < length names.now) part.right) line.now }
-    ensures { OnOk result (out.new.items ≡ out.old.items ++ ended (printed_line names.now line.now))
-          }
+    ensures { OnOk result (out.new.items ≡ out.old.items
+        ++ ended (printed_line names.now line.now)) }
 {
     out.extend_from_slice(b"line\n")?;
     write_parts(out, names, line.parts())
@@ -70,12 +70,13 @@ fn write_line(out: &mut Vec<u8>, names: &[Name], line: &Line) -> Result<(), Allo
 
 /// Appends the lines `line` with their lines `part`.
 pub fn write_lines(out: &mut Vec<u8>, names: &[Name], lines: &[Line]) -> Result<(), AllocError>
-    requires left { All (λ line. All (λ part. All (λ x. x.index < length names.now) part.left) line)
-          lines.now }
+    requires left { All (λ line. All (λ part. All (λ x. x.index < length names.now) part.left)
+        line)
+        lines.now }
     requires right { All (λ line. All (λ part. All (λ x. x.index < length names.now) part.right)
-            line) lines.now }
+        line) lines.now }
     ensures { OnOk result (out.new.items ≡ out.old.items
-            ++ ended (flat_map (printed_line names.now) lines.now)) }
+        ++ ended (flat_map (printed_line names.now) lines.now)) }
 {
     for line in lines {
         write_line(out, names, line)?;
@@ -92,15 +93,15 @@ pub fn write_proof(
     lines: &Lines,
 ) -> Result<(), AllocError>
     requires claim { All (λ t. All (λ x. x.index < length setting.now.alphabet.names) t.key)
-          claim.now }
+        claim.now }
     requires left { All (λ line. All
-            (λ part. All (λ x. x.index < length setting.now.alphabet.names) part.left) line)
-          lines.now }
+        (λ part. All (λ x. x.index < length setting.now.alphabet.names) part.left) line)
+        lines.now }
     requires right { All (λ line. All
-            (λ part. All (λ x. x.index < length setting.now.alphabet.names) part.right) line)
-          lines.now }
+        (λ part. All (λ x. x.index < length setting.now.alphabet.names) part.right) line)
+        lines.now }
     ensures { OnOk result (out.new.items ≡ out.old.items ++ certificate_text
-            (record { setting = setting.now; claim = claim.now; lines = lines.now })) }
+        (record { setting = setting.now; claim = claim.now; lines = lines.now })) }
 {
     let names = setting.names();
     out.extend_from_slice(b"certificate 2\n")?;

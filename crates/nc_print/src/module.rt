@@ -15,7 +15,7 @@ fn write_term(out: &mut Vec<u8>, names: &[Name], t: &ModuleTerm) -> Result<(), A
     requires left { All (λ x. x.index < length names.now) t.now.key.left }
     requires right { All (λ x. x.index < length names.now) t.now.key.right }
     ensures { OnOk result (out.new.items ≡ out.old.items ++ module_term_text names.now
-            (record { coefficient = t.now.coefficient; key = monomial_of t.now.key })) }
+        (record { coefficient = t.now.coefficient; key = monomial_of t.now.key })) }
 {
     let coefficient = t.coefficient;
     if coefficient != 1 {
@@ -30,7 +30,7 @@ fn write_others(out: &mut Vec<u8>, names: &[Name], terms: &[ModuleTerm]) -> Resu
     requires left { All (λ t. All (λ x. x.index < length names.now) t.key.left) terms.now }
     requires right { All (λ t. All (λ x. x.index < length names.now) t.key.right) terms.now }
     ensures { OnOk result (out.new.items ≡ out.old.items ++ flat_map (λ y. codes " + " ++ y)
-            (map (module_term_text names.now) (element_of terms.now))) }
+        (map (module_term_text names.now) (element_of terms.now))) }
 {
     for t in terms {
         out.extend_from_slice(b" + ")?;
@@ -44,7 +44,7 @@ pub fn write_module(out: &mut Vec<u8>, names: &[Name], m: &Module) -> Result<(),
     requires left { All (λ t. All (λ x. x.index < length names.now) t.key.left) m.now }
     requires right { All (λ t. All (λ x. x.index < length names.now) t.key.right) m.now }
     ensures { OnOk result (out.new.items ≡ out.old.items ++ module_text names.now
-            (element_of m.now)) }
+        (element_of m.now)) }
 {
     match m.terms().split_first() {
         None => out.extend_from_slice(b"0"),

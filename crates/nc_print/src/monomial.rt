@@ -14,8 +14,7 @@ use std::alloc::AllocError;
 pub fn write_sig(out: &mut Vec<u8>, names: &[Name], s: &Sig) -> Result<(), AllocError>
     requires left { All (λ x. x.index < length names.now) s.now.left }
     requires right { All (λ x. x.index < length names.now) s.now.right }
-    ensures { OnOk result (out.new.items ≡ out.old.items ++ sig_text names.now (monomial_of s.now))
-          }
+    ensures { OnOk result (out.new.items ≡ out.old.items ++ sig_text names.now (monomial_of s.now)) }
 {
     write_word(out, names, s.left.letters())?;
     out.extend_from_slice(b" [")?;

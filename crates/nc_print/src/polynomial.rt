@@ -30,7 +30,7 @@ fn push_name(out: &mut Vec<u8>, names: &[Name], letter: Letter) -> Result<(), Al
 fn write_factors(out: &mut Vec<u8>, names: &[Name], letters: &[Letter]) -> Result<(), AllocError>
     requires { All (λ x. x.index < length names.now) letters.now }
     ensures { OnOk result (out.new.items ≡ out.old.items ++ flat_map (λ y. codes "*" ++ y)
-            (map (name_of names.now) letters.now)) }
+        (map (name_of names.now) letters.now)) }
 {
     for letter in letters {
         out.push(b'*')?;
@@ -74,7 +74,7 @@ fn write_term(out: &mut Vec<u8>, names: &[Name], t: &Term) -> Result<(), AllocEr
 fn write_others(out: &mut Vec<u8>, names: &[Name], terms: &[Term]) -> Result<(), AllocError>
     requires { All (λ t. All (λ x. x.index < length names.now) t.key) terms.now }
     ensures { OnOk result (out.new.items ≡ out.old.items ++ flat_map (λ y. codes " + " ++ y)
-            (map (term_text names.now) terms.now)) }
+        (map (term_text names.now) terms.now)) }
 {
     for t in terms {
         out.extend_from_slice(b" + ")?;

@@ -18,7 +18,7 @@ pub fn write_poly_line(
 ) -> Result<(), AllocError>
     requires { All (λ t. All (λ x. x.index < length names.now) t.key) f.now }
     ensures { OnOk result (out.new.items ≡ out.old.items
-            ++ (keyword.now ++ poly_text names.now f.now ++ 10 ∷ [])) }
+        ++ (keyword.now ++ poly_text names.now f.now ++ 10 ∷ [])) }
 {
     out.extend_from_slice(keyword)?;
     write_poly(out, names, f)?;
@@ -28,7 +28,7 @@ pub fn write_poly_line(
 /// Appends the names, with a space before each.
 fn push_names(out: &mut Vec<u8>, names: &[Name]) -> Result<(), AllocError>
     ensures { OnOk result (out.new.items ≡ out.old.items ++ flat_map (λ name. codes " " ++ name)
-            names.now) }
+        names.now) }
 {
     for name in names {
         out.push(b' ')?;
@@ -45,7 +45,7 @@ fn write_generators(
 ) -> Result<(), AllocError>
     requires { All (λ f. All (λ t. All (λ x. x.index < length names.now) t.key) f) generators.now }
     ensures { OnOk result (out.new.items ≡ out.old.items
-            ++ ended (map (generator_line names.now) generators.now)) }
+        ++ ended (map (generator_line names.now) generators.now)) }
 {
     for f in generators {
         write_poly_line(out, b"generator ", names, f)?;
@@ -63,7 +63,7 @@ fn are_ones(weights: &[u8]) -> bool
 /// Appends the weights, with a space before each.
 fn push_weights(out: &mut Vec<u8>, weights: &[u8]) -> Result<(), AllocError>
     ensures { OnOk result (out.new.items ≡ out.old.items ++ flat_map (λ m. codes " " ++ decimal m)
-            weights.now) }
+        weights.now) }
 {
     for m in weights {
         out.push(b' ')?;

@@ -17,8 +17,10 @@ fn write_term(out: &mut Vec<u8>, names: &[Name], t: &ModuleTerm) -> Result<(), A
     requires left { All (λ x. x.index < length names.now) t.now.key.left }
     requires right { All (λ x. x.index < length names.now) t.now.key.right }
     ensures { OnOk result (out.new.items ≡ out.old.items
-            ++ (term_line names.now (record { coefficient = t.now.coefficient;
-                key = monomial_of t.now.key }) ++ 10 ∷ [])) }
+        ++ (term_line names.now (record {
+          coefficient = t.now.coefficient;
+          key = monomial_of t.now.key;
+        }) ++ 10 ∷ [])) }
 {
     out.extend_from_slice(b"term ")?;
     push_number(out, t.coefficient)?;
@@ -32,7 +34,7 @@ fn write_each(out: &mut Vec<u8>, names: &[Name], terms: &[ModuleTerm]) -> Result
     requires left { All (λ t. All (λ x. x.index < length names.now) t.key.left) terms.now }
     requires right { All (λ t. All (λ x. x.index < length names.now) t.key.right) terms.now }
     ensures { OnOk result (out.new.items ≡ out.old.items
-            ++ ended (map (term_line names.now) (element_of terms.now))) }
+        ++ ended (map (term_line names.now) (element_of terms.now))) }
 {
     for t in terms {
         write_term(out, names, t)?;
@@ -49,13 +51,13 @@ pub fn write_terms(
     m: &Module,
 ) -> Result<(), AllocError>
     requires claim { All (λ t. All (λ x. x.index < length setting.now.alphabet.names) t.key)
-          claim.now }
+        claim.now }
     requires left { All (λ t. All (λ x. x.index < length setting.now.alphabet.names) t.key.left)
-          m.now }
+        m.now }
     requires right { All (λ t. All (λ x. x.index < length setting.now.alphabet.names) t.key.right)
-          m.now }
+        m.now }
     ensures { OnOk result (out.new.items ≡ out.old.items ++ terms_text setting.now claim.now
-            (element_of m.now)) }
+        (element_of m.now)) }
 {
     let names = setting.names();
     out.extend_from_slice(b"certificate 1\n")?;

@@ -9,10 +9,11 @@ use Rattle.std.proofs.lemmas.List.Elements.{Contains-append_left, Contains-push,
 module _ {A : Type 0} (f : A → Sig) where
   more_of : (xs : List A) (i : ℕ) (x : A) → i < length xs → x ≡ get_or xs i x → (σ : Sig)
       → Contains (map f (take (i + 1) xs)) σ ↔ (Contains (map f (take i xs)) σ ⊎ (σ ≡ f x))
-  more_of xs i x l e σ =
-      (λ c. go (Contains-push_cases (map f (take i xs)) (f x) σ
-          (subst (λ ys. Contains ys σ) grown c)),
-        λ c. subst (λ ys. Contains ys σ) (sym grown) (back c))
+  more_of xs i x l e σ = (
+    λ c. go (Contains-push_cases (map f (take i xs)) (f x) σ
+        (subst (λ ys. Contains ys σ) grown c)),
+    λ c. subst (λ ys. Contains ys σ) (sym grown) (back c),
+  )
     where
       grown : map f (take (i + 1) xs) ≡ map f (take i xs) ++ f x ∷ []
       grown = map_more f xs i x l ∙ ap (λ y. map f (take i xs) ++ f y ∷ []) (sym e)
@@ -48,13 +49,21 @@ module _ {A : Type 0} (f : A → Sig) where
       → x ≡ get_or xs i x → IsDifference old (map f (take i xs)) mid
       → IsDifference mid (f x ∷ []) new → IsDifference old (map f (take (i + 1) xs)) new
   difference_more old mid new xs i x l e d h =
-      λ σ. (λ c. there σ ((h σ).0 c),
-        λ t. (h σ).1 ((d σ).1 (t.0, λ c. t.1 ((more_of xs i x l e σ).1 (inl c))),
-          λ c. t.1 ((more_of xs i x l e σ).1 (inr (only_one (f x) σ c)))))
+      λ σ. (
+        λ c. there σ ((h σ).0 c),
+        λ t. (h σ).1 (
+          (d σ).1 (t.0, λ c. t.1 ((more_of xs i x l e σ).1 (inl c))),
+          λ c. t.1 ((more_of xs i x l e σ).1 (inr (only_one (f x) σ c))),
+        ),
+      )
     where
       there : (σ : Sig) → Contains mid σ × ¬ Contains (f x ∷ []) σ → Contains old σ
           × ¬ Contains (map f (take (i + 1) xs)) σ
-      there σ t =
-          (((d σ).0 t.0).0, λ c. elim ((more_of xs i x l e σ).0 c)
-            [ inl a ↦ ((d σ).0 t.0).1 a | inr k ↦ t.1
-              (subst (λ y. Contains (f x ∷ []) y) (sym k) (Contains-push [] (f x))) ])
+      there σ t = (
+        ((d σ).0 t.0).0,
+        λ c. elim ((more_of xs i x l e σ).0 c) [
+          | inl a ↦ ((d σ).0 t.0).1 a
+          | inr k ↦ t.1
+              (subst (λ y. Contains (f x ∷ []) y) (sym k) (Contains-push [] (f x)))
+        ],
+      )

@@ -30,5 +30,5 @@ least_after_first f ss σ range rest None s e h =
     (passes σ τ l)
 least_after_first f ss σ range rest (Some x) s e h =
     let t = first_passes sigs_order sigs_same (is_after σ) ss (f x.now) (map f rest) s
-        (sym e ∙ ap (map f) h) in
+    (sym e ∙ ap (map f) h) in
     (t.0, less σ (f x.now) t.1, λ ρ c l. t.2 ρ c (passes σ ρ l))

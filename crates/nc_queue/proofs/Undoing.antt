@@ -14,7 +14,7 @@ pub first_ones : {A : Type 0} (f : A → Sig) (n : ℕ) (xs : List A) (σ : Sig)
     → Contains (map f (take n xs)) σ → Contains (map f xs) σ
 first_ones f n xs σ c =
     subst (λ ys. Contains ys σ) (sym (map-append f (take n xs) (drop n xs))
-      ∙ ap (map f) (take-append-drop n xs))
+    ∙ ap (map f) (take-append-drop n xs))
     (Contains-append_left (map f (take n xs)) (map f (drop n xs)) σ c)
 
 -- it is enough to add what is not there

@@ -58,10 +58,18 @@ module _ (P : Problem) where
       back σ (inr u) = inr (u.1 ∙ sym e)
 
   pub unit_sig : (weight i : ℕ) (u v : Word) (τ : Sig)
-      → τ ≡ record { degree = word_weight u + weight + word_weight v;
-        generator = i; left = u; right = v } → u ≡ [] → v ≡ []
+      → τ ≡ record {
+        degree = word_weight u + weight + word_weight v;
+        generator = i;
+        left = u;
+        right = v;
+      } → u ≡ [] → v ≡ []
       → weight ≡ generator_weight P.setting i
       → τ ≡ sig_of (generator_weight P.setting) (unit_monomial i)
   unit_sig weight i u v τ e l r w =
-      e ∙ (λ x. record { degree = word_weight (l x) + w x + word_weight (r x);
-          generator = i; left = l x; right = r x })
+      e ∙ (λ x. record {
+        degree = word_weight (l x) + w x + word_weight (r x);
+        generator = i;
+        left = l x;
+        right = r x;
+      })

@@ -14,7 +14,7 @@ use std::sync::Arc;
 /// Adds this one, if it is not there.
 pub fn insert_one(kept: &mut BTreeSet<Arc<Sig>>, sig: Arc<Sig>) -> Result<(), AllocError>
     ensures added { OnOk result (IsWith (map arc_value kept.old.keys) (arc_value sig)
-            (map arc_value kept.new.keys)) }
+        (map arc_value kept.new.keys)) }
     ensures err { OnErr result (kept.new.keys ≡ kept.old.keys) }
     ensures ascending { IsAscending (map arc_value kept.new.keys) }
 {
@@ -26,9 +26,9 @@ pub fn insert_one(kept: &mut BTreeSet<Arc<Sig>>, sig: Arc<Sig>) -> Result<(), Al
 pub fn insert_each(kept: &mut BTreeSet<Arc<Sig>>, sigs: &[Arc<Sig>]) -> Result<(), AllocError>
     requires { IsAscending (map arc_value kept.old.keys) }
     ensures some { (n : ℕ) × IsUnion (map arc_value kept.old.keys) (map arc_value (take n sigs.now))
-          (map arc_value kept.new.keys) }
+        (map arc_value kept.new.keys) }
     ensures all { OnOk result (IsUnion (map arc_value kept.old.keys) (map arc_value sigs.now)
-            (map arc_value kept.new.keys)) }
+        (map arc_value kept.new.keys)) }
     ensures ascending { IsAscending (map arc_value kept.new.keys) }
 {
     for sig in sigs {
@@ -40,7 +40,7 @@ pub fn insert_each(kept: &mut BTreeSet<Arc<Sig>>, sigs: &[Arc<Sig>]) -> Result<(
 /// Takes this one out, if it is there.
 fn remove_one(kept: &mut BTreeSet<Arc<Sig>>, sig: &Arc<Sig>)
     ensures rest { IsDifference (map arc_value kept.old.keys) (arc_value sig.now ∷ [])
-          (map arc_value kept.new.keys) }
+        (map arc_value kept.new.keys) }
     ensures ascending { IsAscending (map arc_value kept.new.keys) }
 {
     kept.remove(sig);
@@ -50,7 +50,7 @@ fn remove_one(kept: &mut BTreeSet<Arc<Sig>>, sig: &Arc<Sig>)
 pub fn remove_each(kept: &mut BTreeSet<Arc<Sig>>, sigs: &[Arc<Sig>])
     requires { IsAscending (map arc_value kept.old.keys) }
     ensures rest { IsDifference (map arc_value kept.old.keys) (map arc_value sigs.now)
-          (map arc_value kept.new.keys) }
+        (map arc_value kept.new.keys) }
     ensures ascending { IsAscending (map arc_value kept.new.keys) }
 {
     for sig in sigs {
@@ -61,7 +61,7 @@ pub fn remove_each(kept: &mut BTreeSet<Arc<Sig>>, sigs: &[Arc<Sig>])
 /// The least one that is greater than this.
 pub fn least_after<'a>(kept: &'a BTreeSet<Arc<Sig>>, sig: &Arc<Sig>) -> Option<&'a Arc<Sig>>
     ensures { IsLeastAfter (map arc_value kept.now.keys) (arc_value sig.now)
-          (option_map arc_value (option_copied result)) }
+        (option_map arc_value (option_copied result)) }
 {
     kept.range((Bound::Excluded(sig), Bound::Unbounded)).next()
 }

@@ -45,7 +45,7 @@ fn insert_unit(
     requires generator { IsGenerator problem.now.problem.setting number }
     requires ascending { IsAscending (map arc_value kept.old.keys) }
     ensures added { OnOk result (IsWithUnit problem.now.problem number (map arc_value kept.old.keys)
-            (map arc_value kept.new.keys)) }
+        (map arc_value kept.new.keys)) }
     ensures ascending { IsAscending (map arc_value kept.new.keys) }
 {
     let weight = problem.setting().weight(number);
@@ -59,7 +59,7 @@ fn insert_unit(
 /// Those that are not in the set.
 fn without(sigs: Vec<Arc<Sig>>, kept: &BTreeSet<Arc<Sig>>) -> Vec<Arc<Sig>>
     ensures { IsDifference (map arc_value sigs.items) (map arc_value kept.now.keys)
-          (map arc_value result.items) }
+        (map arc_value result.items) }
 {
     let mut fresh = sigs;
     fresh.retain(|sig| !kept.contains(sig));
@@ -70,7 +70,7 @@ impl Waiting {
     /// Those `1 [i] 1` that lie within the problem's bound.
     pub fn of(alloc: Global, problem: &Problem) -> Result<Waiting, AllocError>
         ensures units { IfOk result (λ w. (σ : Value) → Contains w σ
-                ↔ IsUnitWithin problem.now.problem σ) }
+            ↔ IsUnitWithin problem.now.problem σ) }
         ensures ascending { IfOk result IsAscending }
     {
         let mut kept = BTreeSet::new(alloc);
@@ -107,7 +107,7 @@ impl Waiting {
     pub fn least(&self) -> Option<&Arc<Sig>>
         ensures none { IsNone result ↔ (self.now ≡ []) }
         ensures least { IfSome result (λ s. (others : List Value)
-                × (self.now ≡ arc_value s.now ∷ others)) }
+            × (self.now ≡ arc_value s.now ∷ others)) }
         ensures ascending { IsAscending self.now }
     {
         self.kept.first()
@@ -126,7 +126,7 @@ impl Waiting {
     /// The least one that is greater than this.
     pub fn after(&self, sig: &Arc<Sig>) -> Option<&Arc<Sig>>
         ensures { IsLeastAfter self.now (arc_value sig.now)
-              (option_map arc_value (option_copied result)) }
+            (option_map arc_value (option_copied result)) }
     {
         least_after(&self.kept, sig)
     }

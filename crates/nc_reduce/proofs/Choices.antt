@@ -22,9 +22,11 @@ module _ (s : Setting) (entries : List Entry) (β : Sig) (w : Word) (h : Hit)
   module _ (e : Entry) (at : slice_get entries (h.number - 1) ≡ Some e) where
     entry_is : found.0.entry ≡ e
     entry_is =
-        listed_same entries found.0.entry e found.0.listed (h.number - 1,
+        listed_same entries found.0.entry e found.0.listed (
+          h.number - 1,
           slice_get_within entries (h.number - 1) e at,
-          get_or_from_slice_get entries (h.number - 1) e e at) (omega (arith, found.2))
+          get_or_from_slice_get entries (h.number - 1) e e at,
+        ) (omega (arith, found.2))
 
     spells : found.0.left ++ (leading s.prime e.polynomial ++ found.0.right) ≡ w
     spells =
@@ -40,6 +42,6 @@ module _ (s : Setting) (entries : List Entry) (β : Sig) (w : Word) (h : Hit)
         (Some (record { left = u; number = n; right = v }))
     hit_choice u n v stands place number =
         let around : (found.0.left ≡ u) × (found.0.right ≡ v) =
-            one_place (leading s.prime e.polynomial) w found.0.left found.0.right u v spells stands
-            (found.3 ∙ sym place) in
+        one_place (leading s.prime e.polynomial) w found.0.left found.0.right u v spells stands
+        (found.3 ∙ sym place) in
         (found.0, found.1, around.0, found.2 ∙ sym number, around.1)

@@ -19,9 +19,10 @@ use Rattle.std.proofs.Common.{Contains, Err, IfOk, List, Ok, Result, refl, subst
 -- where its degree stands beside it
 below_sig : (s : Setting) (β : Sig) → HasDegree s β → (σ : Monomial) → IsBelowSig s β σ
     ↔ IsLess s σ (monomial_of β)
-below_sig s β h σ =
-    (less_from_sigs s (sig_of (generator_weight s) σ) β refl h,
-      sigs_from_less s (sig_of (generator_weight s) σ) β refl h)
+below_sig s β h σ = (
+  less_from_sigs s (sig_of (generator_weight s) σ) β refl h,
+  sigs_from_less s (sig_of (generator_weight s) σ) β refl h,
+)
 
 pub reduced_at : (s : Setting) (entries : List Entry) (β : Sig) → HasDegree s β
     → {f kept : Polynomial} {steps : List Step} → Reduction s entries (IsBelowSig s β) f kept steps
@@ -35,7 +36,7 @@ pub limit_under : (P : Problem) (β : Sig) → Bound.under (monomial_of β) ≡ 
 limit_under P β is h γ e σ g =
     subst (λ (b : Bound). IsBelowSig P.setting γ σ ↔ IsWithinBound P.setting b σ) is
     (subst (λ (x : Sig). IsBelowSig P.setting x σ
-            ↔ IsWithinBound P.setting (Bound.under (monomial_of β)) σ) (sym e) under)
+    ↔ IsWithinBound P.setting (Bound.under (monomial_of β)) σ) (sym e) under)
   where
     under : IsBelowSig P.setting β σ ↔ IsWithinBound P.setting (Bound.under (monomial_of β)) σ
     under = let b = below_sig P.setting β h σ in (λ l. (g, b.0 l), λ w. b.1 w.1)

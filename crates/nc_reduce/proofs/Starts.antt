@@ -27,8 +27,8 @@ polynomial_at entries (suc i) e h at =
     let same : suc i - 1 ≡ i = omega arith in
     let here : slice_get entries i ≡ Some e = subst (λ k. slice_get entries k ≡ Some e) same at in
     get_or_from_slice_get (map (λ (x : Entry). x.polynomial) entries) i e.polynomial []
-        (slice_get-map (λ (x : Entry). x.polynomial) entries i
-          ∙ ap (option_map (λ (x : Entry). x.polynomial)) here)
+    (slice_get-map (λ (x : Entry). x.polynomial) entries i
+    ∙ ap (option_map (λ (x : Entry). x.polynomial)) here)
 
 -- ---- a generator
 
@@ -47,7 +47,7 @@ module _ (s : Setting) (u v : Word) (e : Entry) (usable : IsUsable s e) where
   shifted_residues =
       All-from_recursion (λ t. t.coefficient < s.prime) (polynomial_times u e.polynomial v)
       (go e.polynomial (recursion_from_All (λ t. t.coefficient < s.prime) e.polynomial
-          usable.normal.1))
+      usable.normal.1))
     where
       go : (f : Polynomial) → AllByRecursion (λ t. t.coefficient < s.prime) f
           → AllByRecursion (λ t. t.coefficient < s.prime) (polynomial_times u f v)
@@ -71,7 +71,7 @@ module _ (s : NamedSetting) (is : IsSetting s) (entries : List Entry)
     subst (λ (f : Polynomial). All (λ t. length u + length t.key + length v ≤ 200000) f)
         (sym (polynomial_at entries j e some at))
         (shifted_few s.setting τ limit u v e (usable_at s.setting entries usable (j - 1) e at)
-          signed),
+        signed),
   )
 
   pub start_normal : (start : Start) → IsStartAt s.setting entries τ start
@@ -79,14 +79,14 @@ module _ (s : NamedSetting) (is : IsSetting s) (entries : List Entry)
   start_normal (Start.a_generator i) h = (text s is i h.0).polynomial.normal
   start_normal (Start.a_multiple u j v) (e, some, at, signed) =
       subst (λ (f : Polynomial). IsNormal s.setting.prime (polynomial_times u f v))
-          (sym (polynomial_at entries j e some at))
-          (shifted_normal s.setting u v e (usable_at s.setting entries usable (j - 1) e at))
+      (sym (polynomial_at entries j e some at))
+      (shifted_normal s.setting u v e (usable_at s.setting entries usable (j - 1) e at))
 
   pub start_small : (start : Start) → IsStartAt s.setting entries τ start
       → HasSmallWords s.setting (start_polynomial s.setting entries start)
   start_small (Start.a_generator i) h = generator_small s is i h.0
   start_small (Start.a_multiple u j v) (e, some, at, signed) =
       subst (λ (f : Polynomial). HasSmallWords s.setting (polynomial_times u f v))
-          (sym (polynomial_at entries j e some at))
-          (shifted_small s.setting τ limit u v e (usable_at s.setting entries usable (j - 1) e at)
-            signed)
+      (sym (polynomial_at entries j e some at))
+      (shifted_small s.setting τ limit u v e (usable_at s.setting entries usable (j - 1) e at)
+      signed)

@@ -36,9 +36,11 @@ use Rattle.std.specs.List.{All, slice_get}
 rest_is : (p : ℕ) (t : Term Word) (f : Polynomial) → IsNormal p (t ∷ f)
     → f ≡ normal_form p (minus p (t ∷ f) 1 (t ∷ []))
 rest_is p t f n =
-    normal_form_only p (minus p (t ∷ f) 1 (t ∷ [])) f some (n.0.2,
+    normal_form_only p (minus p (t ∷ f) 1 (t ∷ [])) f some (
+      n.0.2,
       All-from_recursion (λ u. u.coefficient < p) f
-      (recursion_from_All (λ u. u.coefficient < p) (t ∷ f) n.1).1) (record { at = same })
+          (recursion_from_All (λ u. u.coefficient < p) (t ∷ f) n.1).1,
+    ) (record { at = same })
   where
     some : 0 < p
     some = omega (arith, (recursion_from_All (λ u. u.coefficient < p) (t ∷ f) n.1).0)
@@ -49,30 +51,30 @@ rest_is p t f n =
     same : (w : Word) → coefficient f w % p ≡ coefficient (minus p (t ∷ f) 1 (t ∷ [])) w % p
     same w =
         sym (ap (λ n. n % p) (coefficient-minus same_word IsWordLess word_laws p (t ∷ f) 1 (t ∷ [])
-            w ∙ whole (p - 1) (t.coefficient * is_at same_word w t.key) (coefficient f w)
-            (omega (arith, some))) ∙ add-mul-mod_self_left _ _ _)
+        w ∙ whole (p - 1) (t.coefficient * is_at same_word w t.key) (coefficient f w)
+        (omega (arith, some))) ∙ add-mul-mod_self_left _ _ _)
 
 -- a polynomial with this greatest term, and what the leads give for its word x
 module _ (law : LeadsLaw) (s : Setting) (entries : List Entry) (usable : All (IsUsable s) entries)
     (β : Sig) (leads : List Lead) (are : leads ≡ leads_of s entries)
     (old : Polynomial) (normal : IsNormal s.prime old) (t : Term Word) (others : Polynomial)
-        (parts : old ≡ t ∷ others) (x : Word) (is_word : x ≡ t.key) where
+    (parts : old ≡ t ∷ others) (x : Word) (is_word : x ≡ t.key) where
   chosen : (answer : Option Hit) → IsFirstRegular leads x β answer
       → IsChosen s entries t.key β answer
   chosen answer first =
       law s entries t.key β answer (subst (λ l. IsFirstRegular l t.key β answer) are
-        (subst (λ w. IsFirstRegular leads w β answer) is_word first))
+      (subst (λ w. IsFirstRegular leads w β answer) is_word first))
 
   pub none_turn : IsFirstRegular leads x β None → (u : Term Word) (new : Polynomial) → old ≡ u ∷ new
       → IsKept s entries (IsBelowSig s β) old new u
   none_turn none u new e =
       let same : t.key ≡ u.key =
-          ap (λ (y : Term Word). y.key) (let h : t ∷ others ≡ u ∷ new = sym parts ∙ e in
-            let i : t ≡ u = cc in i) in
+      ap (λ (y : Term Word). y.key) (let h : t ∷ others ≡ u ∷ new = sym parts ∙ e in
+      let i : t ≡ u = cc in i) in
       kept_turn s entries usable (IsBelowSig s β) old u new e normal t.key new same
-          (chosen None none)
+      (chosen None none)
       (rest_is s.prime u new (subst (IsNormal s.prime) e normal)
-            ∙ ap (λ f. normal_form s.prime (minus s.prime f 1 (u ∷ []))) (sym e))
+      ∙ ap (λ f. normal_form s.prime (minus s.prime f 1 (u ∷ []))) (sym e))
 
   module _ (h : Hit) (first : IsFirstRegular leads x β (Some h)) where
     found : IsChosen s entries t.key β (Some h)
@@ -120,7 +122,7 @@ module _ (law : LeadsLaw) (s : Setting) (entries : List Entry) (usable : All (Is
 
         read : e ≡ get_or entries (step.number - 1) e
         read = sym (get_or_from_slice_get entries (step.number - 1) e e
-              (ap (λ n. slice_get entries (n - 1)) number ∙ at))
+            (ap (λ n. slice_get entries (n - 1)) number ∙ at))
 
         pub step_few : HasSmallWords s old
             → All (λ y. length step.left + length y.key + length step.right ≤ 200000) f
@@ -131,17 +133,17 @@ module _ (law : LeadsLaw) (s : Setting) (entries : List Entry) (usable : All (Is
         pub hit_turn : (new : Polynomial) → step.coefficient < p
             → step.coefficient * coefficient f (leading p f) % p ≡ t.coefficient
             → new ≡ normal_form p (minus p old step.coefficient
-              (polynomial_times step.left f step.right))
+            (polynomial_times step.left f step.right))
             → IsSubtracted s entries (IsBelowSig s β) old new step
         hit_turn new small cancels rest =
             subtracted_turn s entries usable (IsBelowSig s β) old t others parts normal t.key refl
-                choice is_choice e read f of_entry new step.coefficient step.left step.right
+            choice is_choice e read f of_entry new step.coefficient step.left step.right
             (subst (λ q. step.coefficient < q) is_prime small)
-                (subst (λ q. step.coefficient * coefficient f (leading q f) % q ≡ t.coefficient)
-                  is_prime cancels) refl refl
+            (subst (λ q. step.coefficient * coefficient f (leading q f) % q ≡ t.coefficient)
+            is_prime cancels) refl refl
             (subst (λ q. new ≡ normal_form q
-                    (minus q old step.coefficient (polynomial_times step.left f step.right)))
-                  is_prime rest)
+            (minus q old step.coefficient (polynomial_times step.left f step.right)))
+            is_prime rest)
 
 -- what is left
 module _ (s : Setting) (field : IsField s.prime) (entries : List Entry)

@@ -47,8 +47,8 @@ fn reduce_all(
     requires normal { IsNormal snapshot.now.problem.problem.setting.prime f }
     requires small { HasSmallWords snapshot.now.problem.problem.setting f }
     ensures { IfOk result (λ r. Reduction snapshot.now.problem.problem.setting
-            snapshot.now.state.entries (IsBelowSig snapshot.now.problem.problem.setting bound.now) f
-            r.0 r.1) }
+        snapshot.now.state.entries (IsBelowSig snapshot.now.problem.problem.setting bound.now) f
+        r.0 r.1) }
 {
     let p = prime_of(snapshot);
     let mut kept = Vec::new(alloc);
@@ -81,12 +81,12 @@ pub fn reduce(
     requires degree { HasDegree snapshot.now.problem.problem.setting sig.now }
     requires usable { IsUsableSignature snapshot.now.problem.problem.setting (monomial_of sig.now) }
     requires start { IsStartAt snapshot.now.problem.problem.setting snapshot.now.state.entries
-          (monomial_of sig.now) (start_of start) }
+        (monomial_of sig.now) (start_of start) }
     ensures start { IfOk result (λ r. r.trace.start ≡ start_of start) }
     ensures reduction { IfOk result
-          (λ r. ReductionAt snapshot.now.problem.problem.setting snapshot.now.state.entries
-            (monomial_of sig.now) (start_polynomial snapshot.now.problem.problem.setting
-              snapshot.now.state.entries (start_of start)) r.poly r.trace.steps) }
+        (λ r. ReductionAt snapshot.now.problem.problem.setting snapshot.now.state.entries
+        (monomial_of sig.now) (start_polynomial snapshot.now.problem.problem.setting
+        snapshot.now.state.entries (start_of start)) r.poly r.trace.steps) }
 {
     snapshot.recall_rule();
     let f = start_poly(alloc, snapshot, &start)?;
@@ -110,8 +110,8 @@ pub fn reduce_within(
     requires normal { IsNormal snapshot.now.problem.problem.setting.prime claim.now }
     requires small { HasSmallWords snapshot.now.problem.problem.setting claim.now }
     ensures { IfOk result (λ r. Reduction snapshot.now.problem.problem.setting
-            snapshot.now.state.entries (IsWithin snapshot.now.problem.problem) claim.now r.poly
-            r.steps) }
+        snapshot.now.state.entries (IsWithin snapshot.now.problem.problem) claim.now r.poly
+        r.steps) }
 {
     snapshot.recall_rule();
     let limit = limit_of(alloc, snapshot)?;

@@ -15,9 +15,9 @@ pub(crate) fn start_poly(
     start: &Start,
 ) -> Result<Poly, AllocError>
     requires { IsReadable snapshot.now.problem.problem.setting snapshot.now.state.entries
-          (start_of start.now) }
+        (start_of start.now) }
     ensures { IfOk result (λ f. f ≡ start_polynomial snapshot.now.problem.problem.setting
-            snapshot.now.state.entries (start_of start.now)) }
+        snapshot.now.state.entries (start_of start.now)) }
 {
     match start {
         Start::Generator(number) => snapshot.problem().setting().generator(*number).copy(),

@@ -82,7 +82,7 @@ pub(crate) fn step_at(
     ensures number { IfOk result (λ s. s.number ≡ hit.number) }
     ensures below { IfOk result (λ s. s.coefficient < p) }
     ensures cancels { IfOk result (λ s. s.coefficient * coefficient divisor.now
-            (leading p divisor.now) % p ≡ c) }
+        (leading p divisor.now) % p ≡ c) }
 {
     let lead = lead_of(p, divisor);
     let coefficient = quotient(p, c, coefficient_of(lead));
@@ -109,10 +109,10 @@ pub(crate) fn subtract(
     requires residues { AreResidues p rest.old }
     requires other_residues { AreResidues p divisor.now }
     requires few { All (λ t. length step.now.left + length t.key + length step.now.right ≤ 200000)
-          divisor.now }
+        divisor.now }
     ensures { OnOk result (rest.new ≡ normal_form p
-            (minus p rest.old step.now.coefficient
-              (polynomial_times step.now.left divisor.now step.now.right))) }
+        (minus p rest.old step.now.coefficient
+        (polynomial_times step.now.left divisor.now step.now.right))) }
 {
     let left = step.left.letters();
     let right = step.right.letters();

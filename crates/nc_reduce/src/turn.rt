@@ -55,7 +55,7 @@ pub(crate) fn take_turn(
     requires some { rest.old ≢ [] }
     requires small { HasSmallWords snapshot.now.problem.problem.setting rest.old }
     ensures turn { IfOk result (IsTurn snapshot.now.problem.problem.setting
-            snapshot.now.state.entries bound.now rest.old rest.new) }
+        snapshot.now.state.entries bound.now rest.old rest.new) }
 {
     leads_law();
     let p = prime_of(snapshot);

@@ -64,7 +64,7 @@ module _ (s : Snapshot) (h : IsSnapshot s) where
             → IsMonomialIn s.problem.alphabet τ
         go (IsEnd.is_budget i runs σ next) =
             over.candidates τ (moved_candidate s.problem.problem e.run s.state
-              (sym (same_run s.state e.run e.stands)) τ next.candidate)
+            (sym (same_run s.state e.run e.stands)) τ next.candidate)
 
     next_left : IsNamed s.problem.alphabet τ.left
     next_left = named s.problem.alphabet τ.left next_over.0

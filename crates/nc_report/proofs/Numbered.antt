@@ -14,9 +14,9 @@ module _ {X : Type 0} (lines : ℕ → X → List (List ℕ)) where
   numbered-append k [] ys = ap (λ (m : ℕ). numbered lines m ys) (omega arith)
   numbered-append k (x ∷ xs) ys =
       ap (λ (ls : List (List ℕ)). lines k x ++ ls) (numbered-append (k + 1) xs ys
-            ∙ ap (λ (m : ℕ). numbered lines (k + 1) xs ++ numbered lines m ys) (omega arith))
+      ∙ ap (λ (m : ℕ). numbered lines (k + 1) xs ++ numbered lines m ys) (omega arith))
       ∙ sym (append_assoc (lines k x) (numbered lines (k + 1) xs)
-            (numbered lines (k + length (x ∷ xs)) ys))
+      (numbered lines (k + length (x ∷ xs)) ys))
 
   module _ (xs : List X) (i : ℕ) (x : X) (within : i < length xs)
       (at : slice_get xs (i + 1 - 1) ≡ Some x) where
@@ -29,8 +29,8 @@ module _ {X : Type 0} (lines : ℕ → X → List (List ℕ)) where
         ap (numbered lines 1) (take_more xs i x within)
         ∙ (numbered-append 1 (take i xs) (get_or xs i x ∷ [])
         ∙ ap (λ (ls : List (List ℕ)). numbered lines 1 (take i xs) ++ ls)
-            (append-nil (lines (1 + length (take i xs)) (get_or xs i x))
-              ∙ (λ j. lines (place j) (get_or_from_slice_get xs i x x here j))))
+        (append-nil (lines (1 + length (take i xs)) (get_or xs i x))
+        ∙ (λ j. lines (place j) (get_or_from_slice_get xs i x x here j))))
       where
         place : 1 + length (take i xs) ≡ i + 1
         place = omega (arith, length-take-le i xs (omega (arith, within)), within)
@@ -44,14 +44,14 @@ module _ {X : Type 0} (lines : ℕ → X → List (List ℕ)) where
         now ∙ (ap (λ (l : List ℕ). l ++ ended (lines (i + 1) x)) so_far
         ∙ (append_assoc old (ended (numbered lines 1 (take i xs))) (ended (lines (i + 1) x))
         ∙ ap (λ (l : List ℕ). old ++ l)
-            (sym (ap ended numbered_more ∙ flat_map-append (λ (l : List ℕ). l ++ 10 ∷ [])
-                (numbered lines 1 (take i xs)) (lines (i + 1) x)))))
+        (sym (ap ended numbered_more ∙ flat_map-append (λ (l : List ℕ). l ++ 10 ∷ [])
+        (numbered lines 1 (take i xs)) (lines (i + 1) x)))))
 
   -- the same where the lines of the next item are known, whatever it is
   pub written_next : (xs : List X) (i : ℕ) → i < length xs → (old before after : List ℕ)
       → before ≡ old ++ ended (numbered lines 1 (take i xs))
       → ((x : X) → slice_get xs (i + 1 - 1) ≡ Some x → after ≡ before ++ ended (lines (i + 1) x))
-          → after ≡ old ++ ended (numbered lines 1 (take (i + 1) xs))
+      → after ≡ old ++ ended (numbered lines 1 (take (i + 1) xs))
   written_next xs i within old before after so_far more = go (slice_get_cases xs i).1
     where
       go : ((x : X) × (i < length xs) × (slice_get xs i ≡ Some x) × (get_or xs i x ≡ x))
@@ -59,7 +59,7 @@ module _ {X : Type 0} (lines : ℕ → X → List (List ℕ)) where
           → after ≡ old ++ ended (numbered lines 1 (take (i + 1) xs))
       go (inl (x, here, at, same)) =
           let place : slice_get xs (i + 1 - 1) ≡ Some x =
-              subst (λ (j : ℕ). slice_get xs j ≡ Some x) (omega arith) at in
+          subst (λ (j : ℕ). slice_get xs j ≡ Some x) (omega arith) at in
           written_more xs i x within place old before after so_far (more x place)
       go (inr (past, none)) = absurd (omega (arith, past, within))
 
@@ -73,7 +73,7 @@ module _ {X : Type 0} (lines : ℕ → X → List (List ℕ)) where
 pub complete_line : {T E : Type 0} (r : Result T E) (new old : List ℕ) (names : List (List ℕ))
     (ending : End) → End.complete ≡ ending
     → OnOk r ((any : List (List ℕ)) → new ≡ old ++ (ending_line any End.complete ++ 10 ∷ []))
-        → OnOk r (new ≡ old ++ (ending_line names ending ++ 10 ∷ []))
+    → OnOk r (new ≡ old ++ (ending_line names ending ++ 10 ∷ []))
 complete_line (Ok x) new old names ending is all =
     all names ∙ ap (λ (e : End). old ++ (ending_line names e ++ 10 ∷ [])) is
 complete_line (Err e) new old names ending is all = tt

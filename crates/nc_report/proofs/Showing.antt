@@ -56,8 +56,8 @@ module _ (s : Snapshot) (h : IsSnapshot s) where
   cofactors_over : (run : State) → IsRunAt s run → (listed : Listed) →
       ((t : Trace) → IsTraceIn run listed t → IsTraceOver s.problem.alphabet t)
       × ((m : List (Term Sig)) → IsLabelOf s.problem.problem.setting run listed m
-            → All (λ t. IsWordIn s.problem.alphabet t.key.left) m
-            × All (λ t. IsWordIn s.problem.alphabet t.key.right) m)
+      → All (λ t. IsWordIn s.problem.alphabet t.key.left) m
+      × All (λ t. IsWordIn s.problem.alphabet t.key.right) m)
   cofactors_over run a listed =
       all_over s.problem h.problem (snapshot_prime s h) s.handled run a.0 a.1 listed
 
@@ -118,20 +118,20 @@ module _ (s : Snapshot) (h : IsSnapshot s) where
         label_right (EntryOf k) are.entries_are.run entries_run m (entry_is k m some at)
 
     module _ (k : ℕ) (m : List (Term Sig)) (some : 1 ≤ k) (at : slice_get syzygies (k - 1) ≡ Some m)
-        where
-      syzygy_is : IsLabelOf s.problem.problem.setting are.syzygies_are.run (SyzygyOf k) m
-      syzygy_is = are.syzygies_are.are k m some at
+      where
+        syzygy_is : IsLabelOf s.problem.problem.setting are.syzygies_are.run (SyzygyOf k) m
+        syzygy_is = are.syzygies_are.are k m some at
 
-      pub syzygy_label : element_of m ≡ label_among entries syzygies (SyzygyOf k)
-      syzygy_label = ap element_of (sym (get_or_from_slice_get syzygies (k - 1) m [] at))
+        pub syzygy_label : element_of m ≡ label_among entries syzygies (SyzygyOf k)
+        syzygy_label = ap element_of (sym (get_or_from_slice_get syzygies (k - 1) m [] at))
 
-      pub syzygy_label_left : All (λ t. All (λ x. x.index < length s.problem.alphabet.names)
+        pub syzygy_label_left : All (λ t. All (λ x. x.index < length s.problem.alphabet.names)
             t.key.left) m
-      syzygy_label_left = label_left (SyzygyOf k) are.syzygies_are.run syzygies_run m syzygy_is
+        syzygy_label_left = label_left (SyzygyOf k) are.syzygies_are.run syzygies_run m syzygy_is
 
-      pub syzygy_label_right : All (λ t. All (λ x. x.index < length s.problem.alphabet.names)
+        pub syzygy_label_right : All (λ t. All (λ x. x.index < length s.problem.alphabet.names)
             t.key.right) m
-      syzygy_label_right = label_right (SyzygyOf k) are.syzygies_are.run syzygies_run m syzygy_is
+        syzygy_label_right = label_right (SyzygyOf k) are.syzygies_are.run syzygies_run m syzygy_is
 
   -- ---- the lines of an item
 
@@ -170,8 +170,8 @@ module _ (s : Snapshot) (h : IsSnapshot s) where
     pub counts_same : counts_line s.handled s.state ≡ counts_line s.handled run
     counts_same =
         ap (counts_line s.handled) (stands run a)
-            ∙ rw (length-map run.entries untraced_entry, length-map run.syzygies untraced_syzygy)
-            refl
+        ∙ rw (length-map run.entries untraced_entry, length-map run.syzygies untraced_syzygy)
+        refl
 
 -- the line of an item, and what is shown behind it
 pub behind : (old middle new line : List ℕ) (lines : List (List ℕ))
@@ -179,7 +179,7 @@ pub behind : (old middle new line : List ℕ) (lines : List (List ℕ))
     → new ≡ old ++ ended (line ∷ lines)
 behind old middle new line lines one two =
     two ∙ (ap (λ (l : List ℕ). l ++ ended lines) one
-      ∙ append_assoc old (line ++ 10 ∷ []) (ended lines))
+    ∙ append_assoc old (line ++ 10 ∷ []) (ended lines))
 
 -- the pieces of a report in a row
 pub in_a_row : (old first second third last ending counts : List ℕ) (es hs : List (List ℕ))
@@ -188,16 +188,16 @@ pub in_a_row : (old first second third last ending counts : List ℕ) (es hs : L
     → last ≡ old ++ ended (ending ∷ counts ∷ (es ++ hs))
 in_a_row old first second third last ending counts es hs one two three four =
     four ∙ (ap (λ (l : List ℕ). l ++ ended hs)
-          (three ∙ ap (λ (l : List ℕ). l ++ ended es)
-            (two ∙ ap (λ (l : List ℕ). l ++ (counts ++ 10 ∷ [])) one))
-          ∙ simp (flat_map-append, append_assoc))
+    (three ∙ ap (λ (l : List ℕ). l ++ ended es)
+    (two ∙ ap (λ (l : List ℕ). l ++ (counts ++ 10 ∷ [])) one))
+    ∙ simp (flat_map-append, append_assoc))
 
 -- a heading and a text as one line
 pub line_of : (old first second new heading text : List ℕ) → first ≡ old ++ heading
     → second ≡ first ++ text → new ≡ second ++ 10 ∷ [] → new ≡ old ++ ended ((heading ++ text) ∷ [])
 line_of old first second new heading text one two three =
     three ∙ (ap (λ (l : List ℕ). l ++ 10 ∷ []) (two ∙ ap (λ (l : List ℕ). l ++ text) one)
-          ∙ simp (append_assoc, append-nil))
+    ∙ simp (append_assoc, append-nil))
 
 -- what holds where a last piece was written
 pub written_ok : {T E P : Type 0} (r : Result T E) (new old piece : List ℕ)
@@ -210,8 +210,8 @@ pub trace_line : (run : State) (listed : Listed) (t t' : Trace) → IsTraceIn ru
     → IsTraceIn run listed t' → (old first second new : List ℕ) (names names' : List (List ℕ))
     (label : Element) → names ≡ names'
     → first ≡ old ++ codes "trace " → second ≡ first ++ trace_text names t → new ≡ second ++ 10 ∷ []
-        → new ≡ old ++ ended (cofactor_lines TraceOf names' t' label)
+    → new ≡ old ++ ended (cofactor_lines TraceOf names' t' label)
 trace_line run listed t t' a b old first second new names names' label same one two three =
     line_of old first second new (codes "trace ") (trace_text names t) one two three
-        ∙ (λ j. old ++ ended ((codes "trace " ++ trace_text (same j)
-              (trace_once run listed t t' a b j)) ∷ []))
+    ∙ (λ j. old ++ ended ((codes "trace " ++ trace_text (same j)
+    (trace_once run listed t t' a b j)) ∷ []))

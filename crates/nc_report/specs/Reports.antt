@@ -39,7 +39,7 @@ counts_line handled state =
 abbrev pub entry_line : List (List ℕ) → ℕ → Entry → List ℕ
 entry_line names k e =
     codes "entry " ++ (decimal k ++ (codes ": "
-        ++ (sig_text names e.signature ++ (codes " : " ++ poly_text names e.polynomial))))
+    ++ (sig_text names e.signature ++ (codes " : " ++ poly_text names e.polynomial))))
 
 -- a syzygy with its number: its signature
 abbrev pub syzygy_line : List (List ℕ) → ℕ → Syzygy → List ℕ

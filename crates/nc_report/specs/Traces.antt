@@ -23,7 +23,7 @@ start_text names (Start.a_multiple u j v) = multiple_text names u j v
 abbrev pub step_text : List (List ℕ) → Step → List ℕ
 step_text names t =
     codes " - " ++ (decimal t.coefficient
-      ++ (codes "*" ++ multiple_text names t.left t.number t.right))
+    ++ (codes "*" ++ multiple_text names t.left t.number t.right))
 
 -- the start, and the steps in their order
 abbrev pub trace_text : List (List ℕ) → Trace → List ℕ

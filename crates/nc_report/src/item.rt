@@ -21,7 +21,7 @@ pub(crate) fn write_entry(
     requires right { All (λ x. x.index < length names.now) entry.now.sig.right }
     requires words { All (λ t. All (λ x. x.index < length names.now) t.key) entry.now.polynomial }
     ensures { OnOk result (out.new.items ≡ out.old.items
-            ++ (entry_line names.now number (entry_of entry.now) ++ 10 ∷ [])) }
+        ++ (entry_line names.now number (entry_of entry.now) ++ 10 ∷ [])) }
 {
     out.extend_from_slice(b"entry ")?;
     push_number(out, number)?;
@@ -43,7 +43,7 @@ pub(crate) fn write_syzygy(
     requires left { All (λ x. x.index < length names.now) syzygy.now.left }
     requires right { All (λ x. x.index < length names.now) syzygy.now.right }
     ensures { OnOk result (out.new.items ≡ out.old.items
-            ++ (syzygy_line names.now number (syzygy_of syzygy.now) ++ 10 ∷ [])) }
+        ++ (syzygy_line names.now number (syzygy_of syzygy.now) ++ 10 ∷ [])) }
 {
     out.extend_from_slice(b"syzygy ")?;
     push_number(out, number)?;

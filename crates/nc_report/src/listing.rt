@@ -31,10 +31,10 @@ fn write_entry_lines(
     requires some { 1 ≤ n }
     requires within { n ≤ length snapshot.now.state.entries }
     ensures { OnOk result ((run : State) (e : EntryOf) → IsRunAt snapshot.now run
-            → slice_get run.entries (n - 1) ≡ Some e
-            → out.new.items ≡ out.old.items
-            ++ ended (entry_lines (kind_of shown.now) snapshot.now.problem.alphabet.names
-              (labels_in shown.now) n e)) }
+        → slice_get run.entries (n - 1) ≡ Some e
+        → out.new.items ≡ out.old.items
+        ++ ended (entry_lines (kind_of shown.now) snapshot.now.problem.alphabet.names
+        (labels_in shown.now) n e)) }
 {
     snapshot.recall_rule();
     let names = names_of(snapshot);
@@ -56,10 +56,10 @@ fn write_syzygy_lines(
     requires some { 1 ≤ n }
     requires within { n ≤ length snapshot.now.state.syzygies }
     ensures { OnOk result ((run : State) (h : SyzygyOf) → IsRunAt snapshot.now run
-            → slice_get run.syzygies (n - 1) ≡ Some h
-            → out.new.items ≡ out.old.items
-            ++ ended (syzygy_lines (kind_of shown.now) snapshot.now.problem.alphabet.names
-              (labels_in shown.now) n h)) }
+        → slice_get run.syzygies (n - 1) ≡ Some h
+        → out.new.items ≡ out.old.items
+        ++ ended (syzygy_lines (kind_of shown.now) snapshot.now.problem.alphabet.names
+        (labels_in shown.now) n h)) }
 {
     snapshot.recall_rule();
     let names = names_of(snapshot);
@@ -78,9 +78,9 @@ fn write_entries(
     requires leads { LeadsOf snapshot.now leads.now }
     requires shown { IsShownOf snapshot.now shown.now }
     ensures { OnOk result ((run : State) → IsRunAt snapshot.now run
-            → out.new.items ≡ out.old.items
-            ++ ended (numbered (entry_lines (kind_of shown.now) snapshot.now.problem.alphabet.names
-                (labels_in shown.now)) 1 run.entries)) }
+        → out.new.items ≡ out.old.items
+        ++ ended (numbered (entry_lines (kind_of shown.now) snapshot.now.problem.alphabet.names
+        (labels_in shown.now)) 1 run.entries)) }
 {
     snapshot.recall_rule();
     for index in 0..snapshot.entries() {
@@ -100,9 +100,9 @@ fn write_syzygies(
     requires leads { LeadsOf snapshot.now leads.now }
     requires shown { IsShownOf snapshot.now shown.now }
     ensures { OnOk result ((run : State) → IsRunAt snapshot.now run
-            → out.new.items ≡ out.old.items
-            ++ ended (numbered (syzygy_lines (kind_of shown.now) snapshot.now.problem.alphabet.names
-                (labels_in shown.now)) 1 run.syzygies)) }
+        → out.new.items ≡ out.old.items
+        ++ ended (numbered (syzygy_lines (kind_of shown.now) snapshot.now.problem.alphabet.names
+        (labels_in shown.now)) 1 run.syzygies)) }
 {
     snapshot.recall_rule();
     for index in 0..snapshot.syzygies() {
@@ -114,8 +114,8 @@ fn write_syzygies(
 /// Appends the end line.
 fn write_end(out: &mut Vec<u8>, finished: &Finished) -> Result<(), AllocError>
     ensures { OnOk result (out.new.items ≡ out.old.items
-            ++ (ending_line finished.now.snapshot.problem.alphabet.names finished.now.ending ++ 10
-              ∷ [])) }
+        ++ (ending_line finished.now.snapshot.problem.alphabet.names finished.now.ending ++ 10
+        ∷ [])) }
 {
     let snapshot = finished.snapshot();
     snapshot.recall_rule();
@@ -126,16 +126,12 @@ fn write_end(out: &mut Vec<u8>, finished: &Finished) -> Result<(), AllocError>
 }
 
 /// The report on a run that came to its end.
-pub fn report_on(
-    alloc: Global,
-    finished: &Finished,
-    shown: &Shown,
-) -> Result<Vec<u8>, AllocError>
+pub fn report_on(alloc: Global, finished: &Finished, shown: &Shown) -> Result<Vec<u8>, AllocError>
     requires shown { IsShownOf finished.now.snapshot shown.now }
     ensures { IfOk result (λ report. (run : State) → IsRunAt finished.now.snapshot run
-            → report.items ≡ basis_report (kind_of shown.now)
-            finished.now.snapshot.problem.alphabet.names (labels_in shown.now)
-            finished.now.snapshot.handled run finished.now.ending) }
+        → report.items ≡ basis_report (kind_of shown.now)
+        finished.now.snapshot.problem.alphabet.names (labels_in shown.now)
+        finished.now.snapshot.handled run finished.now.ending) }
 {
     let snapshot = finished.snapshot();
     let leads = finished.leads();

@@ -19,11 +19,12 @@ pub(crate) fn entry_at(snapshot: &Snapshot, n: u32) -> &Entry
     requires within { n ≤ length snapshot.now.state.entries }
     ensures entry { slice_get snapshot.now.state.entries (n - 1) ≡ Some (entry_of result.now) }
     ensures left { All (λ x. x.index < length snapshot.now.problem.alphabet.names)
-          result.now.sig.left }
+        result.now.sig.left }
     ensures right { All (λ x. x.index < length snapshot.now.problem.alphabet.names)
-          result.now.sig.right }
-    ensures words { All (λ t. All (λ x. x.index < length snapshot.now.problem.alphabet.names) t.key)
-          result.now.polynomial }
+        result.now.sig.right }
+    ensures words { All (λ t. All (λ x. x.index < length snapshot.now.problem.alphabet.names)
+        t.key)
+        result.now.polynomial }
 {
     snapshot.recall_rule();
     snapshot.entry(n)
@@ -34,9 +35,10 @@ pub(crate) fn syzygy_at(snapshot: &Snapshot, n: u32) -> &Syzygy
     requires some { 1 ≤ n }
     requires within { n ≤ length snapshot.now.state.syzygies }
     ensures syzygy { slice_get snapshot.now.state.syzygies (n - 1) ≡ Some (syzygy_of result.now) }
-    ensures left { All (λ x. x.index < length snapshot.now.problem.alphabet.names) result.now.left }
-    ensures right { All (λ x. x.index < length snapshot.now.problem.alphabet.names) result.now.right
-          }
+    ensures left { All (λ x. x.index < length snapshot.now.problem.alphabet.names)
+        result.now.left }
+    ensures right { All (λ x. x.index < length snapshot.now.problem.alphabet.names)
+        result.now.right }
 {
     snapshot.recall_rule();
     snapshot.syzygy(n)

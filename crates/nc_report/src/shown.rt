@@ -44,7 +44,7 @@ fn named_trace(
     requires leads { LeadsOf snapshot.now leads.now }
     requires listed { IsListed snapshot.now.state listed }
     ensures trace { IfOk result (λ t. (run : State) → IsRunAt snapshot.now run
-            → IsTraceIn run listed t) }
+        → IsTraceIn run listed t) }
     ensures named { IfOk result (IsTraceNamed (length snapshot.now.problem.alphabet.names)) }
 {
     snapshot.recall_rule();
@@ -62,8 +62,8 @@ fn write_trace_line(
     requires leads { LeadsOf snapshot.now leads.now }
     requires listed { IsListed snapshot.now.state listed }
     ensures { OnOk result ((run : State) (t : Proof) (label : Element) → IsRunAt snapshot.now run
-            → IsTraceIn run listed t → out.new.items ≡ out.old.items
-            ++ ended (cofactor_lines TraceOf snapshot.now.problem.alphabet.names t label)) }
+        → IsTraceIn run listed t → out.new.items ≡ out.old.items
+        ++ ended (cofactor_lines TraceOf snapshot.now.problem.alphabet.names t label)) }
 {
     let trace = named_trace(alloc, snapshot, leads, listed)?;
     out.extend_from_slice(b"trace ")?;
@@ -76,8 +76,8 @@ fn write_label_line(out: &mut Vec<u8>, names: &[Name], label: &Module) -> Result
     requires left { All (λ t. All (λ x. x.index < length names.now) t.key.left) label.now }
     requires right { All (λ t. All (λ x. x.index < length names.now) t.key.right) label.now }
     ensures { OnOk result ((t : Proof)
-            → out.new.items ≡ out.old.items
-            ++ ended (cofactor_lines Full names.now t (element_of label.now))) }
+        → out.new.items ≡ out.old.items
+        ++ ended (cofactor_lines Full names.now t (element_of label.now))) }
 {
     out.extend_from_slice(b"label ")?;
     write_module(out, names, label)?;
@@ -95,9 +95,9 @@ fn label_in<'a>(
     requires listed { IsListed snapshot.now.state listed }
     ensures label { element_of result.now ≡ label_among entries.now syzygies.now listed }
     ensures left { All (λ t. All (λ x. x.index < length snapshot.now.problem.alphabet.names)
-            t.key.left) result.now }
+        t.key.left) result.now }
     ensures right { All (λ t. All (λ x. x.index < length snapshot.now.problem.alphabet.names)
-            t.key.right) result.now }
+        t.key.right) result.now }
 {
     snapshot.recall_rule();
     match listed {
@@ -120,9 +120,9 @@ pub(crate) fn write_shown(
     requires shown { IsShownOf snapshot.now shown.now }
     requires listed { IsListed snapshot.now.state listed }
     ensures { OnOk result ((run : State) (t : Proof) → IsRunAt snapshot.now run
-            → IsTraceIn run listed t → out.new.items ≡ out.old.items
-            ++ ended (cofactor_lines (kind_of shown.now) snapshot.now.problem.alphabet.names t
-              (labels_in shown.now listed))) }
+        → IsTraceIn run listed t → out.new.items ≡ out.old.items
+        ++ ended (cofactor_lines (kind_of shown.now) snapshot.now.problem.alphabet.names t
+        (labels_in shown.now listed))) }
 {
     match shown {
         Shown::Nothing => Ok(()),

@@ -24,7 +24,7 @@ fn push_count(out: &mut Vec<u8>, what: &[u8], number: u64) -> Result<(), AllocEr
 /// Appends the end line of a run that is complete.
 pub(crate) fn write_complete(out: &mut Vec<u8>) -> Result<(), AllocError>
     ensures { OnOk result ((names : List (List ℕ))
-            → out.new.items ≡ out.old.items ++ (ending_line names End.complete ++ 10 ∷ [])) }
+        → out.new.items ≡ out.old.items ++ (ending_line names End.complete ++ 10 ∷ [])) }
 {
     out.extend_from_slice(b"end complete\n")
 }
@@ -35,7 +35,7 @@ pub(crate) fn write_budget(out: &mut Vec<u8>, names: &[Name], next: &Sig) -> Res
     requires left { All (λ x. x.index < length names.now) next.now.left }
     requires right { All (λ x. x.index < length names.now) next.now.right }
     ensures { OnOk result (out.new.items ≡ out.old.items
-            ++ (ending_line names.now (End.budget (monomial_of next.now)) ++ 10 ∷ [])) }
+        ++ (ending_line names.now (End.budget (monomial_of next.now)) ++ 10 ∷ [])) }
 {
     out.extend_from_slice(b"end budget ")?;
     write_sig(out, names, next)?;
@@ -45,7 +45,7 @@ pub(crate) fn write_budget(out: &mut Vec<u8>, names: &[Name], next: &Sig) -> Res
 /// Appends the counts line of a snapshot. After `Err` the text in `out` may be part of it.
 pub(crate) fn write_counts(out: &mut Vec<u8>, snapshot: &Snapshot) -> Result<(), AllocError>
     ensures { OnOk result (out.new.items ≡ out.old.items
-            ++ (counts_line snapshot.now.handled snapshot.now.state ++ 10 ∷ [])) }
+        ++ (counts_line snapshot.now.handled snapshot.now.state ++ 10 ∷ [])) }
 {
     push_count(out, b"handled ", snapshot.handled())?;
     push_count(out, b" entries ", u64::from(snapshot.entries()))?;

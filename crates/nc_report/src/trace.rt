@@ -21,7 +21,7 @@ fn write_multiple(
     requires left { All (λ x. x.index < length names.now) left.now }
     requires right { All (λ x. x.index < length names.now) right.now }
     ensures { OnOk result (out.new.items ≡ out.old.items ++ multiple_text names.now left.now number
-            right.now) }
+        right.now) }
 {
     write_word(out, names, left.letters())?;
     out.extend_from_slice(b" {")?;
@@ -34,7 +34,7 @@ fn write_multiple(
 fn write_start(out: &mut Vec<u8>, names: &[Name], start: &Start) -> Result<(), AllocError>
     requires named { StartIsNamed (length names.now) (start_of start.now) }
     ensures { OnOk result (out.new.items ≡ out.old.items ++ start_text names.now
-            (start_of start.now)) }
+        (start_of start.now)) }
 {
     match start {
         Start::Generator(i) => {
@@ -67,7 +67,7 @@ fn write_steps(out: &mut Vec<u8>, names: &[Name], steps: &[Step]) -> Result<(), 
     requires left { All (λ t. All (λ x. x.index < length names.now) t.left) steps.now }
     requires right { All (λ t. All (λ x. x.index < length names.now) t.right) steps.now }
     ensures { OnOk result (out.new.items ≡ out.old.items ++ flat_map (step_text names.now)
-            steps.now) }
+        steps.now) }
 {
     for step in steps {
         write_step(out, names, step)?;
@@ -76,7 +76,11 @@ fn write_steps(out: &mut Vec<u8>, names: &[Name], steps: &[Step]) -> Result<(), 
 }
 
 /// Appends a trace. Each letter needs a name. After `Err` the text in `out` may be part of it.
-pub(crate) fn write_trace(out: &mut Vec<u8>, names: &[Name], trace: &Trace) -> Result<(), AllocError>
+pub(crate) fn write_trace(
+    out: &mut Vec<u8>,
+    names: &[Name],
+    trace: &Trace,
+) -> Result<(), AllocError>
     requires start { StartIsNamed (length names.now) trace.now.start }
     requires left { All (λ t. All (λ x. x.index < length names.now) t.left) trace.now.steps }
     requires right { All (λ t. All (λ x. x.index < length names.now) t.right) trace.now.steps }

@@ -18,10 +18,10 @@ parts Greater q e = absurd (grind (arith, e))
 pub sigs_same : (σ τ : Sig) → compare_sigs σ τ ≡ Equal → σ ≡ τ
 sigs_same σ τ e =
     let a = parts (nat_cmp σ.degree τ.degree)
-        (ordering_then (nat_cmp σ.generator τ.generator)
-          (ordering_then (compare_words σ.left τ.left) (compare_words σ.right τ.right))) e in
+    (ordering_then (nat_cmp σ.generator τ.generator)
+    (ordering_then (compare_words σ.left τ.left) (compare_words σ.right τ.right))) e in
     let b = parts (nat_cmp σ.generator τ.generator)
-        (ordering_then (compare_words σ.left τ.left) (compare_words σ.right τ.right)) a.1 in
+    (ordering_then (compare_words σ.left τ.left) (compare_words σ.right τ.right)) a.1 in
     let d = parts (compare_words σ.left τ.left) (compare_words σ.right τ.right) b.1 in
     let i : σ.degree ≡ τ.degree = nat_cmp-IsAntisymmetric σ.degree τ.degree a.0 in
     let j : σ.generator ≡ τ.generator = nat_cmp-IsAntisymmetric σ.generator τ.generator b.0 in
@@ -39,7 +39,8 @@ same_itself σ = own (compare_sigs σ σ) (sigs_order.antisymm σ σ)
 
 -- what `==` answers
 pub sigs_decide : (σ τ : Sig) → Decides (is_eq (compare_sigs σ τ)) (σ ≡ τ)
-sigs_decide σ τ =
-    (λ t. sigs_same σ τ ((Equal-is (compare_sigs σ τ)).0 t),
-      λ e. (Equal-is (compare_sigs σ τ)).1
-      (subst (λ ρ. compare_sigs σ ρ ≡ Equal) e (same_itself σ)))
+sigs_decide σ τ = (
+  λ t. sigs_same σ τ ((Equal-is (compare_sigs σ τ)).0 t),
+  λ e. (Equal-is (compare_sigs σ τ)).1
+      (subst (λ ρ. compare_sigs σ ρ ≡ Equal) e (same_itself σ)),
+)

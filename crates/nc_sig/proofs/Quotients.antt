@@ -30,23 +30,23 @@ pub front_apart : (σ τ : Monomial) (a w : Word) → a ≡ σ.left → w ≡ τ
     → pointwise same_letter (drop (length w - length a) w) a ≡ false → ¬ Divides σ τ
 front_apart σ τ a w i j f (u, v, d) =
     let e : pointwise same_letter (drop (length τ.left - length σ.left) τ.left) σ.left ≡ false =
-        ap₂ (λ x y. pointwise same_letter (drop (length y - length x) y) x) (sym i) (sym j) ∙ f in
+    ap₂ (λ x y. pointwise same_letter (drop (length y - length x) y) x) (sym i) (sym j) ∙ f in
     let whole : u ++ σ.left ≡ τ.left = ap (λ ρ. ρ.left) d in
     let stands : drop (length τ.left - length σ.left) τ.left ≡ σ.left =
-        ap (λ w. drop (length w - length σ.left) w) (sym whole)
-        ∙ drop_at u σ.left (length (u ++ σ.left) - length σ.left)
-        (omega (arith, length-append u σ.left)) in
+    ap (λ w. drop (length w - length σ.left) w) (sym whole)
+    ∙ drop_at u σ.left (length (u ++ σ.left) - length σ.left)
+    (omega (arith, length-append u σ.left)) in
     false≢true (sym e ∙ (letters_decide (drop (length τ.left - length σ.left) τ.left) σ.left).1
-          stands)
+    stands)
 
 pub back_apart : (σ τ : Monomial) (b w : Word) → b ≡ σ.right → w ≡ τ.right
     → pointwise same_letter (take (length b) w) b ≡ false → ¬ Divides σ τ
 back_apart σ τ b w i j f (u, v, d) =
     let e : pointwise same_letter (take (length σ.right) τ.right) σ.right ≡ false =
-        ap₂ (λ x y. pointwise same_letter (take (length x) y) x) (sym i) (sym j) ∙ f in
+    ap₂ (λ x y. pointwise same_letter (take (length x) y) x) (sym i) (sym j) ∙ f in
     let whole : σ.right ++ v ≡ τ.right = ap (λ ρ. ρ.right) d in
     let stands : take (length σ.right) τ.right ≡ σ.right =
-        ap (take (length σ.right)) (sym whole) ∙ take_at σ.right v (length σ.right) refl in
+    ap (take (length σ.right)) (sym whole) ∙ take_at σ.right v (length σ.right) refl in
     false≢true (sym e ∙ (letters_decide (take (length σ.right) τ.right) σ.right).1 stands)
 
 -- where the generators differ, or a side of the first weighs more

@@ -11,4 +11,4 @@ pub sigs_order : IsTotalOrder compare_sigs
 sigs_order =
     then_total (on_total (λ s. s.degree) nat_cmp_total)
     (then_total (on_total (λ s. s.generator) nat_cmp_total)
-      (then_total (on_total (λ s. s.left) words_order) (on_total (λ s. s.right) words_order)))
+    (then_total (on_total (λ s. s.left) words_order) (on_total (λ s. s.right) words_order)))

@@ -30,9 +30,12 @@ impl Model for Sig {
 
     ghost Value = { Sig };
 
-    ghost view =
-        { λ s. record { degree = s.degree;
-            generator = s.generator; left = s.left; right = s.right } };
+    ghost view = { λ s. record {
+      degree = s.degree;
+      generator = s.generator;
+      left = s.left;
+      right = s.right;
+    } };
 
     ghost invariant = { λ s. word_weight s.left + word_weight s.right ≤ s.degree };
 
@@ -43,8 +46,12 @@ impl Sig {
     /// The monomial `left [generator] right`, where the generator has this weight. No memory is taken.
     pub fn of(weight: u32, generator: u32, left: Word, right: Word) -> Sig
         requires { word_weight left + weight + word_weight right ≤ 300000 }
-        ensures { result ≡ record { degree = word_weight left + weight + word_weight right;
-                generator = generator; left = left; right = right } }
+        ensures { result ≡ record {
+          degree = word_weight left + weight + word_weight right;
+          generator = generator;
+          left = left;
+          right = right;
+        } }
     {
         let degree = left.weight() + weight + right.weight();
         Sig {

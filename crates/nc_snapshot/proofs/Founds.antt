@@ -53,7 +53,7 @@ found_state f σ (Settled j) =
 found_state f σ (Entry g trace) =
     state_made f.covered f.settled
     (entries_more f.entries (record { sig = σ; polynomial = g })
-      (record { signature = monomial_of σ; polynomial = g; trace = trace }) refl)
+    (record { signature = monomial_of σ; polynomial = g; trace = trace }) refl)
     (sym (untraced_syzygies f.syzygies))
 found_state f σ (Syzygy trace) =
     state_made f.covered f.settled (sym (untraced_entries f.entries))
@@ -65,7 +65,10 @@ pub found_degrees : (s : Setting) (f : Found) (σ : Sig) (o : Outcome) → HasDe
 found_degrees s f σ Covered h are = record { entries = are.entries; syzygies = are.syzygies }
 found_degrees s f σ (Settled j) h are = record { entries = are.entries; syzygies = are.syzygies }
 found_degrees s f σ (Entry g trace) h are =
-    record { entries = All-push (λ e. HasDegree s e.sig) f.entries
-      (record { sig = σ; polynomial = g }) are.entries h; syzygies = are.syzygies }
+    record {
+      entries = All-push (λ e. HasDegree s e.sig) f.entries
+          (record { sig = σ; polynomial = g }) are.entries h;
+      syzygies = are.syzygies;
+    }
 found_degrees s f σ (Syzygy trace) h are =
     record { entries = are.entries; syzygies = All-push (HasDegree s) f.syzygies σ are.syzygies h }

@@ -15,9 +15,9 @@ snapshot_counts s h =
     let c : s.state.covered ≡ h.run.run.covered = ap (λ x. x.covered) h.run.stands in
     let d : s.state.settled ≡ h.run.run.settled = ap (λ x. x.settled) h.run.stands in
     let e : length s.state.entries ≡ length h.run.run.entries =
-        ap (λ x. length x.entries) h.run.stands ∙ length-map h.run.run.entries untraced_entry in
+    ap (λ x. length x.entries) h.run.stands ∙ length-map h.run.run.entries untraced_entry in
     let z : length s.state.syzygies ≡ length h.run.run.syzygies =
-        ap (λ x. length x.syzygies) h.run.stands ∙ length-map h.run.run.syzygies untraced_syzygy in
+    ap (λ x. length x.syzygies) h.run.stands ∙ length-map h.run.run.syzygies untraced_syzygy in
     omega (arith, counts s.problem.problem h.run.runs, h.few, h.problem.few, c, d, e, z)
 
 -- the same of what is kept
@@ -27,7 +27,7 @@ found_counts s f is h =
     let c : s.state.covered ≡ f.covered = ap (λ x. x.covered) is in
     let d : s.state.settled ≡ f.settled = ap (λ x. x.settled) is in
     let e : length s.state.entries ≡ length f.entries =
-        ap (λ x. length x.entries) is ∙ length-map f.entries entry_of in
+    ap (λ x. length x.entries) is ∙ length-map f.entries entry_of in
     let z : length s.state.syzygies ≡ length f.syzygies =
-        ap (λ x. length x.syzygies) is ∙ length-map f.syzygies syzygy_of in
+    ap (λ x. length x.syzygies) is ∙ length-map f.syzygies syzygy_of in
     omega (arith, snapshot_counts s h, c, d, e, z)

@@ -47,6 +47,6 @@ module _ (s : Snapshot) (h : IsSnapshot s) where
       → IsLess s.problem.problem.setting τ ρ
   snapshot_ascends τ o next handles =
       (goes_on s.problem.problem snapshot_prime s.handled s.state next.last
-            (record { run = next.run; runs = next.runs; stands = next.stands })).ascends τ o
+      (record { run = next.run; runs = next.runs; stands = next.stands })).ascends τ o
       (moved_next s.problem.problem next.run s.state (sym (same_run s.state next.run next.stands))
-            next.last τ next.next) handles
+      next.last τ next.next) handles

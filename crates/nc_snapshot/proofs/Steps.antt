@@ -27,7 +27,7 @@ snapshot_opens P h = record {
 pub snapshot_goes_on : (P : NamedProblem) (n : ℕ) (f : Found) (σ : Sig) (o : Outcome)
     → IsSnapshot (record { problem = P; handled = n; state = state_of f })
     → IsNextOfRun P.problem n (state_of f) (monomial_of σ) → n < P.problem.steps
-        → Handles P.problem.setting (state_of f) (monomial_of σ) (outcome_of o)
+    → Handles P.problem.setting (state_of f) (monomial_of σ) (outcome_of o)
     → IsSnapshot (record { problem = P; handled = n + 1; state = state_of (found_after f σ o) })
 snapshot_goes_on P n f σ o h next left handles = record {
   problem = h.problem;
@@ -40,33 +40,33 @@ snapshot_goes_on P n f σ o h next left handles = record {
 module _ (P : NamedProblem) (n : ℕ) (f more : Found) (σ : Sig) (o : Outcome) (s : Snapshot)
     (is : record { problem = P; handled = n; state = state_of f } ≡ s)
     (stands : IsSnapshot (record { problem = P; handled = n; state = state_of f }))
-        (degrees : HasDegrees P.problem.setting f)
+    (degrees : HasDegrees P.problem.setting f)
     (degree : HasDegree s.problem.problem.setting σ)
-        (next : IsNextOfRun s.problem.problem s.handled s.state (monomial_of σ))
-        (left : s.handled < s.problem.problem.steps)
+    (next : IsNextOfRun s.problem.problem s.handled s.state (monomial_of σ))
+    (left : s.handled < s.problem.problem.steps)
     (handles : Handles s.problem.problem.setting s.state (monomial_of σ) (outcome_of o))
-        (added : more ≡ found_after f σ o) where
+    (added : more ≡ found_after f σ o) where
   pub added_stands : IsSnapshot (record { problem = P; handled = n + 1; state = state_of more })
   added_stands =
       subst (λ g. IsSnapshot (record { problem = P; handled = n + 1; state = state_of g }))
-          (sym added)
+      (sym added)
       (snapshot_goes_on P n f σ o stands
-            (subst (λ t. IsNextOfRun t.problem.problem t.handled t.state (monomial_of σ)) (sym is)
-              next)
+      (subst (λ t. IsNextOfRun t.problem.problem t.handled t.state (monomial_of σ)) (sym is)
+      next)
       (subst (λ t. t.handled < t.problem.problem.steps) (sym is) left)
       (subst (λ t. Handles t.problem.problem.setting t.state (monomial_of σ) (outcome_of o))
-            (sym is) handles))
+      (sym is) handles))
 
   pub added_degrees : HasDegrees P.problem.setting more
   added_degrees =
       subst (HasDegrees P.problem.setting) (sym added)
       (found_degrees P.problem.setting f σ o
-        (subst (λ t. HasDegree t.problem.problem.setting σ) (sym is) degree) degrees)
+      (subst (λ t. HasDegree t.problem.problem.setting σ) (sym is) degree) degrees)
 
   pub added_state : state_of more ≡ untraced (state_after s.state (monomial_of σ) (outcome_of o))
   added_state =
       ap state_of added ∙ (found_state f σ o
-        ∙ ap (λ t. untraced (state_after t.state (monomial_of σ) (outcome_of o))) is)
+      ∙ ap (λ t. untraced (state_after t.state (monomial_of σ) (outcome_of o))) is)
 
 -- an empty list of what was found
 pub nothing_stands : (P : NamedProblem) (f : Found) → IsProblem P
@@ -77,6 +77,8 @@ nothing_stands P f h e = (
   subst (λ g. IsSnapshot (record { problem = P; handled = 0; state = state_of g })) (sym e)
       (snapshot_opens P h),
   subst (HasDegrees P.problem.setting) (sym e)
-      (record { entries = All-nil (λ x. HasDegree P.problem.setting x.sig);
-          syzygies = All-nil (HasDegree P.problem.setting) }),
+      (record {
+        entries = All-nil (λ x. HasDegree P.problem.setting x.sig);
+        syzygies = All-nil (HasDegree P.problem.setting);
+      }),
 )

@@ -19,14 +19,30 @@ outcome_of (Syzygy trace) = Result.a_syzygy trace
 -- what was found, with what becomes of σ
 abbrev pub found_after : Found → Sig → Outcome → Found
 found_after f σ Covered =
-    record { entries = f.entries; syzygies = f.syzygies;
-      covered = f.covered + 1; settled = f.settled }
+    record {
+      entries = f.entries;
+      syzygies = f.syzygies;
+      covered = f.covered + 1;
+      settled = f.settled;
+    }
 found_after f σ (Settled j) =
-    record { entries = f.entries; syzygies = f.syzygies;
-      covered = f.covered; settled = f.settled + 1 }
+    record {
+      entries = f.entries;
+      syzygies = f.syzygies;
+      covered = f.covered;
+      settled = f.settled + 1;
+    }
 found_after f σ (Entry g trace) =
-    record { entries = f.entries ++ record { sig = σ; polynomial = g } ∷ [];
-      syzygies = f.syzygies; covered = f.covered; settled = f.settled }
+    record {
+      entries = f.entries ++ record { sig = σ; polynomial = g } ∷ [];
+      syzygies = f.syzygies;
+      covered = f.covered;
+      settled = f.settled;
+    }
 found_after f σ (Syzygy trace) =
-    record { entries = f.entries; syzygies = f.syzygies ++ σ ∷ [];
-      covered = f.covered; settled = f.settled }
+    record {
+      entries = f.entries;
+      syzygies = f.syzygies ++ σ ∷ [];
+      covered = f.covered;
+      settled = f.settled;
+    }

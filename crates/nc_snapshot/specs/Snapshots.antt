@@ -37,8 +37,12 @@ pub record Found : Type 0 where
 -- as a state of the theory
 abbrev pub state_of : Found → State
 state_of f =
-    record { entries = map entry_of f.entries;
-      syzygies = map syzygy_of f.syzygies; covered = f.covered; settled = f.settled }
+    record {
+      entries = map entry_of f.entries;
+      syzygies = map syzygy_of f.syzygies;
+      covered = f.covered;
+      settled = f.settled;
+    }
 
 -- each degree beside a signature is its degree in the setting
 pub record HasDegrees (s : Setting) (f : Found) : Type 0 where

@@ -28,9 +28,12 @@ impl Model for Found {
 
     ghost Value = { Found };
 
-    ghost view =
-        { λ f. record { entries = f.entries;
-            syzygies = f.syzygies; covered = f.covered; settled = f.settled } };
+    ghost view = { λ f. record {
+      entries = f.entries;
+      syzygies = f.syzygies;
+      covered = f.covered;
+      settled = f.settled;
+    } };
 }
 
 impl Found {
@@ -123,10 +126,10 @@ impl Found {
         trace: Trace,
     ) -> Result<(), AllocFailed<Outcome>>
         ensures added { OnOk result (self.new ≡ found_after self.old sig.value
-                (NewEntry poly trace)) }
+            (NewEntry poly trace)) }
         ensures unchanged { OnErr result (self.new ≡ self.old) }
-        ensures returned { IfErr result (λ e. outcome_of e.value ≡ outcome_of (NewEntry poly trace))
-              }
+        ensures returned { IfErr result
+            (λ e. outcome_of e.value ≡ outcome_of (NewEntry poly trace)) }
     {
         if let Err(failed) = self.entries.push(Entry::of(sig, poly)) {
             let poly = failed.value.into_poly();

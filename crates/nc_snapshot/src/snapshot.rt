@@ -35,14 +35,18 @@ impl Model for Snapshot {
 
     ghost Value = { Snapshot };
 
-    ghost view =
-        { λ s. record { problem = s.problem.value;
-            handled = s.handled; state = state_of s.found } };
+    ghost view = { λ s. record {
+      problem = s.problem.value;
+      handled = s.handled;
+      state = state_of s.found;
+    } };
 
-    ghost invariant =
-        { λ s. IsSnapshot (record { problem = s.problem.value;
-              handled = s.handled; state = state_of s.found })
-          × HasDegrees s.problem.value.problem.setting s.found };
+    ghost invariant = { λ s. IsSnapshot (record {
+      problem = s.problem.value;
+      handled = s.handled;
+      state = state_of s.found;
+    })
+        × HasDegrees s.problem.value.problem.setting s.found };
 }
 
 impl Snapshot {
@@ -148,20 +152,20 @@ impl Snapshot {
     pub fn append(&mut self, sig: Arc<Sig>, outcome: Outcome) -> Result<(), AllocFailed<Outcome>>
         requires degree { HasDegree self.old.problem.problem.setting sig.value }
         requires next { IsNextOfRun self.old.problem.problem self.old.handled self.old.state
-              (monomial_of sig.value) }
+            (monomial_of sig.value) }
         requires steps { self.old.handled < self.old.problem.problem.steps }
         requires outcome { Handles self.old.problem.problem.setting self.old.state
-              (monomial_of sig.value) (outcome_of outcome) }
+            (monomial_of sig.value) (outcome_of outcome) }
         ensures problem { self.new.problem ≡ self.old.problem }
         ensures handled { OnOk result (self.new.handled ≡ self.old.handled + 1) }
         ensures state { OnOk result (self.new.state ≡ untraced
-                (state_after self.old.state (monomial_of sig.value) (outcome_of outcome))) }
+            (state_after self.old.state (monomial_of sig.value) (outcome_of outcome))) }
         ensures canonical { OnOk result
-              (AreCanonical self.new.problem.problem.setting self.new.state) }
+            (AreCanonical self.new.problem.problem.setting self.new.state) }
         ensures ascent { OnOk result ((ρ : Monomial)
-                → BringsAmbiguity self.old.problem.problem.setting self.old.state
-                (monomial_of sig.value) (outcome_of outcome) ρ
-                → IsLess self.old.problem.problem.setting (monomial_of sig.value) ρ) }
+            → BringsAmbiguity self.old.problem.problem.setting self.old.state
+            (monomial_of sig.value) (outcome_of outcome) ρ
+            → IsLess self.old.problem.problem.setting (monomial_of sig.value) ρ) }
         ensures unchanged { OnErr result (self.new ≡ self.old) }
         ensures returned { IfErr result (λ e. outcome_of e.value ≡ outcome_of outcome) }
     {

@@ -18,9 +18,12 @@ impl Model for Step {
 
     ghost Value = { Step };
 
-    ghost view =
-        { λ s. record { coefficient = s.coefficient;
-            left = s.left; number = s.number; right = s.right } };
+    ghost view = { λ s. record {
+      coefficient = s.coefficient;
+      left = s.left;
+      number = s.number;
+      right = s.right;
+    } };
 
     ghost inverse = { λ s. record { coefficient = s.coefficient; left = s.left; number = s.number; right = s.right } };
 }

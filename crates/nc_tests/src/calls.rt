@@ -126,7 +126,7 @@ fn has_terms(m: &Module, want: &[(Residue, &str, u32)]) -> bool {
 /// Whether the multiples are small.
 fn are_small(u: &[Letter], m: &[ModuleTerm], v: &[Letter]) -> bool
     ensures degrees { IsTrue result
-          → All (λ t. word_weight u.now + t.key.degree + word_weight v.now ≤ 300000) m.now }
+        → All (λ t. word_weight u.now + t.key.degree + word_weight v.now ≤ 300000) m.now }
     ensures left { IsTrue result → All (λ t. length u.now + length t.key.left ≤ 200000) m.now }
     ensures right { IsTrue result → All (λ t. length t.key.right + length v.now ≤ 200000) m.now }
 {
@@ -161,7 +161,7 @@ fn loses_multiple(alloc: Global) -> Result<bool, Fail> {
 /// Whether the setting has the monomial's generator, and the degree is that of the setting.
 fn has_degree(setting: &Setting, s: &Sig) -> bool
     ensures { IsTrue result ↔ (IsGenerator setting.now.setting s.now.generator
-            × HasDegree setting.now.setting s.now) }
+        × HasDegree setting.now.setting s.now) }
 {
     has_generator(setting, s.generator)
         && s.degree == s.left.weight() + setting.weight(s.generator) + s.right.weight()

@@ -65,8 +65,11 @@ printed : terms_text difference claim terms ≡ text
 unfolding digits
 printed = refl
 
-read : reads_certificate text ≡ Ok (record { setting = difference;
-        claim = claim; lines = element_lines terms })
+read : reads_certificate text ≡ Ok (record {
+  setting = difference;
+  claim = claim;
+  lines = element_lines terms;
+})
 unfolding certificate_at claim_line end_line field_line form_line generator_lines letters_line
     weights_line alphabet_lines setting_lines term_lines terms_line lines a_line the_end the_line
     written end_at exponent_at factor_at factors_at literal_at name_at poly_at sign_at term_at
@@ -81,16 +84,33 @@ commutator weights =
     let a = weighted weights in
     record {
       setting =
-          record { alphabet = a; setting = record { prime = 101;
-              generators = (record { coefficient = 1;
-                  key = x a ++ x a } ∷ record { coefficient = 100; key = y a } ∷ []) ∷ [] } };
-      claim = record { coefficient = 100;
-            key = y a ++ x a } ∷ record { coefficient = 1; key = x a ++ y a } ∷ [];
+          record {
+            alphabet = a;
+            setting = record {
+              prime = 101;
+              generators = (record {
+                coefficient = 1;
+                key = x a ++ x a;
+              } ∷ record { coefficient = 100; key = y a } ∷ []) ∷ [];
+            };
+          };
+      claim = record {
+        coefficient = 100;
+        key = y a ++ x a;
+      } ∷ record { coefficient = 1; key = x a ++ y a } ∷ [];
       lines =
           (record { coefficient = 1; left = one; of = Factor.a_generator 1; right = one } ∷ [])
-          ∷ (record { coefficient = 1; left = x a;
-                  of = Factor.a_line 1; right = one } ∷ record { coefficient = 100;
-                  left = one; of = Factor.a_line 1; right = x a } ∷ [])
+          ∷ (record {
+            coefficient = 1;
+            left = x a;
+            of = Factor.a_line 1;
+            right = one;
+          } ∷ record {
+            coefficient = 100;
+            left = one;
+            of = Factor.a_line 1;
+            right = x a;
+          } ∷ [])
           ∷ (record { coefficient = 100; left = one; of = Factor.a_line 2; right = one } ∷ [])
           ∷ [];
     }
@@ -100,7 +120,7 @@ abbrev by_lines : List ℕ → List ℕ
 by_lines weights =
     codes "certificate 2\nfield 101\nletters x y\n" ++ (weights
     ++ codes
-        "generator x*x + 100*y\nclaim 100*y*x + x*y\nline\npart 1 1 [1] 1\nline\npart 1 x {1} 1\npart 100 1 {1} x\nline\npart 100 1 {2} 1\nend\n")
+    "generator x*x + 100*y\nclaim 100*y*x + x*y\nline\npart 1 1 [1] 1\nline\npart 1 x {1} 1\npart 100 1 {1} x\nline\npart 100 1 {2} 1\nend\n")
 
 printed_by_lines : (certificate_text (commutator (1 ∷ 1 ∷ [])) ≡ by_lines [])
     × (certificate_text (commutator (2 ∷ 3 ∷ [])) ≡ by_lines (codes "weights 2 3\n"))
@@ -110,7 +130,7 @@ printed_by_lines = (refl, refl)
 -- few spaces are wanted, and signs may stand in front of terms
 read_by_lines : reads_certificate
     (codes
-      "certificate 2\nfield 101\nletters x y\nweights 2 3\ngenerator x^2-y\nclaim x*y-y*x\nline\npart 1 1[1]1\nline\npart 1 x{1}1\npart 100 1{1}x\nline\npart 100 1{2}1\nend")
+    "certificate 2\nfield 101\nletters x y\nweights 2 3\ngenerator x^2-y\nclaim x*y-y*x\nline\npart 1 1[1]1\nline\npart 1 x{1}1\npart 100 1{1}x\nline\npart 100 1{2}1\nend")
     ≡ Ok (commutator (2 ∷ 3 ∷ []))
 unfolding certificate_at claim_line end_line field_line form_line generator_lines letters_line
     weights_line alphabet_lines setting_lines line_lines part_lines lines a_line the_end the_line
@@ -156,7 +176,7 @@ line_faults = (refl, refl, refl, refl, refl, refl)
 
 -- blanks, comments and carriage returns say nothing
 otherwise : reads_certificate (codes
-      "\n certificate 01 # form\r\nfield 101\r\nletters x\nclaim-100*x^1\nend\n\n")
+    "\n certificate 01 # form\r\nfield 101\r\nletters x\nclaim-100*x^1\nend\n\n")
     ≡ reads_certificate (codes "certificate 1\nfield 101\nletters x\nclaim x\nend")
 unfolding certificate_at claim_line end_line field_line form_line generator_lines letters_line
     weights_line alphabet_lines setting_lines term_lines terms_line lines a_line the_end the_line
@@ -198,10 +218,10 @@ abbrev generator_of : List ℕ → Result Polynomial Kind
 generator_of bytes = generator_at 101 plain 1000 (tokens bytes)
 
 generators : (generator_of (codes "102*x^1*y^0")
-      ≡ Ok (record { coefficient = 1; key = x plain } ∷ []))
+    ≡ Ok (record { coefficient = 1; key = x plain } ∷ []))
     × (generator_of (codes "-100+x")
-          ≡ Ok (record { coefficient = 1; key = x plain } ∷ record { coefficient = 1; key = one }
-            ∷ []))
+    ≡ Ok (record { coefficient = 1; key = x plain } ∷ record { coefficient = 1; key = one }
+    ∷ []))
     × (generator_of (codes "x-x") ≡ Err ZeroGenerator)
     × (generator_of (codes "x-x $") ≡ Err Syntax)
     × (generator_of (codes "x^255*z") ≡ Err UnknownName)
@@ -218,7 +238,7 @@ bound bytes = bound_at plain 1 (tokens bytes)
 
 bounds : (bound (codes "degree 1000") ≡ Ok (Bound.to_degree 1000))
     × (bound (codes "below x [1] x")
-          ≡ Ok (Bound.under (record { left = x plain; generator = 1; right = x plain })))
+    ≡ Ok (Bound.under (record { left = x plain; generator = 1; right = x plain })))
     × (bound (codes "degree 1001 x") ≡ Err OutOfRange)
     × (bound (codes "degree4") ≡ Err Syntax)
     × (bound (codes "below x [2] x") ≡ Err OutOfRange)

@@ -15,7 +15,7 @@ use Rattle.std.proofs.Common.{IfOk, List, None, Ok, Result, Some, [], codes, len
 one_more : (p : ℕ) (a : Alphabet) (room : ℕ) (w : Written) (r : Row)
     → a_line (codes "generator") w ≡ Some r
     → generator_lines p a room w ≡ line_then r (generator_at p a room r.tokens)
-        (generator_lines p a (room - 1) r.after)
+    (generator_lines p a (room - 1) r.after)
 unfolding a_line generator_lines
 one_more p a room (End n) r e = absurd cc
 one_more p a room (Line n clean ts after) r e =
@@ -51,7 +51,7 @@ pub is_setting : (p : ℕ) (a : Alphabet) (generators : List Polynomial) (w one 
     → IsSetting (setting_of p a generators)
 is_setting p a generators w one two three e f g =
     subst (λ (r : Result (NamedSetting × Written) TextFault). IfOk r (λ x. IsSetting x.0))
-        (setting_is p a generators w one two three e f g) (setting_lines_read w)
+    (setting_is p a generators w one two three e f g) (setting_lines_read w)
 
 pub alphabet_is : (names : List (List ℕ)) (weights : List ℕ) (w one two : Written)
     → letters_line w ≡ Ok (names, one) → weights_line (length names) one ≡ Ok (weights, two)
@@ -64,4 +64,4 @@ pub is_alphabet : (names : List (List ℕ)) (weights : List ℕ) (w one two : Wr
     → IsAlphabet (record { names = names; weights = weights })
 is_alphabet names weights w one two e f =
     subst (λ (r : Result (Alphabet × Written) TextFault). IfOk r (λ x. IsAlphabet x.0))
-        (alphabet_is names weights w one two e f) (alphabet_lines_read w)
+    (alphabet_is names weights w one two e f) (alphabet_lines_read w)

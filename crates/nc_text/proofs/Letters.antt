@@ -25,8 +25,10 @@ pub goes_on : (names : List (List ℕ)) (ts rest : List Token) (bytes name : Lis
     → IsOnTheWay names ts whole → IsOnTheWay (names ++ name ∷ []) rest whole
 unfolding letters_at
 goes_on names ts rest bytes name whole is further h =
-    record { same = sym (ap (λ (r : Result (List ℕ) Kind). r >>= λ further. letters_at
-          (names ++ further ∷ []) rest) further) ∙ sym (ap (letters_at names) is) ∙ h.same }
+    record {
+      same = sym (ap (λ (r : Result (List ℕ) Kind). r >>= λ further. letters_at
+          (names ++ further ∷ []) rest) further) ∙ sym (ap (letters_at names) is) ∙ h.same;
+    }
 
 pub name_fails : (f : LineError) (names : List (List ℕ)) (ts rest : List Token) (bytes : List ℕ)
     (whole : Read) → ts ≡ Name bytes ∷ rest → Fails f (further_name names bytes)

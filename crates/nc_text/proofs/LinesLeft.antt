@@ -26,7 +26,7 @@ written_left n (line ∷ ls) = by_blank (list_all is_blank (content line)) (writ
   where
     by_blank : (b : Bool) → lines_left (written (n + 1) ls) ≤ length ls
         → lines_left (if b then written (n + 1) ls else Line n (list_all is_allowed (content line))
-          (tokens (content line)) (written (n + 1) ls)) ≤ length (line ∷ ls)
+        (tokens (content line)) (written (n + 1) ls)) ≤ length (line ∷ ls)
     by_blank true h = omega (arith, h)
     by_blank false h = omega (arith, h)
 
@@ -66,23 +66,23 @@ form_leaves : (w : Written) → IfOk (form_line w) (Leaves w)
 unfolding form_line
 form_leaves w =
     on_bind _ _ (the_line (codes "certificate") w) _ (the_line_leaves (codes "certificate") w)
-        (λ line h.
+    (λ line h.
     on_bind _ _ (at_line line.number (form_at line.tokens)) _
-        (on_any (at_line line.number (form_at line.tokens))) (λ form _. h))
+    (on_any (at_line line.number (form_at line.tokens))) (λ form _. h))
 
 field_leaves : (w : Written) → IfOk (field_line w) (Leaves w)
 unfolding field_line
 field_leaves w =
     on_bind _ _ (the_line (codes "field") w) _ (the_line_leaves (codes "field") w) (λ line h.
     on_bind _ _ (at_line line.number (field_at line.tokens)) _
-        (on_any (at_line line.number (field_at line.tokens))) (λ p _. h))
+    (on_any (at_line line.number (field_at line.tokens))) (λ p _. h))
 
 letters_leave : (w : Written) → IfOk (letters_line w) (Leaves w)
 unfolding letters_line
 letters_leave w =
     on_bind _ _ (the_line (codes "letters") w) _ (the_line_leaves (codes "letters") w) (λ line h.
     on_bind _ _ (at_line line.number (letters_at [] line.tokens)) _
-        (on_any (at_line line.number (letters_at [] line.tokens))) (λ names _. h))
+    (on_any (at_line line.number (letters_at [] line.tokens))) (λ names _. h))
 
 weights_in_leave : (letters : ℕ) (w : Written) (o : Option Row)
     → ((r : Row) → o ≡ Some r → lines_left r.after ≤ lines_left w)
@@ -102,8 +102,8 @@ alphabet_leaves : (w : Written) → IfOk (alphabet_lines w) (Leaves w)
 unfolding alphabet_lines
 alphabet_leaves w =
     on_bind _ _ (letters_line w) _ (letters_leave w)
-        (λ names h. on_bind _ _ (weights_line (length names.0) names.1) _
-          (weights_leave (length names.0) names.1) (λ weights k. omega (arith, h, k)))
+    (λ names h. on_bind _ _ (weights_line (length names.0) names.1) _
+    (weights_leave (length names.0) names.1) (λ weights k. omega (arith, h, k)))
 
 generators_leave : (p : ℕ) (a : Alphabet) (room : ℕ) (w : Written)
     → IfOk (generator_lines p a room w) (Leaves w)
@@ -112,26 +112,26 @@ generators_leave p a room (End n) = omega arith
 generators_leave p a room (Line n clean ts after) =
     on_choice _ (clean && begins (codes "generator") ts) _ _
     (λ begun. on_bind _ _ (at_line n (generator_at p a room (behind ts))) _
-          (on_any (at_line n (generator_at p a room (behind ts)))) (λ first _.
+    (on_any (at_line n (generator_at p a room (behind ts)))) (λ first _.
     on_bind _ _ (generator_lines p a (room - 1) after) _ (generators_leave p a (room - 1) after)
-        (λ others h. omega (arith, h))))
+    (λ others h. omega (arith, h))))
     (λ other. omega arith)
 
 setting_leaves : (w : Written) → IfOk (setting_lines w) (Leaves w)
 unfolding setting_lines
 setting_leaves w =
     on_bind _ _ (field_line w) _ (field_leaves w)
-        (λ field f. on_bind _ _ (alphabet_lines field.1) _ (alphabet_leaves field.1) (λ alphabet g.
+    (λ field f. on_bind _ _ (alphabet_lines field.1) _ (alphabet_leaves field.1) (λ alphabet g.
     on_bind _ _ (generator_lines field.0 alphabet.0 1000 alphabet.1) _
-        (generators_leave field.0 alphabet.0 1000 alphabet.1)
-        (λ generators h. omega (arith, f, g, h))))
+    (generators_leave field.0 alphabet.0 1000 alphabet.1)
+    (λ generators h. omega (arith, f, g, h))))
 
 claim_leaves : (p : ℕ) (a : Alphabet) (w : Written) → IfOk (claim_line p a w) (Leaves w)
 unfolding claim_line
 claim_leaves p a w =
     on_bind _ _ (the_line (codes "claim") w) _ (the_line_leaves (codes "claim") w) (λ line h.
     on_bind _ _ (at_line line.number (poly_at p a line.tokens)) _
-        (on_any (at_line line.number (poly_at p a line.tokens))) (λ f _. h))
+    (on_any (at_line line.number (poly_at p a line.tokens))) (λ f _. h))
 
 left_by : {A E : Type 0} (w : Written) (r : Result (A × Written) E) (x : A) (rest : Written)
     → r ≡ Ok (x, rest) → IfOk r (Leaves w) → lines_left rest ≤ lines_left w
@@ -142,9 +142,12 @@ left_by w r x rest e h = subst (λ r. IfOk r (Leaves w)) e h
 pub claimed_left : (w one two three : Written) (form : ℕ) (s : NamedSetting) (claim : Polynomial)
     → form_line w ≡ Ok (form, one) → setting_lines one ≡ Ok (s, two)
     → claim_line s.setting.prime s.alphabet two ≡ Ok (claim, three)
-        → lines_left three ≤ lines_left w
+    → lines_left three ≤ lines_left w
 claimed_left w one two three form s claim a b c =
-    omega (arith, left_by w (form_line w) form one a (form_leaves w),
-          left_by one (setting_lines one) s two b (setting_leaves one),
-          left_by two (claim_line s.setting.prime s.alphabet two) claim three c
-          (claim_leaves s.setting.prime s.alphabet two))
+    omega (
+      arith,
+      left_by w (form_line w) form one a (form_leaves w),
+      left_by one (setting_lines one) s two b (setting_leaves one),
+      left_by two (claim_line s.setting.prime s.alphabet two) claim three c
+          (claim_leaves s.setting.prime s.alphabet two),
+    )

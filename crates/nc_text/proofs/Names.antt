@@ -32,14 +32,16 @@ pub record AreNames (a : Alphabet) : Type 0 where
 
 pub are_names : (a : Alphabet) → IsAlphabet a → AreNames a
 are_names a is =
-    record { each = λ x inside. is.named x.index [] inside.0;
-      apart = λ x inside. apart x.index inside.0 }
+    record {
+      each = λ x inside. is.named x.index [] inside.0;
+      apart = λ x inside. apart x.index inside.0;
+    }
   where
     apart : (i : ℕ) → i < length a.names → letter_of a.names (get_or a.names i []) ≡ Ok i
     apart i within =
         let at : position_or_len (λ n. bytes_eq n (get_or a.names i [])) a.names ≡ i =
-            position_or_len_is (λ n. bytes_eq n (get_or a.names i [])) a.names i [] (omega arith)
+        position_or_len_is (λ n. bytes_eq n (get_or a.names i [])) a.names i [] (omega arith)
         (λ k less. bytes_apart _ _ (distinct_at a.names [] k i is.apart less within))
-            (λ _. bytes_same (get_or a.names i [])) in
+        (λ _. bytes_same (get_or a.names i [])) in
         let inside : nat_lt i (length a.names) ≡ true = lt-ltb _ _ within in
         rw (at, inside) refl

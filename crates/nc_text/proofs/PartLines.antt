@@ -19,28 +19,28 @@ module _ (s : NamedSetting) where
   pub part_next : (reaches : List ℕ) (parts : List Part) (w : Written) (r : Row)
       → a_line (codes "part") w ≡ Some r
       → part_lines s reaches parts w
-          ≡ (at_line r.number (part_at s reaches r.tokens) >>= λ part. part_lines s reaches
-            (parts ++ part ∷ []) r.after)
+      ≡ (at_line r.number (part_at s reaches r.tokens) >>= λ part. part_lines s reaches
+      (parts ++ part ∷ []) r.after)
   unfolding a_line part_lines
   part_next reaches parts (End n) r e = absurd cc
   part_next reaches parts (Line n clean ts after) r e =
       taken (codes "part") n clean ts after r
       (λ r. at_line r.number (part_at s reaches r.tokens) >>= λ part. part_lines s reaches
-        (parts ++ part ∷ []) r.after) _ e
+      (parts ++ part ∷ []) r.after) _ e
 
   pub line_next : (reaches : List ℕ) (parts : List Part) (w : Written) (r : Row)
       → a_line (codes "part") w ≡ None → a_line (codes "line") w ≡ Some r
       → part_lines s reaches parts w
-          ≡ (at_line r.number (end_at r.tokens) >>= λ _. with_first
-            (part_lines s (reaches ++ line_reach s.setting reaches parts ∷ []) [] r.after) parts)
+      ≡ (at_line r.number (end_at r.tokens) >>= λ _. with_first
+      (part_lines s (reaches ++ line_reach s.setting reaches parts ∷ []) [] r.after) parts)
   unfolding a_line part_lines
   line_next reaches parts (End n) r d e = absurd cc
   line_next reaches parts (Line n clean ts after) r d e =
       passed_by (codes "part") n clean ts after _ _ d
       ∙ taken (codes "line") n clean ts after r
-          (λ r. at_line r.number (end_at r.tokens) >>= λ _. with_first
-            (part_lines s (reaches ++ line_reach s.setting reaches parts ∷ []) [] r.after) parts) _
-          e
+      (λ r. at_line r.number (end_at r.tokens) >>= λ _. with_first
+      (part_lines s (reaches ++ line_reach s.setting reaches parts ∷ []) [] r.after) parts) _
+      e
 
   pub other_next : (reaches : List ℕ) (parts : List Part) (w : Written)
       → a_line (codes "part") w ≡ None → a_line (codes "line") w ≡ None
@@ -66,31 +66,33 @@ module _ (s : NamedSetting) where
         → IsOnTheWay lines reaches parts w whole
         → IsOnTheWay lines reaches (parts ++ part ∷ []) r.after whole
     part_goes_on part e k h =
-        record { same = sym (ap (with_front lines) (part_next reaches parts w r e
+        record {
+          same = sym (ap (with_front lines) (part_next reaches parts w r e
               ∙ ap (λ (q : Result Part TextFault). q >>= λ part. part_lines s reaches
-                (parts ++ part ∷ []) r.after) k)) ∙ h.same }
+              (parts ++ part ∷ []) r.after) k)) ∙ h.same;
+        }
 
     pub part_fails : (f : ReadFault) → a_line (codes "part") w ≡ Some r
         → FailsText f (at_line r.number (part_at s reaches r.tokens))
         → IsOnTheWay lines reaches parts w whole → FailsText f whole
     part_fails f e k h =
         subst (FailsText f) h.same (bind_fails f (part_lines s reaches parts w) _
-          (subst (FailsText f) (sym (part_next reaches parts w r e))
-            (bind_fails f (at_line r.number (part_at s reaches r.tokens)) _ k)))
+        (subst (FailsText f) (sym (part_next reaches parts w r e))
+        (bind_fails f (at_line r.number (part_at s reaches r.tokens)) _ k)))
 
     pub line_goes_on : (u : Unit {0}) → a_line (codes "part") w ≡ None
         → a_line (codes "line") w ≡ Some r → at_line r.number (end_at r.tokens) ≡ Ok u
         → IsOnTheWay lines reaches parts w whole
         → IsOnTheWay (lines ++ parts ∷ []) (reaches ++ line_reach s.setting reaches parts ∷ []) []
-            r.after whole
+        r.after whole
     line_goes_on u d e k h = record {
       same =
           sym (ap (with_front lines) (line_next reaches parts w r d e
-                  ∙ ap (λ (q : Result (Unit {0}) TextFault). q >>= λ _. with_first
-                    (part_lines s (reaches ++ line_reach s.setting reaches parts ∷ []) [] r.after)
-                    parts) k)
+          ∙ ap (λ (q : Result (Unit {0}) TextFault). q >>= λ _. with_first
+          (part_lines s (reaches ++ line_reach s.setting reaches parts ∷ []) [] r.after)
+          parts) k)
           ∙ regroup lines parts (part_lines s (reaches ++ line_reach s.setting reaches parts ∷ [])
-                [] r.after))
+          [] r.after))
           ∙ h.same;
     }
 
@@ -99,8 +101,8 @@ module _ (s : NamedSetting) where
         → IsOnTheWay lines reaches parts w whole → FailsText f whole
     line_fails f d e k h =
         subst (FailsText f) h.same (bind_fails f (part_lines s reaches parts w) _
-          (subst (FailsText f) (sym (line_next reaches parts w r d e))
-            (bind_fails f (at_line r.number (end_at r.tokens)) _ k)))
+        (subst (FailsText f) (sym (line_next reaches parts w r d e))
+        (bind_fails f (at_line r.number (end_at r.tokens)) _ k)))
 
   pub ends : (lines : List certificates.Line) (reaches : List ℕ) (parts : List Part) (w : Written)
       (whole : Read certificates.Line) → a_line (codes "part") w ≡ None

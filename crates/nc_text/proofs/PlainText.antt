@@ -55,24 +55,24 @@ terms_plain : (p : ℕ) (a : Alphabet) (f : Polynomial) → p < 65536 → AreNam
 terms_plain p a [] small ns all = refl
 terms_plain p a (t ∷ f) small ns all =
     plain_append (term_text a.names t) _
-        (term_plain a t.coefficient t.key (let k = all.0.small in omega arith) ns all.0.letters)
-        (terms_plain p a f small ns all.1)
+    (term_plain a t.coefficient t.key (let k = all.0.small in omega arith) ns all.0.letters)
+    (terms_plain p a f small ns all.1)
 
 pub poly_plain : (p : ℕ) (a : Alphabet) (f : Polynomial) → p < 65536 → AreNames a → ArePrinted p a f
     → ArePlain (poly_text a.names f)
 poly_plain p a [] small ns all = refl
 poly_plain p a (t ∷ f) small ns all =
     plain_append (term_text a.names t) _
-        (term_plain a t.coefficient t.key (let k = all.0.small in omega arith) ns all.0.letters)
-        (terms_plain p a f small ns all.1)
+    (term_plain a t.coefficient t.key (let k = all.0.small in omega arith) ns all.0.letters)
+    (terms_plain p a f small ns all.1)
 
 pub sig_plain : (a : Alphabet) (generators : ℕ) (σ : Monomial) → AreNames a → generators ≤ 1000
     → IsTextMonomial a generators σ → ArePlain (sig_text a.names σ)
 sig_plain a generators σ ns few h =
     plain_append (word_text a.names σ.left) _ (word_plain a σ.left ns (are_letters a σ.left h.left))
     (plain_append (decimal σ.generator) (93 ∷ 32 ∷ word_text a.names σ.right)
-          (decimal_plain σ.generator (let k = h.listed in omega arith))
-          (word_plain a σ.right ns (are_letters a σ.right h.right)))
+    (decimal_plain σ.generator (let k = h.listed in omega arith))
+    (word_plain a σ.right ns (are_letters a σ.right h.right)))
 
 factor_plain : (of : Factor) → number_in of ≤ 4000000000 → ArePlain (factor_text of)
 factor_plain (Factor.a_generator i) few =
@@ -86,11 +86,11 @@ pub part_plain : (s : NamedSetting) (reaches : List ℕ) (part : Part) → s.set
 part_plain s reaches part small ns few h =
     let a = s.alphabet in
     plain_append (decimal part.coefficient)
-        (32 ∷ (word_text a.names part.left
-            ++ (factor_text part.of ++ word_text a.names part.right)))
-        (decimal_plain part.coefficient (let k = h.rule.residue in omega arith))
+    (32 ∷ (word_text a.names part.left
+    ++ (factor_text part.of ++ word_text a.names part.right)))
+    (decimal_plain part.coefficient (let k = h.rule.residue in omega arith))
     (plain_append (word_text a.names part.left)
-          (factor_text part.of ++ word_text a.names part.right)
-          (word_plain a part.left ns (are_letters a part.left h.words.left))
+    (factor_text part.of ++ word_text a.names part.right)
+    (word_plain a part.left ns (are_letters a part.left h.words.left))
     (plain_append (factor_text part.of) (word_text a.names part.right) (factor_plain part.of few)
-          (word_plain a part.right ns (are_letters a part.right h.words.right))))
+    (word_plain a part.right ns (are_letters a part.right h.words.right))))

@@ -45,8 +45,11 @@ regroup front t (Err f) = refl
 pub begins : (p : ℕ) (a : Alphabet) (ts rest : List Token) (negative : Bool)
     → sign_at ts ≡ (negative, rest) → IsOnTheWay p a [] negative rest (sum_at p a ts)
 begins p a ts rest negative e =
-    rw e (record { budget = length rest;
-        enough = omega arith; same = no_front (terms_at (length rest) p a negative rest) })
+    rw e (record {
+      budget = length rest;
+      enough = omega arith;
+      same = no_front (terms_at (length rest) p a negative rest);
+    })
 
 -- a term is read, and the same holds of what follows it
 record IsBehindTerm (p : ℕ) (a : Alphabet) (front : Polynomial) (ts : List Token)
@@ -67,8 +70,8 @@ behind_term p a front negative ts whole x e h = by_budget h.budget h.enough h.sa
     by_budget (suc n) enough same =
         let r = after_term (terms_at n p a) x.1 in
         let one : terms_at (suc n) p a negative ts ≡ (r >>= λ others. Ok (x.0 ∷ others)) =
-            ap (λ (r : Result (Term Word × List Token) Kind). r >>= λ term. after_term
-              (terms_at n p a) term.1 >>= λ others. Ok (term.0 ∷ others)) e in
+        ap (λ (r : Result (Term Word × List Token) Kind). r >>= λ term. after_term
+        (terms_at n p a) term.1 >>= λ others. Ok (term.0 ∷ others)) e in
         record {
           budget = n;
           enough = omega (arith, term_shorter p a negative ts x e);
@@ -78,22 +81,28 @@ behind_term p a front negative ts whole x e h = by_budget h.budget h.enough h.sa
 pub goes_on : (p : ℕ) (a : Alphabet) (front : Polynomial) (negative : Bool) (ts : List Token)
     (whole : Read) (t : Term Word) (us rest : List Token) → term_at p a negative ts ≡ Ok (t, us)
     → us ≡ Plus ∷ rest → IsOnTheWay p a front negative ts whole
-        → IsOnTheWay p a (front ++ t ∷ []) false rest whole
+    → IsOnTheWay p a (front ++ t ∷ []) false rest whole
 goes_on p a front negative ts whole t us rest e sign h =
     let b = behind_term p a front negative ts whole (t, us) e h in
-    record { budget = b.budget; enough = omega (arith, b.enough, ap length sign);
-          same = ap (λ (l : List Token). with_front (front ++ t ∷ [])
-            (after_term (terms_at b.budget p a) l)) (sym sign) ∙ b.same }
+    record {
+      budget = b.budget;
+      enough = omega (arith, b.enough, ap length sign);
+      same = ap (λ (l : List Token). with_front (front ++ t ∷ [])
+          (after_term (terms_at b.budget p a) l)) (sym sign) ∙ b.same;
+    }
 
 pub goes_on_less : (p : ℕ) (a : Alphabet) (front : Polynomial) (negative : Bool) (ts : List Token)
     (whole : Read) (t : Term Word) (us rest : List Token) → term_at p a negative ts ≡ Ok (t, us)
     → us ≡ Minus ∷ rest → IsOnTheWay p a front negative ts whole
-        → IsOnTheWay p a (front ++ t ∷ []) true rest whole
+    → IsOnTheWay p a (front ++ t ∷ []) true rest whole
 goes_on_less p a front negative ts whole t us rest e sign h =
     let b = behind_term p a front negative ts whole (t, us) e h in
-    record { budget = b.budget; enough = omega (arith, b.enough, ap length sign);
-          same = ap (λ (l : List Token). with_front (front ++ t ∷ [])
-            (after_term (terms_at b.budget p a) l)) (sym sign) ∙ b.same }
+    record {
+      budget = b.budget;
+      enough = omega (arith, b.enough, ap length sign);
+      same = ap (λ (l : List Token). with_front (front ++ t ∷ [])
+          (after_term (terms_at b.budget p a) l)) (sym sign) ∙ b.same;
+    }
 
 pub ends : (p : ℕ) (a : Alphabet) (front : Polynomial) (negative : Bool) (ts : List Token)
     (whole : Read) (t : Term Word) (us : List Token) → term_at p a negative ts ≡ Ok (t, us)
@@ -101,8 +110,8 @@ pub ends : (p : ℕ) (a : Alphabet) (front : Polynomial) (negative : Bool) (ts :
 ends p a front negative ts whole t us e end h =
     let b = behind_term p a front negative ts whole (t, us) e h in
     sym b.same ∙ ap (λ (l : List Token). with_front (front ++ t ∷ [])
-          (after_term (terms_at b.budget p a) l)) end
-        ∙ ap (λ (l : Polynomial). Ok l) (append-nil (front ++ t ∷ []))
+    (after_term (terms_at b.budget p a) l)) end
+    ∙ ap (λ (l : Polynomial). Ok l) (append-nil (front ++ t ∷ []))
 
 wrong : (further : Bool → List Token → Read) (token : shown.Token) (rest : List Token)
     → (token ≡ code.End → ⊥) → (token ≡ code.Plus → ⊥) → (token ≡ code.Minus → ⊥)
@@ -124,16 +133,16 @@ wrong further code.End rest a b c = absurd (a refl)
 pub is_wrong : (p : ℕ) (a : Alphabet) (front : Polynomial) (negative : Bool) (ts : List Token)
     (whole : Read) (t : Term Word) (us rest : List Token) (token : shown.Token) (f : LineError)
     → term_at p a negative ts ≡ Ok (t, us) → us ≡ before token rest → (token ≡ code.End → ⊥)
-        → (token ≡ code.Plus → ⊥) → (token ≡ code.Minus → ⊥) → IsMisplaced token f
+    → (token ≡ code.Plus → ⊥) → (token ≡ code.Minus → ⊥) → IsMisplaced token f
     → IsOnTheWay p a front negative ts whole → Fails f whole
 is_wrong p a front negative ts whole t us rest token f e is not_end not_plus not_minus wrong_here
     h =
     let b = behind_term p a front negative ts whole (t, us) e h in
     let k : whole ≡ Err (misplaced (before token rest)) =
-        sym b.same ∙ ap (λ (l : List Token). with_front (front ++ t ∷ [])
-          (after_term (terms_at b.budget p a) l)) is
-        ∙ ap (with_front (front ++ t ∷ []))
-        (wrong (terms_at b.budget p a) token rest not_end not_plus not_minus) in
+    sym b.same ∙ ap (λ (l : List Token). with_front (front ++ t ∷ [])
+    (after_term (terms_at b.budget p a) l)) is
+    ∙ ap (with_front (front ++ t ∷ []))
+    (wrong (terms_at b.budget p a) token rest not_end not_plus not_minus) in
     rw (wrong_here rest) k
 
 none_at : (p : ℕ) (a : Alphabet) (negative : Bool) → term_at p a negative [] ≡ Err (misplaced [])
@@ -162,10 +171,10 @@ term_fails f p a front negative ts whole fails h = by_budget h.budget h.enough h
         let e : ts ≡ [] = nil_from_length ts (omega arith) in
         let none : term_at p a negative ts ≡ Err (misplaced ts) = rw e (none_at p a negative) in
         let given : Fails f (term_error ts) =
-            subst (λ (r : Result (Term Word × List Token) Kind). Fails f r) none fails in
+        subst (λ (r : Result (Term Word × List Token) Kind). Fails f r) none fails in
         subst (λ (r : Read). Fails f r) same
-            (bind_fails f (poly_error ts) (λ others. Ok (front ++ others)) (same_error f ts given))
+        (bind_fails f (poly_error ts) (λ others. Ok (front ++ others)) (same_error f ts given))
     by_budget (suc n) enough same =
         subst (λ (r : Read). Fails f r) same
         (bind_fails f (term_at p a negative ts >>= λ term. after_term (terms_at n p a) term.1 >>=
-            λ others. Ok (term.0 ∷ others)) _ (bind_fails f (term_at p a negative ts) _ fails))
+        λ others. Ok (term.0 ∷ others)) _ (bind_fails f (term_at p a negative ts) _ fails))

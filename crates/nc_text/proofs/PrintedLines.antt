@@ -14,7 +14,7 @@ unfolding lines
 lines_ended [] h = refl
 lines_ended (line ∷ ls) h =
     ap lines (append_assoc line (10 ∷ []) (ended ls)) ∙ first_line line (ended ls) h.0.plain
-        ∙ ap (λ (l : List (List ℕ)). line ∷ l) (lines_ended ls h.1)
+    ∙ ap (λ (l : List (List ℕ)). line ∷ l) (lines_ended ls h.1)
 
 pub all_printed : (xs ys : List (List ℕ)) → AllByRecursion IsPrintedLine xs
     → AllByRecursion IsPrintedLine ys → AllByRecursion IsPrintedLine (xs ++ ys)

@@ -27,8 +27,8 @@ pub longest_more : (f : Polynomial) (i : ℕ) (t : Term Word) (most : ℕ) → i
     → max (length t.key) most ≡ longest (take (i + 1) f)
 longest_more f i t most within is so_far =
     ap (max (length t.key)) so_far
-        ∙ sym (ap longest (take_more f i t within ∙ ap (λ (u : Term Word). take i f ++ u ∷ [])
-            (sym is)) ∙ longest-push (take i f) t)
+    ∙ sym (ap longest (take_more f i t within ∙ ap (λ (u : Term Word). take i f ++ u ∷ [])
+    (sym is)) ∙ longest-push (take i f) t)
 
 pub longest_whole : (f : Polynomial) (i : ℕ) (most : ℕ) → length f ≤ i → most ≡ longest (take i f)
     → most ≡ longest f
@@ -39,9 +39,9 @@ pub longest_list_more : (fs : List Polynomial) (i : ℕ) (f : Polynomial) (all n
     → now ≡ all ++ longest f ∷ [] → now ≡ map longest (take (i + 1) fs)
 longest_list_more fs i f all now within is so_far pushed =
     pushed ∙ ap (λ (l : List ℕ). l ++ longest f ∷ []) so_far
-        ∙ sym (ap (map longest) (take_more fs i f within
-            ∙ ap (λ (g : Polynomial). take i fs ++ g ∷ []) (sym is))
-          ∙ map-append longest (take i fs) (f ∷ []))
+    ∙ sym (ap (map longest) (take_more fs i f within
+    ∙ ap (λ (g : Polynomial). take i fs ++ g ∷ []) (sym is))
+    ∙ map-append longest (take i fs) (f ∷ []))
 
 -- ---- parts
 
@@ -78,12 +78,14 @@ pub all_longest : (s : NamedSetting) → IsSetting s
 all_longest s is =
     All-from_recursion (λ m. m ≤ 100000) (map longest s.setting.generators)
     (each s.setting.generators (recursion_from_All (IsTextGenerator s.alphabet s.setting.prime)
-        s.setting.generators is.each))
+    s.setting.generators is.each))
   where
     each : (fs : List Polynomial) → AllByRecursion (IsTextGenerator s.alphabet s.setting.prime) fs
         → AllByRecursion (λ m. m ≤ 100000) (map longest fs)
     each [] h = tt
-    each (f ∷ fs) h =
-        (let short = words_longest s.alphabet f
+    each (f ∷ fs) h = (
+      let short = words_longest s.alphabet f
           (recursion_from_All (λ t. IsTextWord s.alphabet t.key) f h.0.polynomial.words) in
-          omega (arith, short), each fs h.1)
+          omega (arith, short),
+      each fs h.1,
+    )

@@ -41,7 +41,7 @@ unfolding field_line
 field_line_reads w =
     on_bind _ _ (the_line (codes "field") w) _ (on_any (the_line (codes "field") w)) (λ line _.
     on_bind _ _ (at_line line.number (field_at line.tokens)) _
-        (at_line_reads _ line.number (field_at line.tokens) (field_reads line.tokens)) (λ p is. is))
+    (at_line_reads _ line.number (field_at line.tokens) (field_reads line.tokens)) (λ p is. is))
 
 letters_line_reads : (w : Written)
     → IfOk (letters_line w) (λ x. AreLetterNames x.0 × (0 < length x.0))
@@ -49,8 +49,8 @@ unfolding letters_line
 letters_line_reads w =
     on_bind _ _ (the_line (codes "letters") w) _ (on_any (the_line (codes "letters") w)) (λ line _.
     on_bind _ _ (at_line line.number (letters_at [] line.tokens)) _
-        (at_line_reads _ line.number (letters_at [] line.tokens)
-          (letters_read [] line.tokens no_names)) (λ names are. are))
+    (at_line_reads _ line.number (letters_at [] line.tokens)
+    (letters_read [] line.tokens no_names)) (λ names are. are))
 
 -- weights for so many letters
 abbrev AreWeights : ℕ → List ℕ → Type 0
@@ -62,16 +62,16 @@ weights_in_reads letters w None =
     (length-replicate letters 1, All-replicate IsWeight letters 1 (omega arith, omega arith))
 weights_in_reads letters w (Some line) =
     on_bind _ _ (at_line line.number (weights_at letters line.tokens)) _
-        (at_line_reads _ line.number (weights_at letters line.tokens)
-          (weights_read letters line.tokens)) (λ weights are. are)
+    (at_line_reads _ line.number (weights_at letters line.tokens)
+    (weights_read letters line.tokens)) (λ weights are. are)
 
 pub alphabet_lines_read : (w : Written) → IfOk (alphabet_lines w) (λ x. IsAlphabet x.0)
 unfolding alphabet_lines weights_line
 alphabet_lines_read w =
     on_bind _ _ (letters_line w) _ (letters_line_reads w)
-        (λ names are. on_bind _ _ (weights_line (length names.0) names.1) _
-          (weights_in_reads (length names.0) names.1 (a_line (codes "weights") names.1))
-          (λ weights each. record {
+    (λ names are. on_bind _ _ (weights_line (length names.0) names.1) _
+    (weights_in_reads (length names.0) names.1 (a_line (codes "weights") names.1))
+    (λ weights each. record {
       some = are.1;
       few = are.0.few;
       named = are.0.named;
@@ -87,23 +87,24 @@ generator_lines_read p a room (End n) some = (omega arith, All-nil (IsTextGenera
 generator_lines_read p a room (Line n clean ts after) some =
     on_choice _ (clean && begins (codes "generator") ts) _ _
     (λ begun. on_bind _ _ (at_line n (generator_at p a room (behind ts))) _
-          (at_line_reads _ n (generator_at p a room (behind ts))
-            (generator_reads p a room (behind ts) some)) (λ first is.
+    (at_line_reads _ n (generator_at p a room (behind ts))
+    (generator_reads p a room (behind ts) some)) (λ first is.
     on_bind _ _ (generator_lines p a (room - 1) after) _
-        (generator_lines_read p a (room - 1) after some) (λ others are.
-    ((let r = is.0 in let k = are.0 in omega arith),
-          All-cons (IsTextGenerator a p) first others.0 is.1 are.1))))
+    (generator_lines_read p a (room - 1) after some) (λ others are. (
+      (let r = is.0 in let k = are.0 in omega arith),
+      All-cons (IsTextGenerator a p) first others.0 is.1 are.1,
+    ))))
     (λ other. (omega arith, All-nil (IsTextGenerator a p)))
 
 pub setting_lines_read : (w : Written) → IfOk (setting_lines w) (λ x. IsSetting x.0)
 unfolding setting_lines
 setting_lines_read w =
     on_bind _ _ (field_line w) _ (field_line_reads w)
-        (λ field listed. on_bind _ _ (alphabet_lines field.1) _ (alphabet_lines_read field.1)
-          (λ alphabet is.
+    (λ field listed. on_bind _ _ (alphabet_lines field.1) _ (alphabet_lines_read field.1)
+    (λ alphabet is.
     on_bind _ _ (generator_lines field.0 alphabet.0 1000 alphabet.1) _
-        (generator_lines_read field.0 alphabet.0 1000 alphabet.1 (listed_positive field.0 listed))
-        (λ generators each. record {
+    (generator_lines_read field.0 alphabet.0 1000 alphabet.1 (listed_positive field.0 listed))
+    (λ generators each. record {
       prime = listed;
       alphabet = is;
       few = each.0;
@@ -118,8 +119,8 @@ unfolding claim_line
 claim_line_reads p a w some =
     on_bind _ _ (the_line (codes "claim") w) _ (on_any (the_line (codes "claim") w)) (λ line _.
     on_bind _ _ (at_line line.number (poly_at p a line.tokens)) _
-        (at_line_reads _ line.number (poly_at p a line.tokens) (poly_reads p a line.tokens some))
-        (λ f text. text))
+    (at_line_reads _ line.number (poly_at p a line.tokens) (poly_reads p a line.tokens some))
+    (λ f text. text))
 
 -- ---- the lines
 
@@ -161,11 +162,11 @@ module _ (s : NamedSetting) (is : IsSetting s) (some : 0 < s.setting.prime) wher
   term_lines_read (Line n clean ts after) =
       on_choice _ (clean && begins (codes "term") ts) _ _
       (λ begun. on_bind _ _ (at_line n
-              (term_row_at s.setting.prime s.alphabet (length s.setting.generators) (behind ts))) _
+      (term_row_at s.setting.prime s.alphabet (length s.setting.generators) (behind ts))) _
       (at_line_reads _ n (term_row_at s.setting.prime s.alphabet (length s.setting.generators)
-              (behind ts)) (term_reads s (behind ts) is some)) (λ first h.
+      (behind ts)) (term_reads s (behind ts) is some)) (λ first h.
       on_bind _ _ (term_lines s.setting.prime s.alphabet (length s.setting.generators) after) _
-          (term_lines_read after) (λ others are. All-cons (IsTextPart s []) first others.0 h are)))
+      (term_lines_read after) (λ others are. All-cons (IsTextPart s []) first others.0 h are)))
       (λ other. All-nil (IsTextPart s []))
 
   one_line_reads : (parts : List Part) → All (IsTextPart s []) parts
@@ -188,17 +189,17 @@ module _ (s : NamedSetting) (is : IsSetting s) (some : 0 < s.setting.prime) wher
   part_lines_read reaches parts (Line n clean ts after) h =
       on_choice _ (clean && begins (codes "part") ts) _ _
       (λ begun. on_bind _ _ (at_line n (part_at s reaches (behind ts))) _
-            (at_line_reads _ n (part_at s reaches (behind ts))
-              (part_reads s reaches (behind ts) some)) (λ part k.
+      (at_line_reads _ n (part_at s reaches (behind ts))
+      (part_reads s reaches (behind ts) some)) (λ part k.
       part_lines_read reaches (parts ++ part ∷ []) after
-          (All-push (IsTextPart s reaches) parts part h k)))
+      (All-push (IsTextPart s reaches) parts part h k)))
       (λ other. on_choice _ (clean && begins (codes "line") ts) _ _
       (λ begun. on_bind _ _ (at_line n (end_at (behind ts))) _
-            (on_any (at_line n (end_at (behind ts)))) (λ _ _.
+      (on_any (at_line n (end_at (behind ts)))) (λ _ _.
       on_bind _ _ (part_lines s (reaches ++ line_reach s.setting reaches parts ∷ []) [] after) _
       (part_lines_read (reaches ++ line_reach s.setting reaches parts ∷ []) [] after
-            (All-nil (IsTextPart s (reaches ++ line_reach s.setting reaches parts ∷ []))))
-          (λ others are. one_more_line reaches parts others.0 h are)))
+      (All-nil (IsTextPart s (reaches ++ line_reach s.setting reaches parts ∷ []))))
+      (λ others are. one_more_line reaches parts others.0 h are)))
       (λ last. one_more_line reaches parts [] h (no_lines _)))
 
   line_lines_in_read : (w : Written) (o : Option Row)
@@ -220,23 +221,30 @@ module _ (s : NamedSetting) (is : IsSetting s) (some : 0 < s.setting.prime) wher
 
 text_in : (a : Alphabet) (p : ℕ) (f : Polynomial) → IsTextPolynomial a p f → IsPolynomialIn a p f
 text_in a p f h =
-    record { normal = h.normal; words = All-weaker (λ t. IsTextWord a t.key) (λ t. IsWordIn a t.key)
-      (λ t k. k.letters) f h.words }
+    record {
+      normal = h.normal;
+      words = All-weaker (λ t. IsTextWord a t.key) (λ t. IsWordIn a t.key)
+          (λ t k. k.letters) f h.words;
+    }
 
 pub certificate_reads : (w : Written) → IfOk (certificate_at w) IsTextCertificate
 unfolding certificate_at
 certificate_reads w =
     on_bind _ _ (form_line w) _ (on_any (form_line w))
-        (λ form _. on_bind _ _ (setting_lines form.1) _ (setting_lines_read form.1) (λ setting is.
+    (λ form _. on_bind _ _ (setting_lines form.1) _ (setting_lines_read form.1) (λ setting is.
     let some = listed_positive setting.0.setting.prime is.prime in
     on_bind _ _ (claim_line setting.0.setting.prime setting.0.alphabet setting.1) _
-        (claim_line_reads setting.0.setting.prime setting.0.alphabet setting.1 some) (λ claim text.
+    (claim_line_reads setting.0.setting.prime setting.0.alphabet setting.1 some) (λ claim text.
     on_bind _ _ (body_lines form.0 setting.0 claim.1) _
-        (body_lines_read setting.0 is some form.0 claim.1) (λ body are.
+    (body_lines_read setting.0 is some form.0 claim.1) (λ body are.
     on_bind _ _ (end_line body.1) _ (on_any (end_line body.1)) (λ _ _. record {
       certificate =
-          record { setting = is; claim = text_in setting.0.alphabet setting.0.setting.prime claim.0
-            text; lines = are.lines };
+          record {
+            setting = is;
+            claim = text_in setting.0.alphabet setting.0.setting.prime claim.0
+                text;
+            lines = are.lines;
+          };
       claim = text;
       words = are.words;
     })))))

@@ -30,22 +30,25 @@ record IsBound (s : NamedSetting) (b : Bound) : Type 0 where
 limit_reads : (most n : ℕ) (k : Kind) → IfOk (checked (ltb n (most + 1)) k n) (λ m. m ≤ most)
 limit_reads most n k =
     on_weaker _ _ (checked (ltb n (most + 1)) k n) (λ m is. let low = ltb-true n (most + 1) is.0 in
-      omega (arith, is.1)) (checked_reads (ltb n (most + 1)) k n)
+    omega (arith, is.1)) (checked_reads (ltb n (most + 1)) k n)
 
 degree_reads : (s : NamedSetting) (ts : List Token) → IfOk (degree_at ts) (IsBound s)
 unfolding degree_at
 degree_reads s ts =
     on_bind _ _ (literal_at ts) _ (on_any (literal_at ts))
-        (λ n _. on_bind _ _ (checked (ltb n.0 1001) _ n.0) _ (limit_reads 1000 n.0 _) (λ d few.
+    (λ n _. on_bind _ _ (checked (ltb n.0 1001) _ n.0) _ (limit_reads 1000 n.0 _) (λ d few.
     on_bind _ _ (end_at n.1) _ (on_any (end_at n.1))
-        (λ _ _. record { over = tt; limited = omega (arith, few) })))
+    (λ _ _. record { over = tt; limited = omega (arith, few) })))
 
 monomial_light : (s : NamedSetting) (σ : Monomial) → IsSetting s
     → IsTextMonomial s.alphabet (length s.setting.generators) σ → degree s.setting σ ≤ 80000
 monomial_light s σ is h =
-    omega (arith, text_word_light s.alphabet is.alphabet σ.left h.left,
+    omega (
+      arith,
+      text_word_light s.alphabet is.alphabet σ.left h.left,
       text_word_light s.alphabet is.alphabet σ.right h.right,
-      generator_weighs s σ.generator is (h.some, h.listed))
+      generator_weighs s σ.generator is (h.some, h.listed),
+    )
 
 below_reads : (s : NamedSetting) (ts : List Token) → IsSetting s
     → IfOk (below_at s.alphabet (length s.setting.generators) ts) (IsBound s)
@@ -53,15 +56,17 @@ unfolding below_at
 below_reads s ts is =
     on_bind _ _ (mono_at s.alphabet (length s.setting.generators) ts) _
     (mono_reads s.alphabet (length s.setting.generators) ts)
-    (λ σ h. record { over = ((h.some, h.listed), h.left.letters, h.right.letters);
-        limited = monomial_light s σ is h })
+    (λ σ h. record {
+      over = ((h.some, h.listed), h.left.letters, h.right.letters);
+      limited = monomial_light s σ is h;
+    })
 
 bound_reads : (s : NamedSetting) (ts : List Token) → IsSetting s
     → IfOk (bound_at s.alphabet (length s.setting.generators) ts) (IsBound s)
 unfolding bound_at
 bound_reads s (Name word ∷ rest) is =
     on_choice _ (bytes_eq word (codes "degree")) _ _ (λ yes. degree_reads s rest)
-        (λ no. on_choice _ (bytes_eq word (codes "below")) _ _
+    (λ no. on_choice _ (bytes_eq word (codes "below")) _ _
     (λ yes. below_reads s rest is) (λ other. tt))
 bound_reads s ts is = tt
 
@@ -71,16 +76,16 @@ unfolding bound_line
 bound_line_reads s w is =
     on_bind _ _ (the_line (codes "bound") w) _ (on_any (the_line (codes "bound") w)) (λ line _.
     on_bind _ _ (at_line line.number
-          (bound_at s.alphabet (length s.setting.generators) line.tokens)) _
-        (at_line_reads _ line.number (bound_at s.alphabet (length s.setting.generators) line.tokens)
-          (bound_reads s line.tokens is)) (λ b h. h))
+    (bound_at s.alphabet (length s.setting.generators) line.tokens)) _
+    (at_line_reads _ line.number (bound_at s.alphabet (length s.setting.generators) line.tokens)
+    (bound_reads s line.tokens is)) (λ b h. h))
 
 steps_read : (ts : List Token) → IfOk (steps_at ts) (λ n. n ≤ 1000000000)
 unfolding steps_at
 steps_read ts =
     on_bind _ _ (literal_at ts) _ (on_any (literal_at ts))
-        (λ n _. on_bind _ _ (checked (ltb n.0 1000000001) _ n.0) _ (limit_reads 1000000000 n.0 _)
-          (λ steps few.
+    (λ n _. on_bind _ _ (checked (ltb n.0 1000000001) _ n.0) _ (limit_reads 1000000000 n.0 _)
+    (λ steps few.
     on_bind _ _ (end_at n.1) _ (on_any (end_at n.1)) (λ _ _. few)))
 
 steps_in_read : (w : Written) (o : Option Row) → IfOk (steps_in w o) (λ x. x.0 ≤ 1000000000)
@@ -97,19 +102,25 @@ steps_line_reads w = steps_in_read w (a_line (codes "steps") w)
 pub is_problem : (s : NamedSetting) (b : Bound) (n : ℕ) (w one two three : Written)
     → setting_lines w ≡ Ok (s, one) → bound_line s.alphabet (length s.setting.generators) one
     ≡ Ok (b, two) → steps_line two ≡ Ok (n, three)
-    → IsProblem (record { problem = record { setting = s.setting; bound = b; steps = n };
-            alphabet = s.alphabet })
+    → IsProblem (record {
+      problem = record { setting = s.setting; bound = b; steps = n };
+      alphabet = s.alphabet;
+    })
 is_problem s b n w one two three e f g =
     let is : IsSetting s =
-        subst (λ (r : Result (NamedSetting × Written) TextFault). IfOk r (λ x. IsSetting x.0)) e
-        (setting_lines_read w) in
+    subst (λ (r : Result (NamedSetting × Written) TextFault). IfOk r (λ x. IsSetting x.0)) e
+    (setting_lines_read w) in
     let bound : IsBound s b =
-        subst (λ (r : Result (Bound × Written) TextFault). IfOk r (λ x. IsBound s x.0)) f
-        (bound_line_reads s one is) in
-    record { setting = is; bound = bound.over;
-          limited = bound.limited; few = subst
+    subst (λ (r : Result (Bound × Written) TextFault). IfOk r (λ x. IsBound s x.0)) f
+    (bound_line_reads s one is) in
+    record {
+      setting = is;
+      bound = bound.over;
+      limited = bound.limited;
+      few = subst
           (λ (r : Result (ℕ × Written) TextFault). IfOk r (λ x. x.0 ≤ 1000000000)) g
-          (steps_line_reads two) }
+          (steps_line_reads two);
+    }
 
 problem_reads : (wants_claim : Bool) (w : Written)
     → IfOk (problem_at wants_claim w) (λ t. IsProblem t.problem)
@@ -117,13 +128,13 @@ unfolding problem_at
 problem_reads wants_claim w =
     on_bind _ _ (setting_lines w) _ (setting_lines_read w) (λ setting is.
     on_bind _ _ (bound_line setting.0.alphabet (length setting.0.setting.generators) setting.1) _
-        (bound_line_reads setting.0 setting.1 is) (λ bound h.
+    (bound_line_reads setting.0 setting.1 is) (λ bound h.
     on_bind _ _ (steps_line bound.1) _ (steps_line_reads bound.1) (λ steps few.
     on_bind _ _ (claim_at wants_claim setting.0.setting.prime setting.0.alphabet steps.1) _
-        (on_any (claim_at wants_claim setting.0.setting.prime setting.0.alphabet steps.1))
-        (λ claim _.
+    (on_any (claim_at wants_claim setting.0.setting.prime setting.0.alphabet steps.1))
+    (λ claim _.
     on_bind _ _ (the_end claim.1) _ (on_any (the_end claim.1))
-        (λ _ _. record { setting = is; bound = h.over; limited = h.limited; few = few })))))
+    (λ _ _. record { setting = is; bound = h.over; limited = h.limited; few = few })))))
 
 pub reads_problems : ReadsProblems
 reads_problems wants_claim bytes t e =

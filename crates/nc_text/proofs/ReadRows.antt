@@ -36,8 +36,8 @@ pub field_reads : (ts : List Token) → IfOk (field_at ts) (λ p. is_listed_prim
 unfolding field_at
 field_reads ts =
     on_bind _ _ (literal_at ts) _ (on_any (literal_at ts))
-        (λ n _. on_bind _ _ (checked (is_listed_prime n.0) _ n.0) _
-          (checked_reads (is_listed_prime n.0) _ n.0) (λ p is.
+    (λ n _. on_bind _ _ (checked (is_listed_prime n.0) _ n.0) _
+    (checked_reads (is_listed_prime n.0) _ n.0) (λ p is.
     on_bind _ _ (end_at n.1) _ (on_any (end_at n.1)) (λ _ _. ap is_listed_prime is.1 ∙ is.0)))
 
 -- ---- letters
@@ -72,9 +72,9 @@ further_reads : (names : List (List ℕ)) (name : List ℕ) → AreLetterNames n
     → IfOk (further_name names name) (λ x. AreLetterNames (names ++ x ∷ []))
 further_reads names name so_far =
     on_choice _ (is_name name) _ _
-        (λ is. on_choice _ (ltb (length names) 64) _ _
-          (λ room. on_choice _ (list_any (λ n. bytes_eq n name) names) _ _ (λ double. tt)
-            (λ new. record {
+    (λ is. on_choice _ (ltb (length names) 64) _ _
+    (λ room. on_choice _ (list_any (λ n. bytes_eq n name) names) _ _ (λ double. tt)
+    (λ new. record {
       named = All-push (λ name. IsTrue (is_name name)) names name so_far.named is;
       apart = distinct_pushed name names so_far.apart (not_among name names new);
       few = (let low = ltb-true _ _ room in omega (arith, length-append names (name ∷ [])));
@@ -99,9 +99,10 @@ no_names = record { named = All-nil (λ name. IsTrue (is_name name)); apart = tt
 pub counted_reads : (most n : ℕ) → IfOk (counted most n) (λ i. (1 ≤ i) × (i ≤ most))
 counted_reads most n =
     on_weaker _ _ (counted most n)
-    (λ m is. let k = and_parts (ltb 0 n) (ltb n (most + 1)) is.0 in
-          ((let low = ltb-true 0 n k.0 in omega (arith, is.1)),
-            (let high = ltb-true n (most + 1) k.1 in omega (arith, is.1))))
+    (λ m is. let k = and_parts (ltb 0 n) (ltb n (most + 1)) is.0 in (
+      (let low = ltb-true 0 n k.0 in omega (arith, is.1)),
+      (let high = ltb-true n (most + 1) k.1 in omega (arith, is.1)),
+    ))
     (checked_reads (ltb 0 n && ltb n (most + 1)) OutOfRange n)
 
 weight_reads : (ts : List Token) → IfOk (weight_at ts) (λ x. IsWeight x.0)
@@ -117,7 +118,7 @@ weights_read zero ts =
 weights_read (suc n) ts =
     on_bind _ _ (weight_at ts) _ (weight_reads ts) (λ first is.
     on_bind _ _ (weights_at n first.1) _ (weights_read n first.1)
-        (λ others are. (ap suc are.0, All-cons IsWeight first.0 others is are.1)))
+    (λ others are. (ap suc are.0, All-cons IsWeight first.0 others is are.1)))
 
 -- ---- generator
 
@@ -131,9 +132,9 @@ pub generator_reads : (p : ℕ) (a : Alphabet) (room : ℕ) (ts : List Token) �
 unfolding generator_at
 generator_reads p a room ts some =
     on_choice _ (eqb room 0) _ _ (λ full. tt)
-        (λ more. on_bind _ _ (poly_at p a ts) _ (poly_reads p a ts some)
-          (λ f text. with_room f (let k = eqb-false _ _ more in omega arith)
-            (nonzero_reads a p f text)))
+    (λ more. on_bind _ _ (poly_at p a ts) _ (poly_reads p a ts some)
+    (λ f text. with_room f (let k = eqb-false _ _ more in omega arith)
+    (nonzero_reads a p f text)))
   where
     with_room : (f : Polynomial) → 0 < room → IfOk (nonzero f) (λ g. IsTextGenerator a p g)
         → IfOk (nonzero f) (λ g. (0 < room) × IsTextGenerator a p g)
@@ -160,16 +161,16 @@ generator_number_reads : (generators : ℕ) (ts : List Token)
 unfolding generator_number_at
 generator_number_reads generators ts =
     on_bind _ _ (open_at ts) _ (on_any (open_at ts))
-        (λ inside _. on_bind _ _ (literal_at inside) _ (on_any (literal_at inside)) (λ n _.
+    (λ inside _. on_bind _ _ (literal_at inside) _ (on_any (literal_at inside)) (λ n _.
     on_bind _ _ (counted generators n.0) _ (counted_reads generators n.0)
-        (λ i is. on_bind _ _ (close_at n.1) _ (on_any (close_at n.1)) (λ outside _. is))))
+    (λ i is. on_bind _ _ (close_at n.1) _ (on_any (close_at n.1)) (λ outside _. is))))
 
 line_number_reads : (lines : ℕ) (ts : List Token)
     → IfOk (line_number_at lines ts) (λ x. (1 ≤ x.0) × (x.0 ≤ lines))
 unfolding line_number_at
 line_number_reads lines ts =
     on_bind _ _ (literal_at ts) _ (on_any (literal_at ts))
-        (λ n _. on_bind _ _ (counted lines n.0) _ (counted_reads lines n.0) (λ k is.
+    (λ n _. on_bind _ _ (counted lines n.0) _ (counted_reads lines n.0) (λ k is.
     on_bind _ _ (close_brace_at n.1) _ (on_any (close_brace_at n.1)) (λ outside _. is)))
 
 pub mono_reads : (a : Alphabet) (generators : ℕ) (ts : List Token)
@@ -177,11 +178,11 @@ pub mono_reads : (a : Alphabet) (generators : ℕ) (ts : List Token)
 unfolding mono_at
 mono_reads a generators ts =
     on_bind _ _ (side_at a ts) _ (side_reads a ts)
-        (λ left left_text. on_bind _ _ (generator_number_at generators left.1) _
-          (generator_number_reads generators left.1) (λ number is.
+    (λ left left_text. on_bind _ _ (generator_number_at generators left.1) _
+    (generator_number_reads generators left.1) (λ number is.
     on_bind _ _ (side_at a number.1) _ (side_reads a number.1)
-        (λ right right_text. on_bind _ _ (end_at right.1) _ (on_any (end_at right.1))
-          (λ _ _. record { some = is.0; listed = is.1; left = left_text; right = right_text }))))
+    (λ right right_text. on_bind _ _ (end_at right.1) _ (on_any (end_at right.1))
+    (λ _ _. record { some = is.0; listed = is.1; left = left_text; right = right_text }))))
 
 -- ---- parts
 
@@ -196,7 +197,7 @@ pub generator_longest : (s : NamedSetting) (i : ℕ) → IsSetting s → IsGener
 generator_longest s i is g =
     words_longest s.alphabet (generator s.setting i)
     (recursion_from_All (λ t. IsTextWord s.alphabet t.key) (generator s.setting i)
-      (generator_is_text s i is g).polynomial.words)
+    (generator_is_text s i is g).polynomial.words)
 
 pub term_reads : (s : NamedSetting) (ts : List Token) → IsSetting s → 0 < s.setting.prime
     → IfOk (term_row_at s.setting.prime s.alphabet (length s.setting.generators) ts)
@@ -204,15 +205,19 @@ pub term_reads : (s : NamedSetting) (ts : List Token) → IsSetting s → 0 < s.
 unfolding term_row_at
 term_reads s ts is some =
     on_bind _ _ (literal_at ts) _ (on_any (literal_at ts))
-        (λ c _. on_bind _ _ (mono_at s.alphabet (length s.setting.generators) c.1) _
-          (mono_reads s.alphabet (length s.setting.generators) c.1) (λ σ h. record {
+    (λ c _. on_bind _ _ (mono_at s.alphabet (length s.setting.generators) c.1) _
+    (mono_reads s.alphabet (length s.setting.generators) c.1) (λ σ h. record {
       rule = record {
         residue = mod-lt c.0 some;
         factor = (h.some, h.listed);
         left = h.left.letters;
         right = h.right.letters;
-        short = omega (arith, h.left.short, h.right.short,
-              generator_longest s σ.generator is (h.some, h.listed));
+        short = omega (
+          arith,
+          h.left.short,
+          h.right.short,
+          generator_longest s σ.generator is (h.some, h.listed),
+        );
       };
       words = record { left = h.left; right = h.right };
     }))
@@ -237,18 +242,22 @@ pub part_reads : (s : NamedSetting) (reaches : List ℕ) (ts : List Token) → 0
 unfolding part_at
 part_reads s reaches ts some =
     on_bind _ _ (literal_at ts) _ (on_any (literal_at ts))
-        (λ c _. on_bind _ _ (side_at s.alphabet c.1) _ (side_reads s.alphabet c.1)
-          (λ left left_text.
+    (λ c _. on_bind _ _ (side_at s.alphabet c.1) _ (side_reads s.alphabet c.1)
+    (λ left left_text.
     on_bind _ _ (multiplied_at (length s.setting.generators) (length reaches) left.1) _
-        (multiplied_reads s.setting (length reaches) left.1) (λ of is_factor.
+    (multiplied_reads s.setting (length reaches) left.1) (λ of is_factor.
     on_bind _ _ (side_at s.alphabet of.1) _ (side_reads s.alphabet of.1)
-        (λ right right_text. on_bind _ _ (end_at right.1) _ (on_any (end_at right.1)) (λ _ _.
+    (λ right right_text. on_bind _ _ (end_at right.1) _ (on_any (end_at right.1)) (λ _ _.
     let part : Part =
-        record { coefficient = c.0 % s.setting.prime; left = left.0; of = of.0; right = right.0 } in
+    record { coefficient = c.0 % s.setting.prime; left = left.0; of = of.0; right = right.0 } in
     on_weaker _ _ (within_reach s.setting reaches part)
-        (λ q is. subst (λ (r : Part). IsTextPart s reaches r) (sym is.0) (record {
-      rule = record { residue = mod-lt c.0 some;
-            factor = is_factor; left = left_text.letters;
-            right = right_text.letters; short = is.1 };
+    (λ q is. subst (λ (r : Part). IsTextPart s reaches r) (sym is.0) (record {
+      rule = record {
+        residue = mod-lt c.0 some;
+        factor = is_factor;
+        left = left_text.letters;
+        right = right_text.letters;
+        short = is.1;
+      };
       words = record { left = left_text; right = right_text };
     })) (within_reads s.setting reaches part))))))

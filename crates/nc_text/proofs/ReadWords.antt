@@ -33,29 +33,30 @@ lengthened_reads : (a : Alphabet) (w : Word) (x : Letter) (k : ℕ) → IsWordIn
 lengthened_reads a w x k below letter =
     on_choice (λ v. IsTextWord a v) (ltb 255 (length w + k)) (Err LongWord)
     (Ok (w ++ replicate k x)) (λ long. tt) (λ short. record {
-  letters =
-      All-append (IsLetterIn a) w (replicate k x) below (All-replicate (IsLetterIn a) k x letter);
-  short = (let low = ltb-false _ _ short in
-        omega (arith, length-append w (replicate k x), length-replicate k x));
-})
+      letters =
+          All-append (IsLetterIn a) w (replicate k x) below
+          (All-replicate (IsLetterIn a) k x letter);
+      short = (let low = ltb-false _ _ short in
+          omega (arith, length-append w (replicate k x), length-replicate k x));
+    })
 
 factor_reads : (a : Alphabet) (w : Word) (ts : List Token) → IsWordIn a w
     → IfOk (factor_at a w ts) (λ x. IsTextWord a x.0)
 unfolding factor_at
 factor_reads a w ts below =
     on_bind _ _ (name_at ts) _ (on_any (name_at ts))
-        (λ name _. on_bind _ _ (letter_of a.names name.0) _ (letter_reads a.names name.0)
-          (λ letter less. on_bind _ _ (exponent_at name.1) _ (on_any (exponent_at name.1))
-            (λ exponent _.
+    (λ name _. on_bind _ _ (letter_of a.names name.0) _ (letter_reads a.names name.0)
+    (λ letter less. on_bind _ _ (exponent_at name.1) _ (on_any (exponent_at name.1))
+    (λ exponent _.
     on_bind _ _ (lengthened w (letter_at a letter) exponent.0) _
-        (lengthened_reads a w (letter_at a letter) exponent.0 below (less, refl))
-        (λ longer text. text))))
+    (lengthened_reads a w (letter_at a letter) exponent.0 below (less, refl))
+    (λ longer text. text))))
 
 -- ---- words
 
 after_factor_reads : (a : Alphabet) (further : Word → List Token → Result (Word × List Token) Kind)
     (w : Word) (ts : List Token) → ((ts : List Token) → IsWordIn a w
-      → IfOk (further w ts) (λ x. IsTextWord a x.0)) → IsTextWord a w
+    → IfOk (further w ts) (λ x. IsTextWord a x.0)) → IsTextWord a w
     → IfOk (after_factor further w ts) (λ x. IsTextWord a x.0)
 after_factor_reads a further w [] more text = text
 after_factor_reads a further w (Times ∷ rest) more text = more rest text.letters
@@ -67,8 +68,8 @@ unfolding factors_at
 factors_read zero a w ts below = tt
 factors_read (suc m) a w ts below =
     on_bind _ _ (factor_at a w ts) _ (factor_reads a w ts below)
-        (λ factor text. after_factor_reads a (factors_at m a) factor.0 factor.1
-          (λ rest h. factors_read m a factor.0 rest h) text)
+    (λ factor text. after_factor_reads a (factors_at m a) factor.0 factor.1
+    (λ rest h. factors_read m a factor.0 rest h) text)
 
 no_letter : (a : Alphabet) → IsWordIn a []
 no_letter a = All-nil (IsLetterIn a)
@@ -114,9 +115,9 @@ unfolding terms_at
 terms_read zero p a negative ts = tt
 terms_read (suc m) p a negative ts =
     on_bind _ _ (term_at p a negative ts) _ (term_reads p a negative ts)
-        (λ term text. on_bind _ _ (after_term (terms_at m p a) term.1) _
+    (λ term text. on_bind _ _ (after_term (terms_at m p a) term.1) _
     (after_term_reads (AreTextWords a) (terms_at m p a) term.1
-          (λ negative rest. terms_read m p a negative rest) (All-nil (λ t. IsTextWord a t.key)))
+    (λ negative rest. terms_read m p a negative rest) (All-nil (λ t. IsTextWord a t.key)))
     (λ others texts. All-cons (λ t. IsTextWord a t.key) term.0 others text texts))
 
 sum_reads : (p : ℕ) (a : Alphabet) (ts : List Token) → IfOk (sum_at p a ts) (λ f. AreTextWords a f)
@@ -127,10 +128,12 @@ pub poly_reads : (p : ℕ) (a : Alphabet) (ts : List Token) → 0 < p
 unfolding poly_at
 poly_reads p a ts some =
     on_bind _ _ (sum_at p a ts) _ (sum_reads p a ts)
-    (λ f texts. record { normal = normal_form_normal p f some;
-        words = All-from_recursion (λ t. IsTextWord a t.key) (normal_form p f)
-        (normal_form_listed (IsTextWord a) p f
-          (recursion_from_All (λ t. IsTextWord a t.key) f texts)) })
+    (λ f texts. record {
+      normal = normal_form_normal p f some;
+      words = All-from_recursion (λ t. IsTextWord a t.key) (normal_form p f)
+          (normal_form_listed (IsTextWord a) p f
+          (recursion_from_All (λ t. IsTextWord a t.key) f texts));
+    })
 
 -- so a word that was read is one
 pub read_is_text : (a : Alphabet) (ts rest : List Token) (w : Word) → word_at a ts ≡ Ok (w, rest)

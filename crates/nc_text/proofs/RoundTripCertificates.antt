@@ -48,15 +48,19 @@ first_again : (n : ℕ) (ls : List (List ℕ)) → form_line (written n (codes "
     ≡ Ok (1, written (n + 1) ls)
 unfolding form_line
 first_again n ls =
-    rw (taken (codes "certificate") (codes "certificate 1") (tokens (codes "1")) n ls first_is,
-      forms_read.0) refl
+    rw (
+      taken (codes "certificate") (codes "certificate 1") (tokens (codes "1")) n ls first_is,
+      forms_read.0,
+    ) refl
 
 second_again : (n : ℕ) (ls : List (List ℕ)) → form_line (written n (codes "certificate 2" ∷ ls))
     ≡ Ok (2, written (n + 1) ls)
 unfolding form_line
 second_again n ls =
-    rw (taken (codes "certificate") (codes "certificate 2") (tokens (codes "2")) n ls second_is,
-      forms_read.1) refl
+    rw (
+      taken (codes "certificate") (codes "certificate 2") (tokens (codes "2")) n ls second_is,
+      forms_read.1,
+    ) refl
 
 end_again : (n : ℕ) → end_line (written n the_last) ≡ Ok tt
 unfolding end_line end_at written the_end
@@ -72,40 +76,44 @@ module _ (s : NamedSetting) (is : IsSetting s) (claim : Polynomial) (text : IsTe
   -- a form that is read, and lines behind the claim
   again : (form : ℕ) (first : List ℕ) (body : List (List ℕ)) (lines : List certificates.Line)
       → ((n : ℕ) (ls : List (List ℕ))
-        → form_line (written n (first ∷ ls)) ≡ Ok (form, written (n + 1) ls))
+      → form_line (written n (first ∷ ls)) ≡ Ok (form, written (n + 1) ls))
       → ((n : ℕ) → body_lines form s (written n (body ++ the_last))
-            ≡ Ok (lines, written (n + length body) the_last))
+      ≡ Ok (lines, written (n + length body) the_last))
       → certificate_at (written 1 (first ∷ with_body body))
-          ≡ Ok (record { setting = s; claim = claim; lines = lines })
+      ≡ Ok (record { setting = s; claim = claim; lines = lines })
   again form first body lines form_again body_again =
       let m = 1 + 1 + 1 + length (printing.alphabet_lines s.alphabet)
-          + length s.setting.generators in
+      + length s.setting.generators in
       certificate_is (written 1 (first ∷ with_body body)) (written (1 + 1) (with_body body))
-          (written m (claim_text s is claim ∷ (body ++ the_last)))
-          (written (m + 1) (body ++ the_last)) (written (m + 1 + length body) the_last) form s claim
-          lines
+      (written m (claim_text s is claim ∷ (body ++ the_last)))
+      (written (m + 1) (body ++ the_last)) (written (m + 1 + length body) the_last) form s claim
+      lines
       (form_again 1 (with_body body)) (setting_again s is (1 + 1) claim (body ++ the_last) text)
-          (claim_again s is m claim (body ++ the_last) text) (body_again (m + 1))
-          (end_again (m + 1 + length body))
+      (claim_again s is m claim (body ++ the_last) text) (body_again (m + 1))
+      (end_again (m + 1 + length body))
 
   all_are_printed : (body : List (List ℕ)) → AllByRecursion IsPrintedLine body
       → AllByRecursion IsPrintedLine (with_body body)
   all_are_printed body h =
       all_printed (printing.setting_lines s) (claim_text s is claim ∷ (body ++ the_last))
-          (setting_printed s is) ((claim_is s is claim text).printed,
-            all_printed body the_last h (end_is.printed, tt))
+      (setting_printed s is) (
+        (claim_is s is claim text).printed,
+        all_printed body the_last h (end_is.printed, tt),
+      )
 
   pub certificate_again : (lines : List certificates.Line) → length lines ≤ 4000000000
       → AreRead s is [] lines
       → reads_certificate (certificate_text (record { setting = s; claim = claim; lines = lines }))
-          ≡ Ok (record { setting = s; claim = claim; lines = lines })
+      ≡ Ok (record { setting = s; claim = claim; lines = lines })
   certificate_again lines few all =
       let body = printed s is lines in
       ap (λ (ls : List (List ℕ)). certificate_at (written 1 ls))
-          (lines_ended (codes "certificate 2" ∷ with_body body) (second_is.printed,
-              all_are_printed body (lines_printed s is [] lines (omega arith) all)))
+      (lines_ended (codes "certificate 2" ∷ with_body body) (
+        second_is.printed,
+        all_are_printed body (lines_printed s is [] lines (omega arith) all),
+      ))
       ∙ again 2 (codes "certificate 2") body lines second_again
-          (λ n. line_lines_again s is n lines few all)
+      (λ n. line_lines_again s is n lines few all)
 
   pub terms_again : (α : Element) → AreRead s is [] (element_lines α)
       → reads_certificate (terms_text s claim α)
@@ -114,13 +122,17 @@ module _ (s : NamedSetting) (is : IsSetting s) (claim : Polynomial) (text : IsTe
       let body = map (term_line s.alphabet.names) α in
       let terms = are_terms s is α all in
       ap (λ (ls : List (List ℕ)). certificate_at (written 1 ls))
-          (lines_ended (codes "certificate 1" ∷ with_body body) (first_is.printed,
-              all_are_printed body (terms_printed s is α terms)))
+      (lines_ended (codes "certificate 1" ∷ with_body body) (
+        first_is.printed,
+        all_are_printed body (terms_printed s is α terms),
+      ))
       ∙ again 1 (codes "certificate 1") body (element_lines α) first_again body_counted
     where
       body_counted : (n : ℕ) → body_lines 1 s
-          (written n (map (term_line s.alphabet.names) α ++ the_last)) ≡ Ok (element_lines α,
-            written (n + length (map (term_line s.alphabet.names) α)) the_last)
+          (written n (map (term_line s.alphabet.names) α ++ the_last)) ≡ Ok (
+            element_lines α,
+            written (n + length (map (term_line s.alphabet.names) α)) the_last,
+          )
       body_counted n =
           terms_line_again s is n α (are_terms s is α all)
           ∙ ap (λ (m : ℕ). Ok (element_lines α, written (n + m) the_last))
@@ -145,4 +157,4 @@ same_value c d r e k = cc
 pub one_certificate : OneCertificate
 one_certificate c d is_c is_d few_c few_d e =
     same_value c d (reads_certificate (certificate_text c)) (reads_what_is_printed c is_c few_c)
-        (ap reads_certificate e ∙ reads_what_is_printed d is_d few_d)
+    (ap reads_certificate e ∙ reads_what_is_printed d is_d few_d)

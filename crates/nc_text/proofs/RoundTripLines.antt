@@ -79,33 +79,33 @@ module _ (s : NamedSetting) (is : IsSetting s) where
       (part_line names part)
   part_is reaches part few h =
       spaced_line (codes "part") (part_text names part)
-          (record { name = refl; begun = λ rest. refl })
+      (record { name = refl; begun = λ rest. refl })
       (part_plain s reaches part (small s is) (names_are s is)
-            (factor_small s.setting (length reaches) part.of is.few few h.rule.factor) h)
+      (factor_small s.setting (length reaches) part.of is.few few h.rule.factor) h)
 
   parts_again : (n : ℕ) (reaches : List ℕ) (front parts : List Part) (ls : List (List ℕ))
       → length reaches ≤ 4000000000 → AreTextParts reaches parts
       → part_lines s reaches front (written n (map (part_line names) parts ++ ls)) ≡ part_lines s
-          reaches (front ++ parts) (written (n + length parts) ls)
+      reaches (front ++ parts) (written (n + length parts) ls)
   parts_again n reaches front [] ls few all =
       let e : n ≡ n + 0 =
-          omega arith in ap₂ (λ (q : List Part) (m : ℕ). part_lines s reaches q (written m ls))
-          (sym (append-nil front)) e
+      omega arith in ap₂ (λ (q : List Part) (m : ℕ). part_lines s reaches q (written m ls))
+      (sym (append-nil front)) e
   parts_again n reaches front (part ∷ parts) ls few all =
       let rest = map (part_line names) parts ++ ls in
       let read =
-          part_again s reaches part (small s is) (names_are s is)
-          (factor_small s.setting (length reaches) part.of is.few few all.0.rule.factor) all.0 in
+      part_again s reaches part (small s is) (names_are s is)
+      (factor_small s.setting (length reaches) part.of is.few few all.0.rule.factor) all.0 in
       let e : n + 1 + length parts ≡ n + length (part ∷ parts) = omega arith in
       part_next s reaches front (written n (part_line names part ∷ rest))
-          (row n (tokens (part_text names part)) (written (n + 1) rest))
-          (found (codes "part") (part_line names part) (tokens (part_text names part)) n rest
-            (part_is reaches part few all.0))
+      (row n (tokens (part_text names part)) (written (n + 1) rest))
+      (found (codes "part") (part_line names part) (tokens (part_text names part)) n rest
+      (part_is reaches part few all.0))
       ∙ ap (λ (r : Result Part Kind). at_line n r >>= λ q. part_lines s reaches (front ++ q ∷ [])
-            (written (n + 1) rest)) read
+      (written (n + 1) rest)) read
       ∙ parts_again (n + 1) reaches (front ++ part ∷ []) parts ls few all.1
       ∙ ap₂ (λ (q : List Part) (m : ℕ). part_lines s reaches q (written m ls))
-          (append_assoc front (part ∷ []) parts) e
+      (append_assoc front (part ∷ []) parts) e
 
   -- the lines `line` and `part`
   abbrev pub printed : List certificates.Line → List (List ℕ)
@@ -121,35 +121,40 @@ module _ (s : NamedSetting) (is : IsSetting s) where
   counted : (n : ℕ) (line : List Part) (lines : List certificates.Line)
       → n + 1 + length line + length (printed lines) ≡ n + length (printed (line ∷ lines))
   counted n line lines =
-      omega (arith, length-append (map (part_line names) line) (printed lines),
-        length-map line (part_line names))
+      omega (
+        arith,
+        length-append (map (part_line names) line) (printed lines),
+        length-map line (part_line names),
+      )
 
   lines_again : (n : ℕ) (reaches : List ℕ) (parts : List Part) (lines : List certificates.Line)
       → length reaches + 1 + length lines ≤ 4000000000
       → AreRead (reaches ++ line_reach s.setting reaches parts ∷ []) lines
-      → part_lines s reaches parts (written n (printed lines ++ the_last)) ≡ Ok (parts ∷ lines,
-            written (n + length (printed lines)) the_last)
+      → part_lines s reaches parts (written n (printed lines ++ the_last)) ≡ Ok (
+        parts ∷ lines,
+        written (n + length (printed lines)) the_last,
+      )
   lines_again n reaches parts [] few all =
       let e : n ≡ n + 0 = omega arith in
       other_next s reaches parts (written n the_last)
-          (not_found (codes "end") (codes "end") (tokens []) n [] (codes "part") end_is refl)
-          (not_found (codes "end") (codes "end") (tokens []) n [] (codes "line") end_is refl)
+      (not_found (codes "end") (codes "end") (tokens []) n [] (codes "part") end_is refl)
+      (not_found (codes "end") (codes "end") (tokens []) n [] (codes "line") end_is refl)
       ∙ ap (λ (m : ℕ). Ok (parts ∷ [], written m the_last)) e
   lines_again n reaches parts (line ∷ lines) few all =
       let further = reaches ++ line_reach s.setting reaches parts ∷ [] in
       let short : length further + length (line ∷ lines) ≤ 4000000000 =
-          omega (arith, length-append reaches (line_reach s.setting reaches parts ∷ [])) in
+      omega (arith, length-append reaches (line_reach s.setting reaches parts ∷ [])) in
       let rest = map (part_line names) line ++ (printed lines ++ the_last) in
       let others =
-          parts_again (n + 1) further [] line (printed lines ++ the_last) (omega arith) all.0
-          ∙ lines_again (n + 1 + length line) further line lines (omega arith) all.1 in
+      parts_again (n + 1) further [] line (printed lines ++ the_last) (omega arith) all.0
+      ∙ lines_again (n + 1 + length line) further line lines (omega arith) all.1 in
       ap (λ (l : List (List ℕ)). part_lines s reaches parts (written n l)) (regrouped line lines)
       ∙ line_next s reaches parts (written n (codes "line" ∷ rest))
-          (row n (tokens []) (written (n + 1) rest))
-          (not_found (codes "line") (codes "line") (tokens []) n rest (codes "part") line_is refl)
-          (found (codes "line") (codes "line") (tokens []) n rest line_is)
+      (row n (tokens []) (written (n + 1) rest))
+      (not_found (codes "line") (codes "line") (tokens []) n rest (codes "part") line_is refl)
+      (found (codes "line") (codes "line") (tokens []) n rest line_is)
       ∙ rw (nothing_behind n, others)
-          (ap (λ (m : ℕ). Ok (parts ∷ line ∷ lines, written m the_last)) (counted n line lines))
+      (ap (λ (m : ℕ). Ok (parts ∷ line ∷ lines, written m the_last)) (counted n line lines))
 
   pub line_lines_again : (n : ℕ) (lines : List certificates.Line) → length lines ≤ 4000000000
       → AreRead [] lines → line_lines s (written n (printed lines ++ the_last))
@@ -158,18 +163,18 @@ module _ (s : NamedSetting) (is : IsSetting s) where
   line_lines_again n [] few all =
       let e : n ≡ n + 0 = omega arith in
       ap (line_lines_in s (written n the_last))
-          (not_found (codes "end") (codes "end") (tokens []) n [] (codes "line") end_is refl)
-          ∙ ap (λ (m : ℕ). Ok ([], written m the_last)) e
+      (not_found (codes "end") (codes "end") (tokens []) n [] (codes "line") end_is refl)
+      ∙ ap (λ (m : ℕ). Ok ([], written m the_last)) e
   line_lines_again n (line ∷ lines) few all =
       let rest = map (part_line names) line ++ (printed lines ++ the_last) in
       let others =
-          parts_again (n + 1) [] [] line (printed lines ++ the_last) (omega arith) all.0
-          ∙ lines_again (n + 1 + length line) [] line lines (omega arith) all.1 in
+      parts_again (n + 1) [] [] line (printed lines ++ the_last) (omega arith) all.0
+      ∙ lines_again (n + 1 + length line) [] line lines (omega arith) all.1 in
       ap (λ (l : List (List ℕ)). line_lines s (written n l)) (regrouped line lines)
       ∙ ap (line_lines_in s (written n (codes "line" ∷ rest)))
-          (found (codes "line") (codes "line") (tokens []) n rest line_is)
+      (found (codes "line") (codes "line") (tokens []) n rest line_is)
       ∙ rw (nothing_behind n, others)
-          (ap (λ (m : ℕ). Ok (line ∷ lines, written m the_last)) (counted n line lines))
+      (ap (λ (m : ℕ). Ok (line ∷ lines, written m the_last)) (counted n line lines))
 
   parts_printed : (reaches : List ℕ) (parts : List Part) → length reaches ≤ 4000000000
       → AreTextParts reaches parts → AllByRecursion IsPrintedLine (map (part_line names) parts)
@@ -186,8 +191,10 @@ module _ (s : NamedSetting) (is : IsSetting s) where
         line_is.printed,
         all_printed (map (part_line names) line) (printed lines)
             (parts_printed reaches line (omega arith) all.0)
-            (lines_printed further lines (omega (arith,
-                      length-append reaches (line_reach s.setting reaches line ∷ []))) all.1),
+            (lines_printed further lines (omega (
+              arith,
+              length-append reaches (line_reach s.setting reaches line ∷ []),
+            )) all.1),
       )
 
   -- ---- form 1
@@ -206,33 +213,35 @@ module _ (s : NamedSetting) (is : IsSetting s) where
       spaced_line (codes "term") (decimal t.coefficient ++ 32 ∷ sig_text names t.key)
       (record { name = refl; begun = λ rest. refl })
       (plain_append (decimal t.coefficient) (32 ∷ sig_text names t.key)
-            (decimal_plain t.coefficient (let k = small s is in let r = h.rule.residue in
-                omega arith))
+      (decimal_plain t.coefficient (let k = small s is in let r = h.rule.residue in
+      omega arith))
       (sig_plain s.alphabet (length s.setting.generators) t.key (names_are s is) is.few
-            (term_monomial s t h)))
+      (term_monomial s t h)))
 
   terms_again : (n : ℕ) (α : Element) → AreTerms α
       → term_lines s.setting.prime s.alphabet (length s.setting.generators)
-          (written n (map (term_line names) α ++ the_last)) ≡ Ok (map term_part α,
-            written (n + length α) the_last)
+      (written n (map (term_line names) α ++ the_last)) ≡ Ok (
+        map term_part α,
+        written (n + length α) the_last,
+      )
   terms_again n [] all =
       let e : n ≡ n + 0 = omega arith in
       (are_lines s.setting.prime s.alphabet (length s.setting.generators)).none 0
-          (written n the_last) (not_found (codes "end") (codes "end") (tokens []) n []
-            (codes "term") end_is refl)
+      (written n the_last) (not_found (codes "end") (codes "end") (tokens []) n []
+      (codes "term") end_is refl)
       ∙ ap (λ (m : ℕ). Ok ([], written m the_last)) e
   terms_again n (t ∷ α) all =
       let rest = map (term_line names) α ++ the_last in
       let next =
-          found (codes "term") (term_line names t)
-          (tokens (decimal t.coefficient ++ 32 ∷ sig_text names t.key)) n rest (term_is t all.0) in
+      found (codes "term") (term_line names t)
+      (tokens (decimal t.coefficient ++ 32 ∷ sig_text names t.key)) n rest (term_is t all.0) in
       let first = term_row_again s t (small s is) (names_are s is) is.few all.0 in
       let others = terms_again (n + 1) α all.1 in
       let e : n + 1 + length α ≡ n + length (t ∷ α) = omega arith in
       (are_lines s.setting.prime s.alphabet (length s.setting.generators)).more 0
-          (written n (term_line names t ∷ rest))
-          (row n (tokens (decimal t.coefficient ++ 32 ∷ sig_text names t.key))
-            (written (n + 1) rest)) next
+      (written n (term_line names t ∷ rest))
+      (row n (tokens (decimal t.coefficient ++ 32 ∷ sig_text names t.key))
+      (written (n + 1) rest)) next
       ∙ rw (first, others) (ap (λ (m : ℕ). Ok (map term_part (t ∷ α), written m the_last)) e)
 
   in_one_line : (α : Element) → one_line (map term_part α) ≡ element_lines α
@@ -240,12 +249,14 @@ module _ (s : NamedSetting) (is : IsSetting s) where
   in_one_line (t ∷ α) = refl
 
   pub terms_line_again : (n : ℕ) (α : Element) → AreTerms α
-      → terms_line s (written n (map (term_line names) α ++ the_last)) ≡ Ok (element_lines α,
-        written (n + length α) the_last)
+      → terms_line s (written n (map (term_line names) α ++ the_last)) ≡ Ok (
+        element_lines α,
+        written (n + length α) the_last,
+      )
   unfolding terms_line
   terms_line_again n α all =
       rw (terms_again n α all) (ap (λ (l : List certificates.Line). Ok
-          (l, written (n + length α) the_last)) (in_one_line α))
+      (l, written (n + length α) the_last)) (in_one_line α))
 
   pub terms_printed : (α : Element) → AreTerms α
       → AllByRecursion IsPrintedLine (map (term_line names) α)

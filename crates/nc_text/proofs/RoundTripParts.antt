@@ -15,8 +15,8 @@ reads_polynomials s f is text =
 pub reads_monomials : ReadsMonomials
 reads_monomials s σ is listed left right =
     let h : IsTextMonomial s.alphabet (length s.setting.generators) σ =
-        record { some = listed.0; listed = listed.1; left = left; right = right } in
+    record { some = listed.0; listed = listed.1; left = left; right = right } in
     let ns = are_names s.alphabet is.alphabet in
     ap (mono_at s.alphabet (length s.setting.generators))
-        (mono_text s.alphabet (length s.setting.generators) σ ns is.few h)
-        ∙ mono_again s.alphabet (length s.setting.generators) σ ns h
+    (mono_text s.alphabet (length s.setting.generators) σ ns is.few h)
+    ∙ mono_again s.alphabet (length s.setting.generators) σ ns h

@@ -46,8 +46,12 @@ are_printed : (p : ℕ) (a : Alphabet) (f : Polynomial) → IsDescending f → A
 are_printed p a [] descending residues words = tt
 are_printed p a (t ∷ f) descending residues words =
     let word = All-head (λ t. IsTextWord a t.key) t f words in (
-      record { some = descending.0; small = All-head (λ t. t.coefficient < p) t f residues;
-            short = word.short; letters = are_letters a t.key word },
+      record {
+        some = descending.0;
+        small = All-head (λ t. t.coefficient < p) t f residues;
+        short = word.short;
+        letters = are_letters a t.key word;
+      },
       are_printed p a f descending.2 (All-tail (λ t. t.coefficient < p) t f residues)
           (All-tail (λ t. IsTextWord a t.key) t f words),
     )
@@ -101,19 +105,23 @@ exponent_before names (x ∷ w) rest h = refl
 
 one_factor : (a : Alphabet) (v : Word) (x : Letter) (w : Word) (rest : List Token) → AreNames a
     → IsLetterIn a x → length v + 1 ≤ 255 → Ends rest
-    → factor_at a v (Name (name_of a.names x) ∷ word_rest a.names w rest) ≡ Ok (v ++ x ∷ [],
-          word_rest a.names w rest)
+    → factor_at a v (Name (name_of a.names x) ∷ word_rest a.names w rest) ≡ Ok (
+      v ++ x ∷ [],
+      word_rest a.names w rest,
+    )
 unfolding factor_at name_at
 one_factor a v x w rest ns below short h =
     let few : ltb 255 (length v + 1) ≡ false = le-ltb _ _ short in
     rw (ns.apart x below, exponent_before a.names w rest h, few)
-        (ap (λ (y : Letter). Ok (v ++ y ∷ [], word_rest a.names w rest)) (sym below.1))
+    (ap (λ (y : Letter). Ok (v ++ y ∷ [], word_rest a.names w rest)) (sym below.1))
 
 factors_again : (n : ℕ) (a : Alphabet) (v : Word) (x : Letter) (w : Word) (rest : List Token)
     → length w < n → AreNames a → IsLetterIn a x → AreLetters a w
     → length v + 1 + length w ≤ 255 → Ends rest
-        → factors_at n a v (Name (name_of a.names x) ∷ word_rest a.names w rest) ≡ Ok (v ++ x ∷ w,
-          rest)
+    → factors_at n a v (Name (name_of a.names x) ∷ word_rest a.names w rest) ≡ Ok (
+      v ++ x ∷ w,
+      rest,
+    )
 unfolding factors_at
 factors_again zero a v x w rest enough ns below all short h = absurd (omega arith)
 factors_again (suc n) a v x [] rest enough ns below all short h =
@@ -122,8 +130,8 @@ factors_again (suc n) a v x [] rest enough ns below all short h =
 factors_again (suc n) a v x (y ∷ w) rest enough ns below all short h =
     let one = one_factor a v x (y ∷ w) rest ns below (omega arith) h in
     let again =
-        factors_again n a (v ++ x ∷ []) y w rest (omega arith) ns all.0 all.1
-        (omega (arith, length-append v (x ∷ []))) h in
+    factors_again n a (v ++ x ∷ []) y w rest (omega arith) ns all.0 all.1
+    (omega (arith, length-append v (x ∷ []))) h in
     rw (one) (again ∙ ap (λ (u : Word). Ok (u, rest)) (append_assoc v (x ∷ []) (y ∷ w)))
 
 length_rest : (names : List (List ℕ)) (w : Word) (rest : List Token)
@@ -140,8 +148,10 @@ word_again a x w rest ns all short h =
 
 term_again : (p : ℕ) (a : Alphabet) (c : ℕ) (w : Word) (rest : List Token) → AreNames a → 0 < c
     → c < p → length w ≤ 255 → AreLetters a w → Ends rest
-    → term_at p a false (term_tokens a.names c w rest) ≡ Ok (record { coefficient = c; key = w },
-          rest)
+    → term_at p a false (term_tokens a.names c w rest) ≡ Ok (
+      record { coefficient = c; key = w },
+      rest,
+    )
 unfolding term_at word_behind
 term_again p a c [] rest ns some small short all h = rw (h.behind a, mod-eq_of_lt small) refl
 term_again p a c (x ∷ w) rest ns some small short all h =
@@ -150,36 +160,36 @@ term_again p a c (x ∷ w) rest ns some small short all h =
     by_one : (b : Bool) → eqb c 1 ≡ b
         → word_at a (Name (name_of a.names x) ∷ word_rest a.names w rest) ≡ Ok (x ∷ w, rest)
         → term_at p a false (cond b (Name (name_of a.names x) ∷ word_rest a.names w rest)
-              (Literal c ∷ Times ∷ Name (name_of a.names x) ∷ word_rest a.names w rest))
-            ≡ Ok (record { coefficient = c; key = x ∷ w }, rest)
+        (Literal c ∷ Times ∷ Name (name_of a.names x) ∷ word_rest a.names w rest))
+        ≡ Ok (record { coefficient = c; key = x ∷ w }, rest)
     by_one true e word =
         let one : c ≡ 1 =
-            eqb-true c 1 e in let k : 1 % p ≡ c =
-            (let low : 1 < p = omega arith in mod-eq_of_lt low ∙ sym one) in
+        eqb-true c 1 e in let k : 1 % p ≡ c =
+        (let low : 1 < p = omega arith in mod-eq_of_lt low ∙ sym one) in
         ap (λ (r : Result (Word × List Token) Kind). r >>= λ word. Ok
-              (record { coefficient = 1 % p; key = word.0 }, word.1)) word
-            ∙ ap (λ (n : ℕ). Ok (record { coefficient = n; key = x ∷ w }, rest)) k
+        (record { coefficient = 1 % p; key = word.0 }, word.1)) word
+        ∙ ap (λ (n : ℕ). Ok (record { coefficient = n; key = x ∷ w }, rest)) k
     by_one false e word =
         ap (λ (r : Result (Word × List Token) Kind). r >>= λ word. Ok
-              (record { coefficient = c % p; key = word.0 }, word.1)) word
-            ∙ ap (λ (n : ℕ). Ok (record { coefficient = n; key = x ∷ w }, rest))
-            (mod-eq_of_lt small)
+        (record { coefficient = c % p; key = word.0 }, word.1)) word
+        ∙ ap (λ (n : ℕ). Ok (record { coefficient = n; key = x ∷ w }, rest))
+        (mod-eq_of_lt small)
 
 terms_again : (n p : ℕ) (a : Alphabet) (t : Term Word) (f : Polynomial) → length f < n → AreNames a
     → IsPrinted p a t → ArePrinted p a f
     → terms_at n p a false (term_tokens a.names t.coefficient t.key (terms_rest a.names f))
-        ≡ Ok (t ∷ f)
+    ≡ Ok (t ∷ f)
 unfolding terms_at
 terms_again zero p a t f enough ns first all = absurd (omega arith)
 terms_again (suc n) p a t [] enough ns first all =
     let one =
-        term_again p a t.coefficient t.key [] ns first.some first.small first.short first.letters
-        ends_nothing in
+    term_again p a t.coefficient t.key [] ns first.some first.small first.short first.letters
+    ends_nothing in
     rw (one) refl
 terms_again (suc n) p a t (u ∷ f) enough ns first all =
     let one =
-        term_again p a t.coefficient t.key (terms_rest a.names (u ∷ f)) ns first.some first.small
-        first.short first.letters (terms_end a.names (u ∷ f)) in
+    term_again p a t.coefficient t.key (terms_rest a.names (u ∷ f)) ns first.some first.small
+    first.short first.letters (terms_end a.names (u ∷ f)) in
     let again = terms_again n p a u f (omega arith) ns all.0 all.1 in
     rw (one, again) refl
 
@@ -190,9 +200,12 @@ no_sign names c [] rest = refl
 no_sign names c (x ∷ w) rest = by_one (eqb c 1)
   where
     by_one : (b : Bool) → sign_at (cond b (Name (name_of names x) ∷ word_rest names w rest)
-          (Literal c ∷ Times ∷ Name (name_of names x) ∷ word_rest names w rest))
-        ≡ (false, cond b (Name (name_of names x) ∷ word_rest names w rest)
-          (Literal c ∷ Times ∷ Name (name_of names x) ∷ word_rest names w rest))
+        (Literal c ∷ Times ∷ Name (name_of names x) ∷ word_rest names w rest))
+        ≡ (
+          false,
+          cond b (Name (name_of names x) ∷ word_rest names w rest)
+              (Literal c ∷ Times ∷ Name (name_of names x) ∷ word_rest names w rest),
+        )
     by_one true = refl
     by_one false = refl
 
@@ -203,7 +216,7 @@ longer names c (x ∷ w) rest = by_one (eqb c 1)
   where
     by_one : (b : Bool) → length rest
         < length (cond b (Name (name_of names x) ∷ word_rest names w rest)
-          (Literal c ∷ Times ∷ Name (name_of names x) ∷ word_rest names w rest))
+        (Literal c ∷ Times ∷ Name (name_of names x) ∷ word_rest names w rest))
     by_one true = omega (arith, length_rest names w rest)
     by_one false = omega (arith, length_rest names w rest)
 
@@ -228,22 +241,22 @@ tail_tokens a [] bytes ns all h = refl
 tail_tokens a (x ∷ w) bytes ns all h =
     let rest = tail_text a.names w ++ bytes in
     let regrouped : tail_text a.names (x ∷ w) ++ bytes ≡ 42 ∷ (name_of a.names x ++ rest) =
-        ap (λ (l : List ℕ). 42 ∷ l) (append_assoc (name_of a.names x) (tail_text a.names w) bytes)
-        in
+    ap (λ (l : List ℕ). 42 ∷ l) (append_assoc (name_of a.names x) (tail_text a.names w) bytes)
+    in
     ap tokens regrouped ∙ times_token (name_of a.names x ++ rest)
-        ∙ ap (λ (ts : List Token). Times ∷ ts)
-        (name_token (name_of a.names x) rest (ns.each x all.0) (tail_breaks a.names w bytes h))
+    ∙ ap (λ (ts : List Token). Times ∷ ts)
+    (name_token (name_of a.names x) rest (ns.each x all.0) (tail_breaks a.names w bytes h))
     ∙ ap (λ (ts : List Token). Times ∷ Name (name_of a.names x) ∷ ts)
-        (tail_tokens a w bytes ns all.1 h)
+    (tail_tokens a w bytes ns all.1 h)
 
 pub word_tokens : (a : Alphabet) (x : Letter) (w : Word) (bytes : List ℕ) → AreNames a
     → AreLetters a (x ∷ w) → IsBreak bytes
     → tokens (word_text a.names (x ∷ w) ++ bytes) ≡ Name (name_of a.names x) ∷ word_rest a.names w
-        (tokens bytes)
+    (tokens bytes)
 word_tokens a x w bytes ns all h =
     ap tokens (append_assoc (name_of a.names x) (tail_text a.names w) bytes)
-        ∙ name_token (name_of a.names x) (tail_text a.names w ++ bytes) (ns.each x all.0)
-        (tail_breaks a.names w bytes h)
+    ∙ name_token (name_of a.names x) (tail_text a.names w ++ bytes) (ns.each x all.0)
+    (tail_breaks a.names w bytes h)
     ∙ ap (λ (ts : List Token). Name (name_of a.names x) ∷ ts) (tail_tokens a w bytes ns all.1 h)
 
 text_tokens : (a : Alphabet) (c : ℕ) (w : Word) (bytes : List ℕ) → c < 65536 → AreNames a
@@ -256,18 +269,18 @@ text_tokens a c (x ∷ w) bytes small ns all h = by_one (eqb c 1) (word_tokens a
     by_one : (b : Bool) → tokens (word_text a.names (x ∷ w) ++ bytes) ≡ Name (name_of a.names x)
         ∷ word_rest a.names w (tokens bytes)
         → tokens ((cond b [] (decimal c ++ 42 ∷ []) ++ word_text a.names (x ∷ w)) ++ bytes)
-            ≡ cond b (Name (name_of a.names x) ∷ word_rest a.names w (tokens bytes))
-            (Literal c ∷ Times ∷ Name (name_of a.names x) ∷ word_rest a.names w (tokens bytes))
+        ≡ cond b (Name (name_of a.names x) ∷ word_rest a.names w (tokens bytes))
+        (Literal c ∷ Times ∷ Name (name_of a.names x) ∷ word_rest a.names w (tokens bytes))
     by_one true word = word
     by_one false word =
         let regrouped : ((decimal c ++ 42 ∷ []) ++ word_text a.names (x ∷ w)) ++ bytes ≡ decimal c
-            ++ (42 ∷ (word_text a.names (x ∷ w) ++ bytes)) =
-            append_assoc (decimal c ++ 42 ∷ []) (word_text a.names (x ∷ w)) bytes
-            ∙ append_assoc (decimal c) (42 ∷ []) (word_text a.names (x ∷ w) ++ bytes) in
+        ++ (42 ∷ (word_text a.names (x ∷ w) ++ bytes)) =
+        append_assoc (decimal c ++ 42 ∷ []) (word_text a.names (x ∷ w)) bytes
+        ∙ append_assoc (decimal c) (42 ∷ []) (word_text a.names (x ∷ w) ++ bytes) in
         ap tokens regrouped ∙ literal_token (decimal c) (42 ∷ (word_text a.names (x ∷ w) ++ bytes))
-            c (decimal_is c (omega (arith, small))) (refl, refl)
+        c (decimal_is c (omega (arith, small))) (refl, refl)
         ∙ ap (λ (ts : List Token). Literal c ∷ ts) (times_token (word_text a.names (x ∷ w) ++ bytes)
-              ∙ ap (λ (ts : List Token). Times ∷ ts) word)
+        ∙ ap (λ (ts : List Token). Times ∷ ts) word)
 
 abbrev terms_text : List (List ℕ) → Polynomial → List ℕ
 terms_text names f = flat_map (λ y. (32 ∷ 43 ∷ 32 ∷ []) ++ y) (map (term_text names) f)
@@ -281,9 +294,9 @@ terms_tokens : (p : ℕ) (a : Alphabet) (f : Polynomial) → p < 65536 → AreNa
 terms_tokens p a [] small ns all = nothing
 terms_tokens p a (t ∷ f) small ns all =
     plus_token (term_text a.names t ++ terms_text a.names f)
-        ∙ ap (λ (ts : List Token). Plus ∷ ts)
-        (text_tokens a t.coefficient t.key (terms_text a.names f) (let k = all.0.small in
-            omega arith) ns all.0.letters (terms_break a.names f)
+    ∙ ap (λ (ts : List Token). Plus ∷ ts)
+    (text_tokens a t.coefficient t.key (terms_text a.names f) (let k = all.0.small in
+    omega arith) ns all.0.letters (terms_break a.names f)
     ∙ ap (term_tokens a.names t.coefficient t.key) (terms_tokens p a f small ns all.1))
 
 sum_again : (p : ℕ) (a : Alphabet) (t : Term Word) (f : Polynomial) → p < 65536 → AreNames a
@@ -292,13 +305,13 @@ sum_again p a t f small ns all =
     let rest = terms_rest a.names f in
     let all_tokens = term_tokens a.names t.coefficient t.key rest in
     let bytes : tokens (poly_text a.names (t ∷ f)) ≡ all_tokens =
-        text_tokens a t.coefficient t.key (terms_text a.names f) (let k = all.0.small in
-          omega arith) ns all.0.letters (terms_break a.names f)
+    text_tokens a t.coefficient t.key (terms_text a.names f) (let k = all.0.small in
+    omega arith) ns all.0.letters (terms_break a.names f)
     ∙ ap (term_tokens a.names t.coefficient t.key) (terms_tokens p a f small ns all.1) in
     ap (sum_at p a) bytes ∙ ap (λ (s : Bool × List Token). terms_at (length s.1) p a s.0 s.1)
-        (no_sign a.names t.coefficient t.key rest)
+    (no_sign a.names t.coefficient t.key rest)
     ∙ terms_again (length all_tokens) p a t f
-        (omega (arith, many a.names f, longer a.names t.coefficient t.key rest)) ns all.0 all.1
+    (omega (arith, many a.names f, longer a.names t.coefficient t.key rest)) ns all.0 all.1
 
 zero_again : (p : ℕ) (a : Alphabet) → 0 < p → poly_at p a (Literal 0 ∷ []) ≡ Ok []
 unfolding poly_at sign_at terms_at term_at word_behind normal_form with_term
@@ -314,5 +327,5 @@ unfolding poly_at
 poly_again p a [] some small ns text = ap (poly_at p a) zero_text ∙ zero_again p a some
 poly_again p a (t ∷ f) some small ns text =
     ap (λ (r : Result Polynomial Kind). r >>= λ g. Ok (normal_form p g))
-        (sum_again p a t f small ns (text_is_printed p a (t ∷ f) text))
-        ∙ ap (λ (g : Polynomial). Ok g) (normal_form-normal p (t ∷ f) some text.normal)
+    (sum_again p a t f small ns (text_is_printed p a (t ∷ f) text))
+    ∙ ap (λ (g : Polynomial). Ok g) (normal_form-normal p (t ∷ f) some text.normal)

@@ -47,9 +47,9 @@ pub field_again : (p : ℕ) → p < 65536 → is_listed_prime p ≡ true
 unfolding field_at literal_at end_at
 field_again p small listed =
     let text : tokens (decimal p) ≡ Literal p ∷ [] =
-        ap tokens (sym (append-nil (decimal p)))
-        ∙ literal_token (decimal p) [] p (decimal_is p (omega (arith, small))) tt
-        ∙ ap (λ (ts : List Token). Literal p ∷ ts) nothing in
+    ap tokens (sym (append-nil (decimal p)))
+    ∙ literal_token (decimal p) [] p (decimal_is p (omega (arith, small))) tt
+    ∙ ap (λ (ts : List Token). Literal p ∷ ts) nothing in
     ap field_at text ∙ rw (listed) refl
 
 -- ---- letters
@@ -70,7 +70,7 @@ names_tokens : (names : List (List ℕ)) → AreEachNames names
 names_tokens [] named = nothing
 names_tokens (name ∷ names) named =
     space_token (name ++ names_text names) ∙ name_token name (names_text names) named.0
-        (names_break names) ∙ ap (λ (ts : List Token). Name name ∷ ts) (names_tokens names named.1)
+    (names_break names) ∙ ap (λ (ts : List Token). Name name ∷ ts) (names_tokens names named.1)
 
 -- each of them differs from those in front
 abbrev AreNew : List (List ℕ) → List (List ℕ) → Type 0
@@ -100,12 +100,12 @@ names_again front (x ∷ names) named distinct new few some =
     let room : ltb (length front) 64 ≡ true = lt-ltb _ _ (omega arith) in
     let next : further_name front x ≡ Ok x = rw (named.0, room, new.0) refl in
     let again =
-        names_again (front ++ x ∷ []) names named.1 distinct.1
-        (still_new front x names distinct.0 new.1) (omega (arith, length-append front (x ∷ [])))
-        (omega (arith, length-append front (x ∷ []))) in
+    names_again (front ++ x ∷ []) names named.1 distinct.1
+    (still_new front x names distinct.0 new.1) (omega (arith, length-append front (x ∷ [])))
+    (omega (arith, length-append front (x ∷ []))) in
     ap (λ (r : Result (List ℕ) Kind). r >>= λ further. letters_at (front ++ further ∷ [])
-          (map Name names)) next ∙ again
-        ∙ ap (λ (l : List (List ℕ)). Ok l) (append_assoc front (x ∷ []) names)
+    (map Name names)) next ∙ again
+    ∙ ap (λ (l : List (List ℕ)). Ok l) (append_assoc front (x ∷ []) names)
 
 pub letters_again : (names : List (List ℕ)) → AreEachNames names → IsDistinct names
     → 0 < length names → length names ≤ 64 → letters_at [] (tokens (names_text names)) ≡ Ok names
@@ -131,14 +131,14 @@ weights_tokens : (weights : List ℕ) → AreWeights weights
 weights_tokens [] are = nothing
 weights_tokens (m ∷ weights) are =
     space_token (decimal m ++ weights_text weights)
-        ∙ literal_token (decimal m) (weights_text weights) m
-        (decimal_is m (let k = are.0.1 in omega arith)) (weights_break weights)
+    ∙ literal_token (decimal m) (weights_text weights) m
+    (decimal_is m (let k = are.0.1 in omega arith)) (weights_break weights)
     ∙ ap (λ (ts : List Token). Literal m ∷ ts) (weights_tokens weights are.1)
 
 counted_again : (most n : ℕ) → 1 ≤ n → n ≤ most → counted most n ≡ Ok n
 counted_again most n some few =
     let inside : (ltb 0 n && ltb n (most + 1)) ≡ true =
-        and_from _ _ (lt-ltb 0 n (omega arith)) (lt-ltb n (most + 1) (omega arith)) in
+    and_from _ _ (lt-ltb 0 n (omega arith)) (lt-ltb n (most + 1) (omega arith)) in
     rw (inside) refl
 
 literals_again : (weights : List ℕ) → AreWeights weights
@@ -199,11 +199,11 @@ brackets_text : (i : ℕ) (bytes : List ℕ) → i ≤ 4000000000
     → tokens (32 ∷ 91 ∷ (decimal i ++ 93 ∷ 32 ∷ bytes)) ≡ Open ∷ Literal i ∷ Close ∷ tokens bytes
 brackets_text i bytes few =
     let closed : tokens (93 ∷ 32 ∷ bytes) ≡ Close ∷ tokens bytes =
-        close_token (32 ∷ bytes) ∙ ap (λ (ts : List Token). Close ∷ ts) (space_token bytes) in
+    close_token (32 ∷ bytes) ∙ ap (λ (ts : List Token). Close ∷ ts) (space_token bytes) in
     space_token (91 ∷ (decimal i ++ 93 ∷ 32 ∷ bytes)) ∙ open_token (decimal i ++ 93 ∷ 32 ∷ bytes)
     ∙ ap (λ (ts : List Token). Open ∷ ts)
-        (literal_token (decimal i) (93 ∷ 32 ∷ bytes) i (decimal_is i few) (refl, refl)
-          ∙ ap (λ (ts : List Token). Literal i ∷ ts) closed)
+    (literal_token (decimal i) (93 ∷ 32 ∷ bytes) i (decimal_is i few) (refl, refl)
+    ∙ ap (λ (ts : List Token). Literal i ∷ ts) closed)
 
 open_brace_token : (rest : List ℕ) → tokens (123 ∷ rest) ≡ OpenBrace ∷ tokens rest
 unfolding tokens pieces
@@ -220,13 +220,13 @@ braces_text : (k : ℕ) (bytes : List ℕ) → k ≤ 4000000000
     ∷ tokens bytes
 braces_text k bytes few =
     let closed : tokens (125 ∷ 32 ∷ bytes) ≡ CloseBrace ∷ tokens bytes =
-        close_brace_token (32 ∷ bytes) ∙ ap (λ (ts : List Token). CloseBrace ∷ ts)
-        (space_token bytes) in
+    close_brace_token (32 ∷ bytes) ∙ ap (λ (ts : List Token). CloseBrace ∷ ts)
+    (space_token bytes) in
     space_token (123 ∷ (decimal k ++ 125 ∷ 32 ∷ bytes))
-        ∙ open_brace_token (decimal k ++ 125 ∷ 32 ∷ bytes)
+    ∙ open_brace_token (decimal k ++ 125 ∷ 32 ∷ bytes)
     ∙ ap (λ (ts : List Token). OpenBrace ∷ ts)
-        (literal_token (decimal k) (125 ∷ 32 ∷ bytes) k (decimal_is k few) (refl, refl)
-          ∙ ap (λ (ts : List Token). Literal k ∷ ts) closed)
+    (literal_token (decimal k) (125 ∷ 32 ∷ bytes) k (decimal_is k few) (refl, refl)
+    ∙ ap (λ (ts : List Token). Literal k ∷ ts) closed)
 
 -- the number of a generator or a line
 abbrev pub number_in : Factor → ℕ
@@ -280,11 +280,11 @@ pub mono_text : (a : Alphabet) (generators : ℕ) (σ : Monomial) → AreNames a
     → IsTextMonomial a generators σ → tokens (sig_text a.names σ) ≡ mono_tokens a.names σ
 mono_text a generators σ ns few h =
     side_text a σ.left (32 ∷ 91 ∷ (decimal σ.generator ++ 93 ∷ 32 ∷ word_text a.names σ.right)) ns
-        (are_letters a σ.left h.left) (refl, refl)
+    (are_letters a σ.left h.left) (refl, refl)
     ∙ ap (side_tokens a.names σ.left)
-        (brackets_text σ.generator (word_text a.names σ.right) (let k = h.listed in omega arith)
+    (brackets_text σ.generator (word_text a.names σ.right) (let k = h.listed in omega arith)
     ∙ ap (λ (ts : List Token). Open ∷ Literal σ.generator ∷ Close ∷ ts)
-        (last_side_text a σ.right ns (are_letters a σ.right h.right)))
+    (last_side_text a σ.right ns (are_letters a σ.right h.right)))
 
 pub mono_again : (a : Alphabet) (generators : ℕ) (σ : Monomial) → AreNames a
     → IsTextMonomial a generators σ → mono_at a generators (mono_tokens a.names σ) ≡ Ok σ
@@ -303,26 +303,32 @@ mono_again a generators σ ns h =
 pub term_monomial : (s : NamedSetting) (t : Term Monomial) → IsTextPart s [] (term_part t)
     → IsTextMonomial s.alphabet (length s.setting.generators) t.key
 term_monomial s t h =
-    record { some = h.rule.factor.0;
-      listed = h.rule.factor.1; left = h.words.left; right = h.words.right }
+    record {
+      some = h.rule.factor.0;
+      listed = h.rule.factor.1;
+      left = h.words.left;
+      right = h.words.right;
+    }
 
 pub term_row_again : (s : NamedSetting) (t : Term Monomial) → s.setting.prime < 65536
     → AreNames s.alphabet → length s.setting.generators ≤ 1000 → IsTextPart s [] (term_part t)
     → term_row_at s.setting.prime s.alphabet (length s.setting.generators)
-        (tokens (decimal t.coefficient ++ 32 ∷ sig_text s.alphabet.names t.key)) ≡ Ok (term_part t)
+    (tokens (decimal t.coefficient ++ 32 ∷ sig_text s.alphabet.names t.key)) ≡ Ok (term_part t)
 unfolding term_row_at literal_at
 term_row_again s t small ns few h =
     let σ = term_monomial s t h in
     let text : tokens (decimal t.coefficient ++ 32 ∷ sig_text s.alphabet.names t.key) ≡ Literal
-        t.coefficient ∷ mono_tokens s.alphabet.names t.key =
+    t.coefficient ∷ mono_tokens s.alphabet.names t.key =
     literal_token (decimal t.coefficient) (32 ∷ sig_text s.alphabet.names t.key) t.coefficient
-        (decimal_is t.coefficient (let k = h.rule.residue in omega arith)) (refl, refl)
+    (decimal_is t.coefficient (let k = h.rule.residue in omega arith)) (refl, refl)
     ∙ ap (λ (ts : List Token). Literal t.coefficient ∷ ts)
-        (space_token (sig_text s.alphabet.names t.key)
-          ∙ mono_text s.alphabet (length s.setting.generators) t.key ns few σ) in
+    (space_token (sig_text s.alphabet.names t.key)
+    ∙ mono_text s.alphabet (length s.setting.generators) t.key ns few σ) in
     ap (term_row_at s.setting.prime s.alphabet (length s.setting.generators)) text
-        ∙ rw (mono_again s.alphabet (length s.setting.generators) t.key ns σ,
-          mod-eq_of_lt h.rule.residue) refl
+    ∙ rw (
+      mono_again s.alphabet (length s.setting.generators) t.key ns σ,
+      mod-eq_of_lt h.rule.residue,
+    ) refl
 
 -- ---- part
 
@@ -345,15 +351,15 @@ part_text_is s reaches part small ns few h =
     let right = word_text names part.right in
     let factor = factor_text part.of ++ right in
     literal_token (decimal part.coefficient) (32 ∷ (word_text names part.left ++ factor))
-        part.coefficient (decimal_is part.coefficient (let k = h.rule.residue in omega arith))
-        (refl, refl)
+    part.coefficient (decimal_is part.coefficient (let k = h.rule.residue in omega arith))
+    (refl, refl)
     ∙ ap (λ (ts : List Token). Literal part.coefficient ∷ ts)
-        (space_token (word_text names part.left ++ factor)
+    (space_token (word_text names part.left ++ factor)
     ∙ side_text s.alphabet part.left factor ns (are_letters s.alphabet part.left h.words.left)
-        (factor_breaks part.of right)
+    (factor_breaks part.of right)
     ∙ ap (side_tokens names part.left) (factor_tokens_are part.of right few
-          ∙ ap (factor_tokens part.of) (last_side_text s.alphabet part.right ns
-            (are_letters s.alphabet part.right h.words.right))))
+    ∙ ap (factor_tokens part.of) (last_side_text s.alphabet part.right ns
+    (are_letters s.alphabet part.right h.words.right))))
 
 pub part_again : (s : NamedSetting) (reaches : List ℕ) (part : Part) → s.setting.prime < 65536
     → AreNames s.alphabet → number_in part.of ≤ 4000000000 → IsTextPart s reaches part

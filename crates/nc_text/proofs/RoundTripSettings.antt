@@ -107,15 +107,19 @@ module _ (s : NamedSetting) (is : IsSetting s) where
       → field_line (written n ((codes "field " ++ decimal p) ∷ ls)) ≡ Ok (p, written (n + 1) ls)
   unfolding field_line
   field_again_line n ls =
-      rw (taken (codes "field") (codes "field " ++ decimal p) (tokens (decimal p)) n ls field_is,
-        field_again p small is.prime) refl
+      rw (
+        taken (codes "field") (codes "field " ++ decimal p) (tokens (decimal p)) n ls field_is,
+        field_again p small is.prime,
+      ) refl
 
   letters_again_line : (n : ℕ) (ls : List (List ℕ))
       → letters_line (written n (names_line names ∷ ls)) ≡ Ok (names, written (n + 1) ls)
   unfolding letters_line
   letters_again_line n ls =
-      rw (taken (codes "letters") (names_line names) (tokens (names_text names)) n ls letters_is,
-        letters_again names each_name is.alphabet.apart is.alphabet.some is.alphabet.few) refl
+      rw (
+        taken (codes "letters") (names_line names) (tokens (names_text names)) n ls letters_is,
+        letters_again names each_name is.alphabet.apart is.alphabet.some is.alphabet.few,
+      ) refl
 
   weights_again_line : (n : ℕ) (ls : List (List ℕ))
       → weights_line (length names) (written n (printing.weights_line a.weights ∷ ls))
@@ -123,8 +127,8 @@ module _ (s : NamedSetting) (is : IsSetting s) where
   unfolding weights_line
   weights_again_line n ls =
       ap (weights_in (length names) (written n (printing.weights_line a.weights ∷ ls)))
-          (found (codes "weights") (printing.weights_line a.weights)
-            (tokens (weights_text a.weights)) n ls weights_is)
+      (found (codes "weights") (printing.weights_line a.weights)
+      (tokens (weights_text a.weights)) n ls weights_is)
       ∙ rw (← is.alphabet.each, weights_again a.weights each_weight) refl
 
   ones_again : (n : ℕ) (ls : List (List ℕ)) → a_line (codes "weights") (written n ls) ≡ None
@@ -134,7 +138,7 @@ module _ (s : NamedSetting) (is : IsSetting s) where
   ones_again n ls none all =
       ap (weights_in (length names) (written n ls)) none
       ∙ ap (λ (ms : List ℕ). Ok (ms, written n ls))
-          (ap (λ (k : ℕ). replicate k 1) (sym is.alphabet.each) ∙ ones a.weights all)
+      (ap (λ (k : ℕ). replicate k 1) (sym is.alphabet.each) ∙ ones a.weights all)
 
   -- the lines `letters` and `weights`, which no line `weights` follows
   alphabet_again : (n : ℕ) (ls : List (List ℕ))
@@ -145,54 +149,59 @@ module _ (s : NamedSetting) (is : IsSetting s) where
     where
       by_test : (b : Bool) → list_all (λ m. eqb m 1) a.weights ≡ b
           → alphabet_lines (written n ((names_line names ∷ cond b []
-                    (printing.weights_line a.weights ∷ [])) ++ ls))
-              ≡ Ok (a, written (n + length (names_line names ∷ cond b []
-                    (printing.weights_line a.weights ∷ []))) ls)
+          (printing.weights_line a.weights ∷ [])) ++ ls))
+          ≡ Ok (
+            a,
+            written (n + length (names_line names ∷ cond b []
+                (printing.weights_line a.weights ∷ []))) ls,
+          )
       by_test true e =
           alphabet_is names a.weights (written n (names_line names ∷ ls)) (written (n + 1) ls)
           (written (n + 1) ls) (letters_again_line n ls) (ones_again (n + 1) ls none e)
       by_test false e =
           let k : n + 1 + 1 ≡ n + 2 = omega arith in
           alphabet_is names a.weights (written n
-                (names_line names ∷ printing.weights_line a.weights ∷ ls))
-              (written (n + 1) (printing.weights_line a.weights ∷ ls)) (written (n + 1 + 1) ls)
+          (names_line names ∷ printing.weights_line a.weights ∷ ls))
+          (written (n + 1) (printing.weights_line a.weights ∷ ls)) (written (n + 1 + 1) ls)
           (letters_again_line n (printing.weights_line a.weights ∷ ls))
-              (weights_again_line (n + 1) ls)
+          (weights_again_line (n + 1) ls)
           ∙ ap (λ (m : ℕ). Ok (a, written m ls)) k
 
   generators_again : (room n : ℕ) (fs : List Polynomial) (ls : List (List ℕ)) → AreGenerators fs
       → length fs ≤ room → ((m : ℕ) → a_line (codes "generator") (written m ls) ≡ None)
       → generator_lines p a room (written n (map (generator_line names) fs ++ ls))
-          ≡ Ok (fs, written (n + length fs) ls)
+      ≡ Ok (fs, written (n + length fs) ls)
   generators_again room n [] ls all few stops =
       let e : n ≡ n + 0 =
-          omega arith in (are_lines p a).none room (written n ls) (stops n)
-          ∙ ap (λ (m : ℕ). Ok ([], written m ls)) e
+      omega arith in (are_lines p a).none room (written n ls) (stops n)
+      ∙ ap (λ (m : ℕ). Ok ([], written m ls)) e
   generators_again room n (f ∷ fs) ls all few stops =
       let rest = map (generator_line names) fs ++ ls in
       let next =
-          found (codes "generator") (generator_line names f) (tokens (poly_text names f)) n rest
-          (generator_is f all.0.polynomial) in
+      found (codes "generator") (generator_line names f) (tokens (poly_text names f)) n rest
+      (generator_is f all.0.polynomial) in
       let first =
-          generator_again p a room (tokens (poly_text names f)) f (omega arith) all.0.nonzero
-          (poly_again p a f (prime_positive s is) small names_are all.0.polynomial) in
+      generator_again p a room (tokens (poly_text names f)) f (omega arith) all.0.nonzero
+      (poly_again p a f (prime_positive s is) small names_are all.0.polynomial) in
       let others = generators_again (room - 1) (n + 1) fs ls all.1 (omega arith) stops in
       let e : n + 1 + length fs ≡ n + length (f ∷ fs) = omega arith in
       (are_lines p a).more room (written n (generator_line names f ∷ rest))
-          (row n (tokens (poly_text names f)) (written (n + 1) rest)) next
+      (row n (tokens (poly_text names f)) (written (n + 1) rest)) next
       ∙ rw (first, others) (ap (λ (m : ℕ). Ok (f ∷ fs, written m ls)) e)
 
   pub claim_again : (n : ℕ) (f : Polynomial) (ls : List (List ℕ)) → IsText f
       → claim_line p a (written n (claim_text f ∷ ls)) ≡ Ok (f, written (n + 1) ls)
   unfolding claim_line
   claim_again n f ls text =
-      rw (taken (codes "claim") (claim_text f) (tokens (poly_text names f)) n ls (claim_is f text),
-        poly_again p a f (prime_positive s is) small names_are text) refl
+      rw (
+        taken (codes "claim") (claim_text f) (tokens (poly_text names f)) n ls (claim_is f text),
+        poly_again p a f (prime_positive s is) small names_are text,
+      ) refl
 
   no_weights : (n : ℕ) (fs : List Polynomial) (claim : Polynomial) (ls : List (List ℕ))
       → AreGenerators fs → IsText claim
       → a_line (codes "weights") (written n
-        (map (generator_line names) fs ++ claim_text claim ∷ ls)) ≡ None
+      (map (generator_line names) fs ++ claim_text claim ∷ ls)) ≡ None
   no_weights n [] claim ls all text =
       not_found (codes "claim") (claim_text claim) (tokens (poly_text names claim)) n ls
       (codes "weights") (claim_is claim text) refl
@@ -204,27 +213,30 @@ module _ (s : NamedSetting) (is : IsSetting s) where
   -- the lines of the setting, before a line `claim`
   pub setting_again : (n : ℕ) (claim : Polynomial) (ls : List (List ℕ)) → IsText claim
       → setting_lines (written n (printing.setting_lines s ++ claim_text claim ∷ ls))
-          ≡ Ok (s, written (n + 1 + length (printing.alphabet_lines a)
-              + length s.setting.generators) (claim_text claim ∷ ls))
+      ≡ Ok (
+        s,
+        written (n + 1 + length (printing.alphabet_lines a)
+            + length s.setting.generators) (claim_text claim ∷ ls),
+      )
   setting_again n claim ls text =
       let behind = claim_text claim ∷ ls in
       let generators = map (generator_line names) s.setting.generators in
       let letters = printing.alphabet_lines a in
       let stops =
-          (λ (m : ℕ). not_found (codes "claim") (claim_text claim) (tokens (poly_text names claim))
-            m ls (codes "generator") (claim_is claim text) refl) in
+      (λ (m : ℕ). not_found (codes "claim") (claim_text claim) (tokens (poly_text names claim))
+      m ls (codes "generator") (claim_is claim text) refl) in
       ap (λ (l : List (List ℕ)). setting_lines (written n ((codes "field " ++ decimal p) ∷ l)))
-          (append_assoc letters generators behind)
+      (append_assoc letters generators behind)
       ∙ setting_is p a s.setting.generators
-          (written n ((codes "field " ++ decimal p) ∷ (letters ++ (generators ++ behind))))
-          (written (n + 1) (letters ++ (generators ++ behind)))
-          (written (n + 1 + length letters) (generators ++ behind))
+      (written n ((codes "field " ++ decimal p) ∷ (letters ++ (generators ++ behind))))
+      (written (n + 1) (letters ++ (generators ++ behind)))
+      (written (n + 1 + length letters) (generators ++ behind))
       (written (n + 1 + length letters + length s.setting.generators) behind)
       (field_again_line n (letters ++ (generators ++ behind)))
       (alphabet_again (n + 1) (generators ++ behind)
-            (no_weights (n + 1 + 1) s.setting.generators claim ls generators_are text))
+      (no_weights (n + 1 + 1) s.setting.generators claim ls generators_are text))
       (generators_again 1000 (n + 1 + length letters) s.setting.generators behind generators_are
-            is.few stops)
+      is.few stops)
 
   -- ---- they are printed lines
 
@@ -243,7 +255,9 @@ module _ (s : NamedSetting) (is : IsSetting s) where
       by_test false = (weights_is.printed, tt)
 
   pub setting_printed : AllByRecursion IsPrintedLine (printing.setting_lines s)
-  setting_printed =
-      (field_is.printed, all_printed (printing.alphabet_lines a)
+  setting_printed = (
+    field_is.printed,
+    all_printed (printing.alphabet_lines a)
         (map (generator_line names) s.setting.generators) alphabet_printed
-        (generators_printed s.setting.generators generators_are))
+        (generators_printed s.setting.generators generators_are),
+  )

@@ -17,10 +17,10 @@ factor_takes : (a : Alphabet) (w : Word) (ts : List Token)
 unfolding factor_at
 factor_takes a w ts =
     on_bind _ _ (name_at ts) _ (name_takes ts)
-        (λ name h. on_bind _ _ (letter_of a.names name.0) _ (on_any (letter_of a.names name.0))
-          (λ letter _. on_bind _ _ (exponent_at name.1) _ (exponent_takes name.1) (λ exponent k.
+    (λ name h. on_bind _ _ (letter_of a.names name.0) _ (on_any (letter_of a.names name.0))
+    (λ letter _. on_bind _ _ (exponent_at name.1) _ (exponent_takes name.1) (λ exponent k.
     on_bind _ _ (lengthened w (letter_at a letter) exponent.0) _
-        (on_any (lengthened w (letter_at a letter) exponent.0)) (λ longer _. omega arith))))
+    (on_any (lengthened w (letter_at a letter) exponent.0)) (λ longer _. omega arith))))
 
 after_takes : (further : Word → List Token → Result (Word × List Token) Kind) (w : Word)
     (ts : List Token) → ((ts : List Token) → IfOk (further w ts) (λ x. behind x < length ts))
@@ -36,7 +36,7 @@ factors_take zero a w ts = tt
 factors_take (suc n) a w ts =
     on_bind _ _ (factor_at a w ts) _ (factor_takes a w ts) (λ factor h.
     below (length factor.1) (length ts) (after_factor (factors_at n a) factor.0 factor.1) h
-        (after_takes (factors_at n a) factor.0 factor.1 (λ rest. factors_take n a factor.0 rest)))
+    (after_takes (factors_at n a) factor.0 factor.1 (λ rest. factors_take n a factor.0 rest)))
 
 word_takes : (a : Alphabet) (ts : List Token) → IfOk (word_at a ts) (λ x. behind x < length ts)
 word_takes a ts = factors_take (length ts) a [] ts
@@ -65,6 +65,6 @@ factor_shorter a w ts x e =
     of_ok (λ x. behind x < length ts) (factor_at a w ts) x e (factor_takes a w ts)
 
 pub term_shorter : (p : ℕ) (a : Alphabet) (negative : Bool) (ts : List Token) (x : Term Word
-      × List Token) → term_at p a negative ts ≡ Ok x → length x.1 < length ts
+    × List Token) → term_at p a negative ts ≡ Ok x → length x.1 < length ts
 term_shorter p a negative ts x e =
     of_ok (λ x. behind x < length ts) (term_at p a negative ts) x e (term_takes p a negative ts)

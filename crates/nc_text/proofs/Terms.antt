@@ -18,7 +18,7 @@ use Rattle.std.proofs.Common.{IfOk, List, None, Ok, Result, Some, [], codes, ref
 one_more : (p : ℕ) (a : Alphabet) (generators room : ℕ) (w : Written) (r : Row)
     → a_line (codes "term") w ≡ Some r
     → term_lines p a generators w ≡ line_then r (term_row_at p a generators r.tokens)
-        (term_lines p a generators r.after)
+    (term_lines p a generators r.after)
 unfolding a_line term_lines
 one_more p a generators room (End n) r e = absurd cc
 one_more p a generators room (Line n clean ts after) r e =
@@ -47,7 +47,7 @@ module _ (w one two three four : Written) (form : ℕ) (s : NamedSetting) (claim
       → claim_line s.setting.prime s.alphabet two ≡ Ok (claim, three)
       → body_lines form s three ≡ Ok (lines, four)
       → end_line four ≡ Ok tt → certificate_at w
-          ≡ Ok (record { setting = s; claim = claim; lines = lines })
+      ≡ Ok (record { setting = s; claim = claim; lines = lines })
   unfolding certificate_at
   certificate_is a b c d e = rw a (rw b (rw c (rw d (rw e refl))))
 
@@ -58,7 +58,7 @@ module _ (w one two three four : Written) (form : ℕ) (s : NamedSetting) (claim
       → end_line four ≡ Ok tt → IsCertificate (record { setting = s; claim = claim; lines = lines })
   is_certificate a b c d e =
       by_text (subst (λ (r : Result Certificate TextFault). IfOk r IsTextCertificate)
-        (certificate_is a b c d e) (certificate_reads w))
+      (certificate_is a b c d e) (certificate_reads w))
     where
       by_text : IsTextCertificate (record { setting = s; claim = claim; lines = lines })
           → IsCertificate (record { setting = s; claim = claim; lines = lines })

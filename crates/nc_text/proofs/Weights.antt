@@ -36,23 +36,26 @@ begins n ts = record { same = no_front (weights_at n ts) }
 
 module _ (front : List ℕ) (left k : ℕ) (more : left ≡ k + 1) (ts : List Token) (whole : Read) where
   next : weights_at left ts ≡ (weight_at ts >>= λ first. weights_at k first.1 >>= λ others. Ok
-        (first.0 ∷ others))
+      (first.0 ∷ others))
   unfolding weights_at
   next = let e : left ≡ suc k = omega (arith, more) in ap (λ n. weights_at n ts) e
 
   pub goes_on : (m : ℕ) (rest : List Token) → weight_at ts ≡ Ok (m, rest)
       → IsOnTheWay front left ts whole → IsOnTheWay (front ++ m ∷ []) k rest whole
   goes_on m rest e h =
-      record { same = sym (ap (with_front front)
-          (next ∙ ap (λ (r : Result (ℕ × List Token) Kind). r >>= λ first. weights_at k first.1 >>=
-              λ others. Ok (first.0 ∷ others)) e) ∙ regroup front m (weights_at k rest)) ∙ h.same }
+      record {
+        same = sym (ap (with_front front)
+            (next ∙ ap (λ (r : Result (ℕ × List Token) Kind). r >>= λ first. weights_at k first.1
+            >>=
+            λ others. Ok (first.0 ∷ others)) e) ∙ regroup front m (weights_at k rest)) ∙ h.same;
+      }
 
   pub fails : (f : LineError) → Fails f (weight_at ts) → IsOnTheWay front left ts whole
       → Fails f whole
   fails f k' h =
       subst (λ (r : Read). Fails f r) h.same
       (bind_fails f (weights_at left ts) _
-        (subst (λ (r : Read). Fails f r) (sym next) (bind_fails f (weight_at ts) _ k')))
+      (subst (λ (r : Read). Fails f r) (sym next) (bind_fails f (weight_at ts) _ k')))
 
 none_left : (ts : List Token) → weights_at 0 ts ≡ (end_at ts >>= λ _. Ok [])
 unfolding weights_at
@@ -62,12 +65,12 @@ pub ends : (front : List ℕ) (left : ℕ) (ts : List Token) (whole : Read) (u :
     → end_at ts ≡ Ok u → IsOnTheWay front left ts whole → whole ≡ Ok front
 ends front left ts whole u none e h =
     sym h.same ∙ ap (with_front front) (ap (λ n. weights_at n ts) none ∙ none_left ts
-          ∙ ap (λ (r : Result (Unit {0}) Kind). r >>= λ _. Ok []) e) ∙ ap Ok (append-nil front)
+    ∙ ap (λ (r : Result (Unit {0}) Kind). r >>= λ _. Ok []) e) ∙ ap Ok (append-nil front)
 
 pub end_fails : (front : List ℕ) (left : ℕ) (ts : List Token) (whole : Read) (f : LineError)
     → left ≡ 0 → Fails f (end_at ts) → IsOnTheWay front left ts whole → Fails f whole
 end_fails front left ts whole f none k h =
     subst (λ (r : Read). Fails f r) h.same
-        (bind_fails f (weights_at left ts) _
-          (subst (λ (r : Read). Fails f r) (sym (ap (λ n. weights_at n ts) none ∙ none_left ts))
-            (bind_fails f (end_at ts) _ k)))
+    (bind_fails f (weights_at left ts) _
+    (subst (λ (r : Read). Fails f r) (sym (ap (λ n. weights_at n ts) none ∙ none_left ts))
+    (bind_fails f (end_at ts) _ k)))

@@ -20,7 +20,7 @@ ending after w = Ok (w, after)
 stepped : (a : Alphabet) (w : Word) (x : List ℕ) (k : ℕ) (after : List Token) (f : Word → Read)
     (more : Word × List Token → Read) → ((v : Word) → f v ≡ more (v, after))
     → (powered a w x k >>= f) ≡ ((letter_of a.names x >>= λ letter. lengthened w
-            (letter_at a letter) k >>= ending after) >>= more)
+    (letter_at a letter) k >>= ending after) >>= more)
 stepped a w x k after f more same = by_letter (letter_of a.names x)
   where
     by_longer : (r : Result Word Kind) → (r >>= f) ≡ ((r >>= ending after) >>= more)
@@ -33,9 +33,9 @@ stepped a w x k after f more same = by_letter (letter_of a.names x)
     by_letter (Err e) = refl
 
 missing : (a : Alphabet) (x : List ℕ) (m : Kind) (more : (Word × List Token) → Read) (f : ℕ → ℕ
-      × List Token → Result (Word × List Token) Kind)
+    × List Token → Result (Word × List Token) Kind)
     → (letter_of a.names x >>= λ _. Err m)
-        ≡ ((letter_of a.names x >>= λ letter. Err m >>= f letter) >>= more)
+    ≡ ((letter_of a.names x >>= λ letter. Err m >>= f letter) >>= more)
 missing a x m more f = by_letter (letter_of a.names x)
   where
     by_letter : (r : Result ℕ Kind)
@@ -57,8 +57,10 @@ word_agrees (suc n) a w (Name x ∷ Power ∷ Literal k ∷ ts) h =
     (λ v. refl)
 word_agrees (suc n) a w (Name x ∷ Power ∷ ts) h =
     missing a x (misplaced ts) (λ factor. after_factor (factors_at n a) factor.0 factor.1)
-    (λ letter exponent. lengthened w (letter_at a letter) exponent.0 >>= λ longer. Ok (longer,
-        exponent.1))
+    (λ letter exponent. lengthened w (letter_at a letter) exponent.0 >>= λ longer. Ok (
+      longer,
+      exponent.1,
+    ))
 word_agrees (suc n) a w (Name x ∷ Times ∷ ts) h =
     stepped a w x 1 (Times ∷ ts) (λ v. word_by_patterns a v ts)
     (λ factor. after_factor (factors_at n a) factor.0 factor.1)

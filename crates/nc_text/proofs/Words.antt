@@ -41,7 +41,7 @@ first_fails f a [] h = h
 first_fails f a (t ∷ ts) h = bind_fails f (factor_at a [] (t ∷ ts)) _ h
 
 pub next_factor : (a : Alphabet) (w : Word) (ts rest : List Token) (whole : Read) (x : Word
-      × List Token) → IsTakenToken Times ts rest true → factor_at a w rest ≡ Ok x
+    × List Token) → IsTakenToken Times ts rest true → factor_at a w rest ≡ Ok x
     → IsOnTheWay a w ts whole → IsOnTheWay a x.0 x.1 whole
 unfolding factors_at
 next_factor a w ts rest whole x taken e h = by_budget h.budget h.enough h.same

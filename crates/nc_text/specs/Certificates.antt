@@ -44,7 +44,7 @@ unfoldable pub term_lines : ℕ → Alphabet → ℕ → Written → Result (Lis
 term_lines p a generators (End n) = Ok ([], End n)
 term_lines p a generators (Line n clean ts after) = if clean && begins (codes "term") ts
     then (at_line n (term_row_at p a generators (behind ts)) >>= λ first. term_lines p a generators
-          after >>= λ others. Ok (first ∷ others.0, others.1))
+    after >>= λ others. Ok (first ∷ others.0, others.1))
     else Ok ([], Line n clean ts after)
 
 -- parts as one line, and no line where there is no part
@@ -68,11 +68,11 @@ unfoldable pub part_lines : NamedSetting → List ℕ → List Part → Written
 part_lines s reaches parts (End n) = Ok (parts ∷ [], End n)
 part_lines s reaches parts (Line n clean ts after) = if clean && begins (codes "part") ts
     then (at_line n (part_at s reaches (behind ts)) >>= λ part. part_lines s reaches
-          (parts ++ part ∷ []) after)
+    (parts ++ part ∷ []) after)
     else (if clean && begins (codes "line") ts
     then (at_line n (end_at (behind ts)) >>= λ _. part_lines s
-          (reaches ++ line_reach s.setting reaches parts ∷ []) [] after >>= λ others. Ok
-          (parts ∷ others.0, others.1))
+    (reaches ++ line_reach s.setting reaches parts ∷ []) [] after >>= λ others. Ok
+    (parts ∷ others.0, others.1))
     else Ok (parts ∷ [], Line n clean ts after))
 
 -- the first line `line`, if it comes next, and all of its kind

@@ -38,7 +38,7 @@ ReadsTerms =
     (s : NamedSetting) (claim : Polynomial) (terms : Element)
     → IsTextCertificate (record { setting = s; claim = claim; lines = element_lines terms })
     → reads_certificate (terms_text s claim terms)
-        ≡ Ok (record { setting = s; claim = claim; lines = element_lines terms })
+    ≡ Ok (record { setting = s; claim = claim; lines = element_lines terms })
 
 -- So is what is printed of a polynomial, and of a monomial.
 abbrev pub ReadsPolynomials : Type 0

@@ -69,9 +69,17 @@ problem_at wants_claim w = do
   steps ← steps_line bound.1
   claim ← claim_at wants_claim setting.0.setting.prime setting.0.alphabet steps.1
   _ ← the_end claim.1
-  Ok (record { problem = record { problem = record { setting = setting.0.setting;
-              bound = bound.0; steps = steps.0 }; alphabet = setting.0.alphabet };
-          claim = claim.0 })
+  Ok (record {
+    problem = record {
+      problem = record {
+        setting = setting.0.setting;
+        bound = bound.0;
+        steps = steps.0;
+      };
+      alphabet = setting.0.alphabet;
+    };
+    claim = claim.0;
+  })
 
 -- the problem that a text is, with a claim where one is wanted, or the text's first fault
 abbrev pub reads_problem : Bool → List ℕ → Result ProblemText TextFault

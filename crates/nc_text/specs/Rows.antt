@@ -53,8 +53,8 @@ field_at ts = do
 abbrev pub further_name : List (List ℕ) → List ℕ → Result (List ℕ) Kind
 further_name names name = if is_name name
     then (if nat_lt (length names) 64 then
-          (if list_any (λ n. bytes_eq n name) names then Err DoubleName else Ok name) else Err
-          TooManyNames)
+    (if list_any (λ n. bytes_eq n name) names then Err DoubleName else Ok name) else Err
+    TooManyNames)
     else Err BadName
 
 -- letters: one or more names, behind those so far
@@ -127,8 +127,12 @@ unfoldable pub term_row_at : ℕ → Alphabet → ℕ → List Token → Result 
 term_row_at p a generators ts = do
   c ← literal_at ts
   σ ← mono_at a generators c.1
-  Ok (record { coefficient = c.0 % p;
-          left = σ.left; of = Factor.a_generator σ.generator; right = σ.right })
+  Ok (record {
+    coefficient = c.0 % p;
+    left = σ.left;
+    of = Factor.a_generator σ.generator;
+    right = σ.right;
+  })
 
 -- what a part multiplies: a generator's number in brackets, or a line's in braces
 unfoldable pub multiplied_at : ℕ → ℕ → List Token → Result (Factor × List Token) Kind
@@ -152,8 +156,12 @@ part_at s reaches ts = do
   of ← multiplied_at (length s.setting.generators) (length reaches) left.1
   right ← side_at s.alphabet of.1
   _ ← end_at right.1
-  within_reach s.setting reaches (record { coefficient = c.0 % s.setting.prime;
-          left = left.0; of = of.0; right = right.0 })
+  within_reach s.setting reaches (record {
+    coefficient = c.0 % s.setting.prime;
+    left = left.0;
+    of = of.0;
+    right = right.0;
+  })
 
 -- behind `degree`: a literal of at most 1,000
 unfoldable pub degree_at : List Token → Result Bound Kind

@@ -49,7 +49,7 @@ unfoldable pub generator_lines : ℕ → Alphabet → ℕ → Written
 generator_lines p a room (End n) = Ok ([], End n)
 generator_lines p a room (Line n clean ts after) = if clean && begins (codes "generator") ts
     then (at_line n (generator_at p a room (behind ts)) >>= λ first. generator_lines p a (room - 1)
-          after >>= λ others. Ok (first ∷ others.0, others.1))
+    after >>= λ others. Ok (first ∷ others.0, others.1))
     else Ok ([], Line n clean ts after)
 
 -- the lines `field`, `letters`, `weights` and `generator`
@@ -58,5 +58,10 @@ setting_lines w = do
   field ← field_line w
   alphabet ← alphabet_lines field.1
   generators ← generator_lines field.0 alphabet.0 1000 alphabet.1
-  Ok (record { alphabet = alphabet.0;
-          setting = record { prime = field.0; generators = generators.0 } }, generators.1)
+  Ok (
+    record {
+      alphabet = alphabet.0;
+      setting = record { prime = field.0; generators = generators.0 };
+    },
+    generators.1,
+  )

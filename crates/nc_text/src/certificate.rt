@@ -33,7 +33,7 @@ fn form_line(text: &mut Text<'_>) -> Result<u64, ReadFault>
 #[tactic(auto, using(nc_tokens::proofs::Told::at_gives), unfolding(crate::specs::Certificates::claim_line))]
 pub fn claim_line(alloc: Global, setting: &Setting, text: &mut Text<'_>) -> Result<Poly, ReadFault>
     ensures { GivesText (λ f. (f, left text.new)) result
-          (claim_line setting.now.setting.prime setting.now.alphabet (left text.old)) }
+        (claim_line setting.now.setting.prime setting.now.alphabet (left text.old)) }
 {
     let mut row = text.wants(b"claim")?;
     let claim = at(
@@ -46,8 +46,8 @@ pub fn claim_line(alloc: Global, setting: &Setting, text: &mut Text<'_>) -> Resu
 /// Reads the lines `term`, as parts.
 fn terms_of(alloc: Global, setting: &Setting, text: &mut Text<'_>) -> Result<Line, ReadFault>
     ensures { GivesText (λ parts. (parts, left text.new)) result
-          (term_lines setting.now.setting.prime setting.now.alphabet
-            (length setting.now.setting.generators) (left text.old)) }
+        (term_lines setting.now.setting.prime setting.now.alphabet
+        (length setting.now.setting.generators) (left text.old)) }
 {
     let mut line = Line::empty(alloc);
     'terms: while let Some(row) = text.takes(b"term") {
@@ -61,8 +61,7 @@ fn terms_of(alloc: Global, setting: &Setting, text: &mut Text<'_>) -> Result<Lin
 /// Reads the lines `term` as one line, and as no line where there is no term.
 #[tactic(auto, unfolding(crate::specs::Certificates::terms_line))]
 fn terms_line(alloc: Global, setting: &Setting, text: &mut Text<'_>) -> Result<Lines, ReadFault>
-    ensures { GivesText (λ ls. (ls, left text.new)) result (terms_line setting.now (left text.old))
-          }
+    ensures { GivesText (λ ls. (ls, left text.new)) result (terms_line setting.now (left text.old)) }
 {
     let line = terms_of(alloc, setting, text)?;
     let mut lines = Lines::empty(alloc);
@@ -81,7 +80,7 @@ fn body_of(
 ) -> Result<Lines, ReadFault>
     requires { lines_left (left text.old) ≤ 16777216 }
     ensures { GivesText (λ ls. (ls, left text.new)) result
-          (body_lines form setting.now (left text.old)) }
+        (body_lines form setting.now (left text.old)) }
 {
     if form == 1 {
         terms_line(alloc, setting, text)

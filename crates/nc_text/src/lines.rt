@@ -32,7 +32,7 @@ fn longest(f: &Poly) -> usize
 /// The same of each generator.
 fn longest_of_generators(alloc: Global, setting: &Setting) -> Result<Vec<usize>, AllocError>
     ensures generators { IfOk result
-          (λ ms. ms.items ≡ map longest_of setting.now.setting.generators) }
+        (λ ms. ms.items ≡ map longest_of setting.now.setting.generators) }
     ensures short { IfOk result (λ ms. All (λ m. m ≤ 100000) ms.items) }
 {
     let mut all = Vec::new(alloc);
@@ -109,7 +109,7 @@ fn part_of(
 fn parts_of(alloc: Global, setting: &Setting, text: &mut Text<'_>) -> Result<Lines, ReadFault>
     requires { lines_left (left text.old) ≤ 16777216 }
     ensures { GivesText (λ ls. (ls, left text.new)) result
-          (part_lines setting.now [] [] (left text.old)) }
+        (part_lines setting.now [] [] (left text.old)) }
 {
     let longest = longest_of_generators(alloc, setting)?;
     let mut lines = Lines::empty(alloc);
@@ -143,8 +143,7 @@ fn parts_of(alloc: Global, setting: &Setting, text: &mut Text<'_>) -> Result<Lin
 #[tactic(auto, unfolding(crate::specs::Certificates::line_lines))]
 pub fn lines_of(alloc: Global, setting: &Setting, text: &mut Text<'_>) -> Result<Lines, ReadFault>
     requires { lines_left (left text.old) ≤ 16777216 }
-    ensures { GivesText (λ ls. (ls, left text.new)) result (line_lines setting.now (left text.old))
-          }
+    ensures { GivesText (λ ls. (ls, left text.new)) result (line_lines setting.now (left text.old)) }
 {
     match text.takes(b"line") {
         None => Ok(Lines::empty(alloc)),

@@ -46,8 +46,8 @@ fn term_of(
     negative: bool,
     line: &mut Tokens<'_>,
 ) -> Result<Term, LineError>
-    ensures reads { Gives (λ t. (t, line.new)) result (term_at prime alphabet.now negative line.old)
-          }
+    ensures reads { Gives (λ t. (t, line.new)) result
+        (term_at prime alphabet.now negative line.old) }
     ensures residue { IfOk result (λ t. t.coefficient < prime) }
 {
     match line.takes_literal() {

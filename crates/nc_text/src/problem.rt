@@ -80,7 +80,7 @@ fn below(setting: &Setting, mono: Mono) -> Bound
 #[tactic(auto, unfolding(crate::specs::Rows::below_at))]
 fn below_of(alloc: Global, setting: &Setting, line: &mut Tokens<'_>) -> Result<Bound, LineError>
     ensures reads { Gives (λ b. bound_of b) result
-          (below_at setting.now.alphabet (length setting.now.setting.generators) line.old) }
+        (below_at setting.now.alphabet (length setting.now.setting.generators) line.old) }
     ensures degree { IfOk result (λ b. HasBoundDegree setting.now.setting b) }
 {
     let mono = mono_of(alloc, setting, line)?;
@@ -91,7 +91,7 @@ fn below_of(alloc: Global, setting: &Setting, line: &mut Tokens<'_>) -> Result<B
 #[tactic(auto, unfolding(crate::specs::Rows::bound_at))]
 fn bound_of(alloc: Global, setting: &Setting, line: &mut Tokens<'_>) -> Result<Bound, LineError>
     ensures reads { Gives (λ b. bound_of b) result
-          (bound_at setting.now.alphabet (length setting.now.setting.generators) line.old) }
+        (bound_at setting.now.alphabet (length setting.now.setting.generators) line.old) }
     ensures degree { IfOk result (λ b. HasBoundDegree setting.now.setting b) }
 {
     match line.take() {
@@ -125,8 +125,7 @@ fn steps_of(line: &mut Tokens<'_>) -> Result<u64, LineError>
 #[tactic(auto, using(nc_tokens::proofs::Told::at_gives, nc_tokens::proofs::Told::at_holds), unfolding(crate::specs::Problems::bound_line))]
 fn bound_line(alloc: Global, setting: &Setting, text: &mut Text<'_>) -> Result<Bound, ReadFault>
     ensures reads { GivesText (λ b. (bound_of b, left text.new)) result
-          (bound_line setting.now.alphabet (length setting.now.setting.generators) (left text.old))
-          }
+        (bound_line setting.now.alphabet (length setting.now.setting.generators) (left text.old)) }
     ensures degree { IfOk result (λ b. HasBoundDegree setting.now.setting b) }
 {
     let mut row = text.wants(b"bound")?;
@@ -157,7 +156,7 @@ fn optional_claim(
     text: &mut Text<'_>,
 ) -> Result<Option<Poly>, ReadFault>
     ensures { GivesText (λ f. (f, left text.new)) result
-          (optional_claim setting.now.setting.prime setting.now.alphabet (left text.old)) }
+        (optional_claim setting.now.setting.prime setting.now.alphabet (left text.old)) }
 {
     match text.takes(b"claim") {
         None => Ok(None),
@@ -180,7 +179,7 @@ fn wanted_claim(
     text: &mut Text<'_>,
 ) -> Result<Option<Poly>, ReadFault>
     ensures { GivesText (λ f. (f, left text.new)) result
-          (wanted_claim setting.now.setting.prime setting.now.alphabet (left text.old)) }
+        (wanted_claim setting.now.setting.prime setting.now.alphabet (left text.old)) }
 {
     let claim = claim_line(alloc, setting, text)?;
     Ok(Some(claim))
@@ -194,7 +193,7 @@ fn claim_of(
     text: &mut Text<'_>,
 ) -> Result<Option<Poly>, ReadFault>
     ensures { GivesText (λ f. (f, left text.new)) result
-          (claim_at wants_claim setting.now.setting.prime setting.now.alphabet (left text.old)) }
+        (claim_at wants_claim setting.now.setting.prime setting.now.alphabet (left text.old)) }
 {
     if wants_claim {
         wanted_claim(alloc, setting, text)

@@ -29,7 +29,7 @@ fn field_line(text: &mut Text<'_>) -> Result<Prime, ReadFault>
 #[tactic(auto, using(nc_tokens::proofs::Told::at_gives), unfolding(crate::specs::Settings::letters_line))]
 fn letters_line(alloc: Global, text: &mut Text<'_>) -> Result<Vec<Name>, ReadFault>
     ensures reads { GivesText (λ ns. (ns.items, left text.new)) result
-          (letters_line (left text.old)) }
+        (letters_line (left text.old)) }
     ensures few { IfOk result (λ ns. length ns.items ≤ 64) }
 {
     let mut row = text.wants(b"letters")?;
@@ -41,7 +41,7 @@ fn letters_line(alloc: Global, text: &mut Text<'_>) -> Result<Vec<Name>, ReadFau
 #[tactic(auto, using(nc_tokens::proofs::Told::at_gives), unfolding(crate::specs::Settings::weights_line))]
 fn weights_line(alloc: Global, letters: usize, text: &mut Text<'_>) -> Result<Vec<u8>, ReadFault>
     ensures { GivesText (λ ms. (ms.items, left text.new)) result
-          (weights_line letters (left text.old)) }
+        (weights_line letters (left text.old)) }
 {
     match text.takes(b"weights") {
         None => Ok(vec![in alloc; 1; letters]?),
@@ -71,7 +71,7 @@ fn generators_of(
     text: &mut Text<'_>,
 ) -> Result<Vec<Poly>, ReadFault>
     ensures { GivesText (λ fs. (fs.items, left text.new)) result
-          (generator_lines prime alphabet.now 1000 (left text.old)) }
+        (generator_lines prime alphabet.now 1000 (left text.old)) }
 {
     let mut generators = Vec::new(alloc);
     let mut room = MAX_GENERATORS;

@@ -96,7 +96,7 @@ fn generators_of(setting: &Setting) -> u32
 #[tactic(auto, unfolding(crate::specs::Rows::mono_at))]
 pub fn mono_of(alloc: Global, setting: &Setting, line: &mut Tokens<'_>) -> Result<Mono, LineError>
     ensures reads { Gives (λ m. m) result
-          (mono_at setting.now.alphabet (length setting.now.setting.generators) line.old) }
+        (mono_at setting.now.alphabet (length setting.now.setting.generators) line.old) }
     ensures generator { IfOk result (λ m. IsGenerator setting.now.setting m.generator) }
     ensures left { IfOk result (λ m. IsTextWord setting.now.alphabet m.left) }
     ensures right { IfOk result (λ m. IsTextWord setting.now.alphabet m.right) }
@@ -123,8 +123,8 @@ pub fn residue_of(setting: &Setting, number: u64) -> Residue
 #[tactic(auto, unfolding(crate::specs::Rows::term_row_at))]
 pub fn term_of(alloc: Global, setting: &Setting, line: &mut Tokens<'_>) -> Result<Part, LineError>
     ensures { Gives (λ p. p) result
-          (term_row_at setting.now.setting.prime setting.now.alphabet
-            (length setting.now.setting.generators) line.old) }
+        (term_row_at setting.now.setting.prime setting.now.alphabet
+        (length setting.now.setting.generators) line.old) }
 {
     let number = line.literal()?;
     let Mono {
@@ -144,7 +144,7 @@ pub fn term_of(alloc: Global, setting: &Setting, line: &mut Tokens<'_>) -> Resul
 #[tactic(auto, unfolding(crate::specs::Rows::multiplied_at))]
 pub fn multiplied(setting: &Setting, lines: u32, line: &mut Tokens<'_>) -> Result<Of, LineError>
     ensures reads { Gives (λ f. (factor_of f, line.new)) result
-          (multiplied_at (length setting.now.setting.generators) lines line.old) }
+        (multiplied_at (length setting.now.setting.generators) lines line.old) }
     ensures factor { IfOk result (λ f. IsFactor setting.now.setting lines (factor_of f)) }
 {
     if line.takes_brace() {

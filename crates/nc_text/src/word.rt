@@ -57,7 +57,7 @@ fn factor(
 ) -> Result<(), LineError>
     requires short { length word.old.items ≤ 255 }
     ensures reads { Gives (λ _. (word.new.items, line.new)) result
-          (factor_at alphabet.now word.old.items line.old) }
+        (factor_at alphabet.now word.old.items line.old) }
     ensures short { OnOk result (length word.new.items ≤ 255) }
 {
     let name = line.name()?;

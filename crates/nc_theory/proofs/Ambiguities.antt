@@ -26,8 +26,13 @@ module _ (s : Setting) (entries : List Entry) (σ : Monomial) where
 
       second : Divisor s entries (leading s.prime e.polynomial ++ m.behind_first)
       second =
-          record { entry = f; listed = d;
-            left = m.before; right = m.behind_second; spells = sym m.around.0 }
+          record {
+            entry = f;
+            listed = d;
+            left = m.before;
+            right = m.behind_second;
+            spells = sym m.around.0;
+          }
 
       go : IsGreaterOf s (times [] e.signature m.behind_first)
           (times m.before f.signature m.behind_second) σ
@@ -73,15 +78,20 @@ module _ (s : Setting) (entries : List Entry) (σ : Monomial) where
           before = a.low.left;
           behind_first = a.high.right;
           behind_second = a.low.right;
-          around =
-              (ap (λ x. x ++ (leading s.prime a.high.entry.polynomial ++ a.high.right)) (sym i)
-                ∙ (a.high.spells ∙ sym a.low.spells), a.spans_back, refl);
+          around = (
+            ap (λ x. x ++ (leading s.prime a.high.entry.polynomial ++ a.high.right)) (sym i)
+                ∙ (a.high.spells ∙ sym a.low.spells),
+            a.spans_back,
+            refl,
+          );
           within = omega (arith, a.low_begins, ap length i);
           some = omega (arith, a.high_begins);
           greater =
-              inr (subst (λ x. IsLess s (times a.low.left a.low.entry.signature a.low.right)
-                  (times x a.high.entry.signature a.high.right)) i a.below,
-                sym a.signed ∙ ap (λ x. times x a.high.entry.signature a.high.right) i);
+              inr (
+                subst (λ x. IsLess s (times a.low.left a.low.entry.signature a.low.right)
+                    (times x a.high.entry.signature a.high.right)) i a.below,
+                sym a.signed ∙ ap (λ x. times x a.high.entry.signature a.high.right) i,
+              );
         },
       )
       go (inr i) = inr (
@@ -90,13 +100,19 @@ module _ (s : Setting) (entries : List Entry) (σ : Monomial) where
           before = a.high.left;
           behind_first = a.low.right;
           behind_second = a.high.right;
-          around =
-              (ap (λ x. x ++ (leading s.prime a.low.entry.polynomial ++ a.low.right)) (sym i)
-                ∙ (a.low.spells ∙ sym a.high.spells), swap a.spans_back, refl);
+          around = (
+            ap (λ x. x ++ (leading s.prime a.low.entry.polynomial ++ a.low.right)) (sym i)
+                ∙ (a.low.spells ∙ sym a.high.spells),
+            swap a.spans_back,
+            refl,
+          );
           within = omega (arith, a.high_begins, ap length i);
           some = omega (arith, a.low_begins);
           greater =
-              inl (subst (λ x. IsLess s (times x a.low.entry.signature a.low.right)
-                  (times a.high.left a.high.entry.signature a.high.right)) i a.below, sym a.signed);
+              inl (
+                subst (λ x. IsLess s (times x a.low.entry.signature a.low.right)
+                    (times a.high.left a.high.entry.signature a.high.right)) i a.below,
+                sym a.signed,
+              );
         },
       )

@@ -29,21 +29,36 @@ module _ (P : Problem) (field : IsField P.setting.prime) {n : ℕ} {state : Stat
       → Starts P.setting state.entries τ f start
       → ReductionAt P.setting state.entries τ f (t ∷ kept) steps → (ρ : Monomial)
       → NewAmbiguity P.setting state.entries
-      (record { signature = τ; polynomial = t ∷ kept;
-          trace = record { start = start; steps = steps } }) ρ → IsLess P.setting τ ρ
+      (record {
+        signature = τ;
+        polynomial = t ∷ kept;
+        trace = record { start = start; steps = steps };
+      }) ρ → IsLess P.setting τ ρ
   ascends {kept = kept} {t = t} {start = start} {steps = steps} starts reduction ρ a =
       from_reached ρ (λ r. go r (Contains-push_cases state.entries
-          (record { signature = τ; polynomial = t ∷ kept;
-              trace = record { start = start; steps = steps } }) a.ambiguity.low.entry
-          a.ambiguity.low.listed) a.newest)
+      (record {
+        signature = τ;
+        polynomial = t ∷ kept;
+        trace = record { start = start; steps = steps };
+      }) a.ambiguity.low.entry
+      a.ambiguity.low.listed) a.newest)
     where
       go : IsReached P.setting (Some τ) ρ → Contains state.entries a.ambiguity.low.entry
-          ⊎ (record { signature = τ; polynomial = t ∷ kept;
-              trace = record { start = start; steps = steps } } ≡ a.ambiguity.low.entry)
-          → (a.ambiguity.high.entry ≡ record { signature = τ;
-              polynomial = t ∷ kept; trace = record { start = start; steps = steps } })
-          ⊎ (a.ambiguity.low.entry ≡ record { signature = τ;
-              polynomial = t ∷ kept; trace = record { start = start; steps = steps } }) → ⊥
+          ⊎ (record {
+            signature = τ;
+            polynomial = t ∷ kept;
+            trace = record { start = start; steps = steps };
+          } ≡ a.ambiguity.low.entry)
+          → (a.ambiguity.high.entry ≡ record {
+            signature = τ;
+            polynomial = t ∷ kept;
+            trace = record { start = start; steps = steps };
+          })
+          ⊎ (a.ambiguity.low.entry ≡ record {
+            signature = τ;
+            polynomial = t ∷ kept;
+            trace = record { start = start; steps = steps };
+          }) → ⊥
       go r (inr e) o =
           low_old P field state last inv τ next starts reduction ρ a.word a.ambiguity r e
       go r (inl k) (inr e) =
@@ -67,16 +82,16 @@ module _ (P : Problem) (field : IsField P.setting.prime) {n : ℕ} {state : Stat
   candidate_back (Outcome.an_entry f trace) ρ (within, inl u) = inl (within, inl u)
   candidate_back (Outcome.an_entry f trace) ρ (within, inr (w, amb)) =
       go (Contains-push_cases state.entries
-        (record { signature = τ; polynomial = f; trace = trace }) amb.low.entry amb.low.listed)
+      (record { signature = τ; polynomial = f; trace = trace }) amb.low.entry amb.low.listed)
       (Contains-push_cases state.entries (record { signature = τ; polynomial = f; trace = trace })
-        amb.high.entry amb.high.listed)
+      amb.high.entry amb.high.listed)
     where
       go : Contains state.entries amb.low.entry
           ⊎ (record { signature = τ; polynomial = f; trace = trace } ≡ amb.low.entry)
           → Contains state.entries amb.high.entry
           ⊎ (record { signature = τ; polynomial = f; trace = trace } ≡ amb.high.entry)
           → IsCandidate P state ρ ⊎ (IsWithin P ρ
-            × BringsAmbiguity P.setting state τ (Outcome.an_entry f trace) ρ)
+          × BringsAmbiguity P.setting state τ (Outcome.an_entry f trace) ρ)
       go (inr e) o = inr (within, record { word = w; ambiguity = amb; newest = inr (sym e) })
       go (inl k) (inr e) = inr (within, record { word = w; ambiguity = amb; newest = inl (sym e) })
       go (inl k) (inl h) = inl (
@@ -84,11 +99,20 @@ module _ (P : Problem) (field : IsField P.setting.prime) {n : ℕ} {state : Stat
         inr (
           w,
           record {
-            high = record { entry = amb.high.entry;
-                  listed = h; left = amb.high.left;
-                  right = amb.high.right; spells = amb.high.spells };
-            low = record { entry = amb.low.entry;
-                  listed = k; left = amb.low.left; right = amb.low.right; spells = amb.low.spells };
+            high = record {
+              entry = amb.high.entry;
+              listed = h;
+              left = amb.high.left;
+              right = amb.high.right;
+              spells = amb.high.spells;
+            };
+            low = record {
+              entry = amb.low.entry;
+              listed = k;
+              left = amb.low.left;
+              right = amb.low.right;
+              spells = amb.low.spells;
+            };
             spans_front = amb.spans_front;
             spans_back = amb.spans_back;
             high_begins = amb.high_begins;
@@ -108,12 +132,20 @@ module _ (P : Problem) (field : IsField P.setting.prime) {n : ℕ} {state : Stat
     inr (
       w,
       record {
-        high = record { entry = amb.high.entry;
-              listed = entries_after P.setting state τ o amb.high.entry amb.high.listed;
-              left = amb.high.left; right = amb.high.right; spells = amb.high.spells };
-        low = record { entry = amb.low.entry;
-              listed = entries_after P.setting state τ o amb.low.entry amb.low.listed;
-              left = amb.low.left; right = amb.low.right; spells = amb.low.spells };
+        high = record {
+          entry = amb.high.entry;
+          listed = entries_after P.setting state τ o amb.high.entry amb.high.listed;
+          left = amb.high.left;
+          right = amb.high.right;
+          spells = amb.high.spells;
+        };
+        low = record {
+          entry = amb.low.entry;
+          listed = entries_after P.setting state τ o amb.low.entry amb.low.listed;
+          left = amb.low.left;
+          right = amb.low.right;
+          spells = amb.low.spells;
+        };
         spans_front = amb.spans_front;
         spans_back = amb.spans_back;
         high_begins = amb.high_begins;
@@ -139,7 +171,7 @@ module _ (P : Problem) (field : IsField P.setting.prime) {n : ℕ} {state : Stat
   pub waiting : {o : Outcome} → Handles P.setting state τ o → (ρ : Monomial)
       → IsWaiting P (state_after state τ o) (Some τ) ρ
       ↔ ((IsWaiting P state last ρ × (ρ ≢ τ))
-        ⊎ (IsWithin P ρ × BringsAmbiguity P.setting state τ o ρ))
+      ⊎ (IsWithin P ρ × BringsAmbiguity P.setting state τ o ρ))
   waiting {o} h ρ = (λ c. forth c.1 (candidate_back o ρ c.0), back)
     where
       forth : IsLess P.setting τ ρ → IsCandidate P state ρ
@@ -147,9 +179,11 @@ module _ (P : Problem) (field : IsField P.setting.prime) {n : ℕ} {state : Stat
           → (IsWaiting P state last ρ × (ρ ≢ τ))
           ⊎ (IsWithin P ρ × BringsAmbiguity P.setting state τ o ρ)
       forth l (inl c) =
-          inl ((c, after_last last ρ next.left l),
+          inl (
+            (c, after_last last ρ next.left l),
             λ e. (monomial_laws (generator_weight P.setting)).irrefl τ
-            (subst (IsLess P.setting τ) e l))
+                (subst (IsLess P.setting τ) e l),
+          )
       forth l (inr a) = inr a
 
       other : ρ ≢ τ → (ρ ≡ τ) ⊎ IsLess P.setting τ ρ → IsLess P.setting τ ρ

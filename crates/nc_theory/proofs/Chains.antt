@@ -24,7 +24,7 @@ use Rattle.std.proofs.lemmas.Nat.{mul-mod_second}
 pub sum_mod : (p a b c d : ℕ) → a % p ≡ b % p → c % p ≡ d % p → (a + c) % p ≡ (b + d) % p
 sum_mod p a b c d e f =
     add-mod a c p ∙ (ap (λ n. (n + c % p) % p) e
-      ∙ (ap (λ n. (b % p + n) % p) f ∙ sym (add-mod b d p)))
+    ∙ (ap (λ n. (b % p + n) % p) f ∙ sym (add-mod b d p)))
 
 pub times_mod : (p c a b : ℕ) → a % p ≡ b % p → c * a % p ≡ c * b % p
 times_mod p c a b e = sym (mul-mod_second c a p) ∙ (ap (λ n. c * n % p) e ∙ mul-mod_second c b p)
@@ -32,7 +32,7 @@ times_mod p c a b e = sym (mul-mod_second c a p) ∙ (ap (λ n. c * n % p) e ∙
 pub take_back : (p a h x : ℕ) → 0 < p → a % p ≡ (h + x) % p → h % p ≡ (a + (p - 1) * x) % p
 take_back p a h x pos e =
     sym (sum_mod p a (h + x) ((p - 1) * x) ((p - 1) * x) e refl
-      ∙ (ap (λ n. n % p) (form (p - 1) (omega arith)) ∙ add-mul-mod_self_left h p x))
+    ∙ (ap (λ n. n % p) (form (p - 1) (omega arith)) ∙ add-mul-mod_self_left h p x))
   where
     form : (q : ℕ) → p ≡ q + 1 → (h + x) + q * x ≡ h + p * x
     form q d = omega (arith, ap (λ n. n * x) d)
@@ -51,28 +51,31 @@ module _ (s : Setting) where
   pub same_minus : (f f' : Polynomial) (c : ℕ) (g : Polynomial) → SamePolynomial s f f'
       → SamePolynomial s (minus s.prime f c g) (minus s.prime f' c g)
   same_minus f f' c g e =
-      record { at = λ y. ap (λ n. n % s.prime) (coefficient_polynomial_minus f c g y)
-        ∙ (sum_mod s.prime (coefficient f y) (coefficient f' y)
-          ((s.prime - 1) * c * coefficient g y) ((s.prime - 1) * c * coefficient g y) (e.at y) refl
-          ∙ sym (ap (λ n. n % s.prime) (coefficient_polynomial_minus f' c g y))) }
+      record {
+        at = λ y. ap (λ n. n % s.prime) (coefficient_polynomial_minus f c g y)
+            ∙ (sum_mod s.prime (coefficient f y) (coefficient f' y)
+            ((s.prime - 1) * c * coefficient g y) ((s.prime - 1) * c * coefficient g y) (e.at y)
+            refl
+            ∙ sym (ap (λ n. n % s.prime) (coefficient_polynomial_minus f' c g y)));
+      }
 
 module _ (s : Setting) (entries : List Entry) (σ τ : Monomial) (within : (σ ≡ τ) ⊎ IsLess s σ τ)
-    where
-  widen : (ρ : Monomial) → (ρ ≡ σ) ⊎ IsLess s ρ σ → (ρ ≡ σ → (ρ ≡ τ) ⊎ IsLess s ρ τ) → (σ ≡ τ)
-      ⊎ IsLess s σ τ → (ρ ≡ τ) ⊎ IsLess s ρ τ
-  widen ρ (inl e) f o = f e
-  widen ρ (inr l) f (inl e) = inr (subst (IsLess s ρ) e l)
-  widen ρ (inr l) f (inr m) = inr ((monomial_laws (generator_weight s)).trans ρ σ τ l m)
+  where
+    widen : (ρ : Monomial) → (ρ ≡ σ) ⊎ IsLess s ρ σ → (ρ ≡ σ → (ρ ≡ τ) ⊎ IsLess s ρ τ) → (σ ≡ τ)
+        ⊎ IsLess s σ τ → (ρ ≡ τ) ⊎ IsLess s ρ τ
+    widen ρ (inl e) f o = f e
+    widen ρ (inr l) f (inl e) = inr (subst (IsLess s ρ) e l)
+    widen ρ (inr l) f (inr m) = inr ((monomial_laws (generator_weight s)).trans ρ σ τ l m)
 
-  at_most : (ρ : Monomial) → (ρ ≡ σ) ⊎ IsLess s ρ σ → (ρ ≡ τ) ⊎ IsLess s ρ τ
-  at_most ρ o = widen ρ o (λ e. subst (λ κ. (κ ≡ τ) ⊎ IsLess s κ τ) (sym e) within) within
+    at_most : (ρ : Monomial) → (ρ ≡ σ) ⊎ IsLess s ρ σ → (ρ ≡ τ) ⊎ IsLess s ρ τ
+    at_most ρ o = widen ρ o (λ e. subst (λ κ. (κ ≡ τ) ⊎ IsLess s κ τ) (sym e) within) within
 
-  pub reduces_same : {f : Polynomial} → ReducesToZero s entries σ f → (f' : Polynomial)
-      → SamePolynomial s f f' → ReducesToZero s entries τ f'
-  reduces_same (ReducesToZero.done z) f' e = ReducesToZero.done (λ w. sym (e.at w) ∙ z w)
-  reduces_same (ReducesToZero.step {f = f} w d v le c q rest) f' e =
-      ReducesToZero.step w (leads_same s f f' w e d) v (at_most (signature_at s entries w v) le) c
-      (q ∙ e.at w) (reduces_same rest (minus s.prime f' c (multiple_at s entries w v))
+    pub reduces_same : {f : Polynomial} → ReducesToZero s entries σ f → (f' : Polynomial)
+        → SamePolynomial s f f' → ReducesToZero s entries τ f'
+    reduces_same (ReducesToZero.done z) f' e = ReducesToZero.done (λ w. sym (e.at w) ∙ z w)
+    reduces_same (ReducesToZero.step {f = f} w d v le c q rest) f' e =
+        ReducesToZero.step w (leads_same s f f' w e d) v (at_most (signature_at s entries w v) le) c
+        (q ∙ e.at w) (reduces_same rest (minus s.prime f' c (multiple_at s entries w v))
         (same_minus s f f' c (multiple_at s entries w v) e))
 
 module _ (s : Setting) (field : IsField s.prime) (entries : List Entry) (τ : Monomial) (w : Word)
@@ -87,15 +90,15 @@ module _ (s : Setting) (field : IsField s.prime) (entries : List Entry) (τ : Mo
   multiple_leads =
       subst (IsLeadingWord s multiple) d.spells
       (polynomial_times_leads s d.left d.entry.polynomial d.right
-        (leading s.prime d.entry.polynomial) leads)
+      (leading s.prime d.entry.polynomial) leads)
 
   multiple_coef : coefficient multiple w % s.prime ≡ coefficient d.entry.polynomial
       (leading s.prime d.entry.polynomial) % s.prime
   multiple_coef =
       subst (λ v. coefficient multiple v % s.prime ≡ coefficient d.entry.polynomial
-        (leading s.prime d.entry.polynomial) % s.prime) d.spells
+      (leading s.prime d.entry.polynomial) % s.prime) d.spells
       (polynomial_times_coefficient s d.left d.entry.polynomial d.right
-        (leading s.prime d.entry.polynomial))
+      (leading s.prime d.entry.polynomial))
 
   -- f is h plus c times the multiple
   abbrev IsSum : Polynomial → Polynomial → Type 0
@@ -114,29 +117,39 @@ module _ (s : Setting) (field : IsField s.prime) (entries : List Entry) (τ : Mo
       (record {
         nonzero =
             λ z. counts (zero_rest s.prime (coefficient h w) (c * coefficient multiple w)
-              (sym (e w) ∙ z) (low w (inl refl)));
+            (sym (e w) ∙ z) (low w (inl refl)));
         above = λ y l. e y ∙ zero_add s.prime (coefficient h y) (c * coefficient multiple y)
             (low y (inr l)) (zero_mul_left s.prime c (coefficient multiple y)
-              (multiple_leads.above y l));
+            (multiple_leads.above y l));
       })
       d (inl signed) c
       (sym (times_mod s.prime c (coefficient multiple w)
-              (coefficient d.entry.polynomial (leading s.prime d.entry.polynomial)) multiple_coef)
-            ∙ sym (e w ∙ sum_mod s.prime (coefficient h w) 0 (c * coefficient multiple w)
-              (c * coefficient multiple w) (low w (inl refl) ∙ sym (zero_number s.prime)) refl
-              ∙ ap (λ n. n % s.prime) (omega arith)))
+      (coefficient d.entry.polynomial (leading s.prime d.entry.polynomial)) multiple_coef)
+      ∙ sym (e w ∙ sum_mod s.prime (coefficient h w) 0 (c * coefficient multiple w)
+      (c * coefficient multiple w) (low w (inl refl) ∙ sym (zero_number s.prime)) refl
+      ∙ ap (λ n. n % s.prime) (omega arith)))
       (reduces_same s entries τ τ (inl refl) rest (minus s.prime f c multiple)
-            (record { at = λ y. take_back s.prime (coefficient f y) (coefficient h y)
-                (c * coefficient multiple y) (omega (arith, field.above_one)) (e y)
-                ∙ sym (ap (λ n. n % s.prime) (coefficient_polynomial_minus s f c multiple y
-                  ∙ omega arith)) }))
+      (record {
+        at = λ y. take_back s.prime (coefficient f y) (coefficient h y)
+            (c * coefficient multiple y) (omega (arith, field.above_one)) (e y)
+            ∙ sym (ap (λ n. n % s.prime) (coefficient_polynomial_minus s f c multiple y
+            ∙ omega arith));
+      }))
 
   regular : (σ : Monomial) → IsLess s σ τ → (x : Word) → x ≡ w → (v : Divisor s entries x)
       → (signature_at s entries x v ≡ σ) ⊎ IsLess s (signature_at s entries x v) σ
       → RegularDivisor s entries τ w
   regular σ l x e v o =
-      record { divisor = record { entry = v.entry;
-          listed = v.listed; left = v.left; right = v.right; spells = v.spells ∙ e }; below = go o }
+      record {
+        divisor = record {
+          entry = v.entry;
+          listed = v.listed;
+          left = v.left;
+          right = v.right;
+          spells = v.spells ∙ e;
+        };
+        below = go o;
+      }
     where
       go : (signature_at s entries x v ≡ σ) ⊎ IsLess s (signature_at s entries x v) σ
           → IsLess s (signature_at s entries x v) τ
@@ -154,10 +167,10 @@ module _ (s : Setting) (field : IsField s.prime) (entries : List Entry) (τ : Mo
   less_sum f h e k m y =
       ap (λ n. n % s.prime) (coefficient_polynomial_minus s f k m y)
       ∙ (sum_mod s.prime (coefficient f y) (coefficient h y + c * coefficient multiple y)
-        ((s.prime - 1) * k * coefficient m y) ((s.prime - 1) * k * coefficient m y) (e y) refl
-        ∙ ap (λ n. n % s.prime) (swap_last (coefficient h y) (c * coefficient multiple y)
-          ((s.prime - 1) * k * coefficient m y) ∙ ap (λ n. n + c * coefficient multiple y)
-          (sym (coefficient_polynomial_minus s h k m y))))
+      ((s.prime - 1) * k * coefficient m y) ((s.prime - 1) * k * coefficient m y) (e y) refl
+      ∙ ap (λ n. n % s.prime) (swap_last (coefficient h y) (c * coefficient multiple y)
+      ((s.prime - 1) * k * coefficient m y) ∙ ap (λ n. n + c * coefficient multiple y)
+      (sym (coefficient_polynomial_minus s h k m y))))
     where
       swap_last : (a b c : ℕ) → (a + b) + c ≡ (a + c) + b
       swap_last a b c = omega arith
@@ -167,14 +180,16 @@ module _ (s : Setting) (field : IsField s.prime) (entries : List Entry) (τ : Mo
       → coefficient h y % s.prime ≡ coefficient f y % s.prime
   high_same f h e y b =
       sym (e y ∙ (sum_mod s.prime (coefficient h y) (coefficient h y) (c * coefficient multiple y) 0
-          refl (zero_mul_left s.prime c (coefficient multiple y) (multiple_leads.above y b)
-            ∙ sym (zero_number s.prime)) ∙ ap (λ n. n % s.prime) (omega arith)))
+      refl (zero_mul_left s.prime c (coefficient multiple y) (multiple_leads.above y b)
+      ∙ sym (zero_number s.prime)) ∙ ap (λ n. n % s.prime) (omega arith)))
 
   high_leads : (f h : Polynomial) → IsSum f h → (x : Word) → IsWordLess w x → IsLeadingWord s h x
       → IsLeadingWord s f x
   high_leads f h e x b d =
-      record { nonzero = λ z. d.nonzero (high_same f h e x b ∙ z);
-        above = λ y l. sym (high_same f h e y (word_trans w x y b l)) ∙ d.above y l }
+      record {
+        nonzero = λ z. d.nonzero (high_same f h e x b ∙ z);
+        above = λ y l. sym (high_same f h e y (word_trans w x y b l)) ∙ d.above y l;
+      }
 
   -- a chain for h gives one for f, or w has a regular divisor
   pub chain : (σ : Monomial) → IsLess s σ τ → {h : Polynomial} → ReducesToZero s entries σ h
@@ -183,7 +198,7 @@ module _ (s : Setting) (field : IsField s.prime) (entries : List Entry) (τ : Mo
       inl (strike f h e (λ y o. z y) (ReducesToZero.done z))
   chain σ l (ReducesToZero.step {f = h} x hl v le k q rest) f e =
       go (word_total x w) (chain σ l rest (minus s.prime f k (multiple_at s entries x v))
-        (less_sum f h e k (multiple_at s entries x v)))
+      (less_sum f h e k (multiple_at s entries x v)))
     where
       go : IsWordLess x w ⊎ ((x ≡ w) ⊎ IsWordLess w x)
           → ReducesToZero s entries τ (minus s.prime f k (multiple_at s entries x v))
@@ -191,14 +206,14 @@ module _ (s : Setting) (field : IsField s.prime) (entries : List Entry) (τ : Mo
           ⊎ RegularDivisor s entries τ w
       go (inl b) r =
           inl (strike f h e (low_at h x hl b)
-            (reduces_same s entries σ τ (inr l) (ReducesToZero.step x hl v le k q rest) h
-              (record { at = λ y. refl })))
+          (reduces_same s entries σ τ (inr l) (ReducesToZero.step x hl v le k q rest) h
+          (record { at = λ y. refl })))
       go (inr (inl i)) r = inr (regular σ l x i v le)
       go (inr (inr b)) (inr reg) = inr reg
       go (inr (inr b)) (inl red) =
           inl (ReducesToZero.step x (high_leads f h e x b hl) v
-            (at_most s entries σ τ (inr l) (signature_at s entries x v) le) k
-            (q ∙ high_same f h e x b) red)
+          (at_most s entries σ τ (inr l) (signature_at s entries x v) le) k
+          (q ∙ high_same f h e x b) red)
 
   clash : (f h : Polynomial) → IsSum f h → IsZeroPolynomial s f → ¬ IsZero s.prime (coefficient h w)
   clash f h e n z =

@@ -34,7 +34,7 @@ use Rattle.std.proofs.Math.Nat.{mod-eq_of_lt}
 pub whole_multiple : (σ : Monomial) → times [] σ [] ≡ σ
 whole_multiple σ =
     let e : σ.right ++ [] ≡ σ.right =
-        append-nil σ.right in λ i. record { left = σ.left; generator = σ.generator; right = e i }
+    append-nil σ.right in λ i. record { left = σ.left; generator = σ.generator; right = e i }
 
 -- a multiple is the monomial itself or greater
 grows : (s : Setting) (u v : Word) (σ : Monomial) → ((u ≡ []) × (v ≡ [])) ⊎ IsLess s σ (times u σ v)
@@ -55,9 +55,9 @@ unit_divisor : (u v : Word) (σ : Monomial) (i : ℕ) → times u σ v ≡ unit_
     → σ ≡ unit_monomial i
 unit_divisor u v σ i e =
     let l : σ.left ≡ [] =
-        nil_of u σ.left (ap (λ τ. τ.left) e) in let g : σ.generator ≡ i =
-        ap (λ τ. τ.generator) e in let r : σ.right ≡ [] =
-        nil_front σ.right v (ap (λ τ. τ.right) e) in
+    nil_of u σ.left (ap (λ τ. τ.left) e) in let g : σ.generator ≡ i =
+    ap (λ τ. τ.generator) e in let r : σ.right ≡ [] =
+    nil_front σ.right v (ap (λ τ. τ.right) e) in
     (λ k. record { left = l k; generator = g k; right = r k })
 
 -- σ is at most the last signature that was handled
@@ -135,18 +135,28 @@ module _ (s : Setting) where
       go : IsSyzygySignature s state k.by → IsSyzygySignature s (state_after state τ o) k.by
       go (inl (h, c, e)) = inl (h, syzygies_after state τ o h c, e)
       go (inr t) =
-          inr (record { first = t.first;
-              first_listed = entries_after state τ o t.first t.first_listed;
-              second = t.second; second_listed = entries_after state τ o t.second t.second_listed;
-              m = t.m; greater = t.greater })
+          inr (record {
+            first = t.first;
+            first_listed = entries_after state τ o t.first t.first_listed;
+            second = t.second;
+            second_listed = entries_after state τ o t.second t.second_listed;
+            m = t.m;
+            greater = t.greater;
+          })
 
   multiple_after : (state : State) (τ : Monomial) (o : Outcome) (ρ : Monomial) (w : Word)
       → Multiple s state.entries ρ w → Multiple s (state_after state τ o).entries ρ w
   multiple_after state τ o ρ w m =
-      record { divisor = record { entry = m.divisor.entry;
+      record {
+        divisor = record {
+          entry = m.divisor.entry;
           listed = entries_after state τ o m.divisor.entry m.divisor.listed;
-          left = m.divisor.left; right = m.divisor.right; spells = m.divisor.spells };
-        signed = m.signed }
+          left = m.divisor.left;
+          right = m.divisor.right;
+          spells = m.divisor.spells;
+        };
+        signed = m.signed;
+      }
 
   settled_after : (state : State) (τ : Monomial) (o : Outcome) (ρ : Monomial) (w : Word)
       → Covered s state ρ ⊎ ((v : Word) × IsWordLess v w × Multiple s state.entries ρ v)
@@ -166,36 +176,47 @@ module _ (s : Setting) where
   unit_at : (i : ℕ) → coefficient_by same_monomial
       (record { coefficient = 1; key = unit_monomial i } ∷ []) (unit_monomial i) ≡ 1
   unit_at i =
-      omega (arith, at_self same_monomial (IsLess s) (monomial_laws (generator_weight s))
-        (unit_monomial i))
+      omega (
+        arith,
+        at_self same_monomial (IsLess s) (monomial_laws (generator_weight s))
+            (unit_monomial i),
+      )
 
   unit_other : (i : ℕ) (σ : Monomial) → σ ≢ unit_monomial i
       → coefficient_by same_monomial (record { coefficient = 1; key = unit_monomial i } ∷ []) σ ≡ 0
   unit_other i σ n =
-      omega (arith, at_other same_monomial (IsLess s) (monomial_laws (generator_weight s)) σ
-        (unit_monomial i) n)
+      omega (
+        arith,
+        at_other same_monomial (IsLess s) (monomial_laws (generator_weight s)) σ
+            (unit_monomial i) n,
+      )
 
   unit_value : (i : ℕ) (y : Word)
       → coefficient (evaluation s (record { coefficient = 1; key = unit_monomial i } ∷ [])) y
       ≡ coefficient (generator s i) y + 0
   unit_value i y =
-      omega (arith, linear_sum-append (is_at same_word y)
-        (scale 1 (polynomial_times [] (generator s i) [])) [],
+      omega (
+        arith,
+        linear_sum-append (is_at same_word y)
+            (scale 1 (polynomial_times [] (generator s i) [])) [],
         linear_sum-scale (is_at same_word y) 1 (polynomial_times [] (generator s i) []),
         linear_sum-map_keys (is_at same_word y) (λ w. [] ++ (w ++ [])) (generator s i),
         linear_sum-ext (λ w. is_at same_word y ([] ++ (w ++ []))) (is_at same_word y)
-        (generator s i) (λ w. ap (is_at same_word y) (append-nil w)))
+            (generator s i) (λ w. ap (is_at same_word y) (append-nil w)),
+      )
 
   pub unit_carries : IsField s.prime → (i : ℕ) → IsGenerator s i
       → Carries s (unit_monomial i) (generator s i) (λ y. 0)
       (record { coefficient = 1; key = unit_monomial i } ∷ [])
   unit_carries field i inside = record {
     lies = λ σ n. go σ n (key_dec same_monomial (IsLess s) (monomial_laws (generator_weight s)) σ
-          (unit_monomial i));
-    leads = record { nonzero = λ z. one_is_not (subst (IsZero s.prime) (unit_at i) z);
-          above = λ σ l. subst (IsZero s.prime)
+        (unit_monomial i));
+    leads = record {
+      nonzero = λ z. one_is_not (subst (IsZero s.prime) (unit_at i) z);
+      above = λ σ l. subst (IsZero s.prime)
           (sym (unit_other i σ (λ e. (monomial_laws (generator_weight s)).irrefl (unit_monomial i)
-                (subst (IsLess s (unit_monomial i)) e l)))) (zero_number s.prime) };
+          (subst (IsLess s (unit_monomial i)) e l)))) (zero_number s.prime);
+    };
     one = ap (λ n. n % s.prime) (unit_at i) ∙ mod-eq_of_lt field.above_one;
     value = λ y. ap (λ n. n % s.prime) (unit_value i y);
   }
@@ -214,11 +235,12 @@ module _ (s : Setting) where
   starts_carry : IsField s.prime → (state : State) → IsSound s state → (τ : Monomial)
       → HasGenerator s τ → {f : Polynomial} {start : Start} → Starts s state.entries τ f start
       → (α : Element) × Carries s τ f (λ y. 0) α
-  starts_carry field state sound τ inside (Starts.at_generator i e) =
-      (record { coefficient = 1; key = unit_monomial i } ∷ [],
-        subst (λ ρ. Carries s ρ (generator s i) (λ y. 0)
-          (record { coefficient = 1; key = unit_monomial i } ∷ [])) (sym e)
-        (unit_carries field i (subst (HasGenerator s) e inside)))
+  starts_carry field state sound τ inside (Starts.at_generator i e) = (
+    record { coefficient = 1; key = unit_monomial i } ∷ [],
+    subst (λ ρ. Carries s ρ (generator s i) (λ y. 0)
+        (record { coefficient = 1; key = unit_monomial i } ∷ [])) (sym e)
+        (unit_carries field i (subst (HasGenerator s) e inside)),
+  )
   starts_carry field state sound τ inside (Starts.at_multiple not_unit w d best regular) =
       go (sound.entries d.entry d.listed)
     where
@@ -231,10 +253,10 @@ module _ (s : Setting) where
           leads = subst (IsSignatureOf s (element_times d.left β d.right)) best.signed
               (element_times_leads s d.left β d.right d.entry.signature label.leads);
           one = subst (λ ρ. coefficient_by same_monomial (element_times d.left β d.right) ρ
-                % s.prime ≡ 1) best.signed (element_times_coefficient s d.left β d.right
-                d.entry.signature ∙ label.one);
+              % s.prime ≡ 1) best.signed (element_times_coefficient s d.left β d.right
+              d.entry.signature ∙ label.one);
           value = λ y. (evaluation_times s d.left β d.entry.polynomial d.right
-                (omega (arith, field.above_one)) label.evaluates).at y
+              (omega (arith, field.above_one)) label.evaluates).at y
               ∙ ap (λ n. n % s.prime) (omega arith);
         },
       )
@@ -243,9 +265,13 @@ module _ (s : Setting) where
   pub labelled_from : (τ : Monomial) (f : Polynomial) (α : Element) → Carries s τ f (λ y. 0) α
       → IsLabelled s τ f α
   labelled_from τ f α k =
-      record { lies = k.lies; evaluates = record
-        { at = λ y. k.value y ∙ ap (λ n. n % s.prime) (omega arith) };
-        leads = k.leads; one = k.one }
+      record {
+        lies = k.lies;
+        evaluates = record
+            { at = λ y. k.value y ∙ ap (λ n. n % s.prime) (omega arith) };
+        leads = k.leads;
+        one = k.one;
+      }
 
 abbrev new_entry : Monomial → Polynomial → Trace → Entry
 new_entry τ f trace = record { signature = τ; polynomial = f; trace = trace }
@@ -262,7 +288,7 @@ module _ (P : Problem) (field : IsField P.setting.prime) (state : State) (last :
       place (inr l) (inl e) = e
       place (inr l) (inr m) =
           absurd ((monomial_laws (generator_weight P.setting)).irrefl σ
-            ((monomial_laws (generator_weight P.setting)).trans σ τ σ m l))
+          ((monomial_laws (generator_weight P.setting)).trans σ τ σ m l))
 
       go : IsReached P.setting last σ ⊎ IsAfter P last σ → IsReached P.setting last σ ⊎ (σ ≡ τ)
       go (inl r) = inl r
@@ -274,9 +300,9 @@ module _ (P : Problem) (field : IsField P.setting.prime) (state : State) (last :
   -- a reached generator or ambiguity of the old state is settled, where τ itself is
   generators_step : (o : Outcome)
       → ((i : ℕ) → τ ≡ unit_monomial i
-        → ((e : Entry) × Contains (state_after state τ o).entries e
-          × (e.signature ≡ unit_monomial i))
-        ⊎ Covered P.setting (state_after state τ o) (unit_monomial i)) → (i : ℕ)
+      → ((e : Entry) × Contains (state_after state τ o).entries e
+      × (e.signature ≡ unit_monomial i))
+      ⊎ Covered P.setting (state_after state τ o) (unit_monomial i)) → (i : ℕ)
       → IsWithin P (unit_monomial i) → IsReached P.setting (Some τ) (unit_monomial i)
       → ((e : Entry) × Contains (state_after state τ o).entries e × (e.signature ≡ unit_monomial i))
       ⊎ Covered P.setting (state_after state τ o) (unit_monomial i)
@@ -284,15 +310,15 @@ module _ (P : Problem) (field : IsField P.setting.prime) (state : State) (last :
     where
       go : IsReached P.setting last (unit_monomial i) ⊎ (unit_monomial i ≡ τ)
           → ((e : Entry) × Contains (state_after state τ o).entries e
-            × (e.signature ≡ unit_monomial i))
+          × (e.signature ≡ unit_monomial i))
           ⊎ Covered P.setting (state_after state τ o) (unit_monomial i)
       go (inl q) = generator_after P.setting state τ o i (inv.generators i within q)
       go (inr e) = now i (sym e)
 
   ambiguities_step : (o : Outcome)
       → ((w : Word) → Ambiguity P.setting state.entries τ w
-        → Covered P.setting (state_after state τ o) τ
-        ⊎ ((v : Word) × IsWordLess v w × Multiple P.setting (state_after state τ o).entries τ v))
+      → Covered P.setting (state_after state τ o) τ
+      ⊎ ((v : Word) × IsWordLess v w × Multiple P.setting (state_after state τ o).entries τ v))
       → (ρ : Monomial) (w : Word) → Ambiguity P.setting state.entries ρ w → IsWithin P ρ
       → IsReached P.setting (Some τ) ρ → Covered P.setting (state_after state τ o) ρ
       ⊎ ((v : Word) × IsWordLess v w × Multiple P.setting (state_after state τ o).entries ρ v)
@@ -303,8 +329,8 @@ module _ (P : Problem) (field : IsField P.setting.prime) (state : State) (last :
       go (inl q) = settled_after P.setting state τ o ρ w (inv.ambiguities ρ w amb within q)
       go (inr e) =
           subst (λ κ. Covered P.setting (state_after state τ o) κ
-            ⊎ ((v : Word) × IsWordLess v w
-              × Multiple P.setting (state_after state τ o).entries κ v)) (sym e)
+          ⊎ ((v : Word) × IsWordLess v w
+          × Multiple P.setting (state_after state τ o).entries κ v)) (sym e)
           (now w (subst (λ κ. Ambiguity P.setting state.entries κ w) e amb))
 
   -- the high side of an ambiguity at τ has at least the best word, and its low side is a regular
@@ -322,8 +348,12 @@ module _ (P : Problem) (field : IsField P.setting.prime) (state : State) (last :
   low_is_regular : (w : Word) → Ambiguity P.setting state.entries τ w
       → RegularDivisor P.setting state.entries τ w
   low_is_regular w amb =
-      record { divisor = amb.low; below = subst
-        (IsLess P.setting (signature_at P.setting state.entries w amb.low)) amb.signed amb.below }
+      record {
+        divisor = amb.low;
+        below = subst
+            (IsLess P.setting (signature_at P.setting state.entries w amb.low)) amb.signed
+            amb.below;
+      }
 
   module_τ : HasGenerator P.setting τ
   module_τ = next.candidate.0.0
@@ -337,13 +367,16 @@ module _ (P : Problem) (field : IsField P.setting.prime) (state : State) (last :
   step_covered k = record {
     below_last = λ e c. reached_after e.signature (inv.below_last e c);
     within = inv.within;
-    sound = record { nonzero = inv.sound.nonzero;
-          entries = inv.sound.entries; syzygies = inv.sound.syzygies };
+    sound = record {
+      nonzero = inv.sound.nonzero;
+      entries = inv.sound.entries;
+      syzygies = inv.sound.syzygies;
+    };
     clear = inv.clear;
     generators =
         generators_step Outcome.covered
         (λ i e. inr (subst (Covered P.setting (state_after state τ Outcome.covered)) e
-            (covered_after P.setting state τ Outcome.covered τ k)));
+        (covered_after P.setting state τ Outcome.covered τ k)));
     ambiguities =
         ambiguities_step Outcome.covered
         (λ w amb. inl (covered_after P.setting state τ Outcome.covered τ k));
@@ -357,8 +390,11 @@ module _ (P : Problem) (field : IsField P.setting.prime) (state : State) (last :
   step_settled j not_unit b d best not_regular = record {
     below_last = λ e c. reached_after e.signature (inv.below_last e c);
     within = inv.within;
-    sound = record { nonzero = inv.sound.nonzero;
-          entries = inv.sound.entries; syzygies = inv.sound.syzygies };
+    sound = record {
+      nonzero = inv.sound.nonzero;
+      entries = inv.sound.entries;
+      syzygies = inv.sound.syzygies;
+    };
     clear = inv.clear;
     generators = generators_step (Outcome.settled j) (λ i e. absurd (not_unit i e));
     ambiguities =
@@ -372,13 +408,13 @@ module _ (P : Problem) (field : IsField P.setting.prime) (state : State) (last :
       lesser_word w amb (inl l) = inr (b, l, record { divisor = d; signed = best.signed })
       lesser_word w amb (inr e) =
           absurd (not_regular (subst (RegularDivisor P.setting state.entries τ) (sym e)
-              (low_is_regular w amb)))
+          (low_is_regular w amb)))
 
   -- a syzygy covers its own signature
   step_syzygy : {f : Polynomial} {start : Start} {steps : List Step}
       → Starts P.setting state.entries τ f start → ReductionAt P.setting state.entries τ f [] steps
       → Invariant P (state_after state τ
-        (Outcome.a_syzygy (record { start = start; steps = steps }))) (Some τ)
+      (Outcome.a_syzygy (record { start = start; steps = steps }))) (Some τ)
   step_syzygy {f} {start} {steps} starts reduction = record {
     below_last = λ e c. reached_after e.signature (inv.below_last e c);
     within = inv.within;
@@ -387,32 +423,39 @@ module _ (P : Problem) (field : IsField P.setting.prime) (state : State) (last :
       entries = inv.sound.entries;
       syzygies =
           λ h c. label h (Contains-push_cases state.syzygies
-            (record { signature = τ; trace = record { start = start; steps = steps } }) h c);
+          (record { signature = τ; trace = record { start = start; steps = steps } }) h c);
     };
     clear = inv.clear;
     generators =
         generators_step (Outcome.a_syzygy (record { start = start; steps = steps }))
         (λ i e. inr (subst (Covered P.setting
-              (state_after state τ (Outcome.a_syzygy (record { start = start; steps = steps })))) e
-            covers));
+        (state_after state τ (Outcome.a_syzygy (record { start = start; steps = steps })))) e
+        covers));
     ambiguities =
         ambiguities_step (Outcome.a_syzygy (record { start = start; steps = steps }))
         (λ w amb. inl covers);
   }
     where
       covers : Covered P.setting (state_after state τ
-            (Outcome.a_syzygy (record { start = start; steps = steps }))) τ
+          (Outcome.a_syzygy (record { start = start; steps = steps }))) τ
       covers =
-          record { by = τ; is_syzygy = inl
-            (record { signature = τ; trace = record { start = start; steps = steps } },
-              Contains-push state.syzygies (record { signature = τ;
-                  trace = record { start = start; steps = steps } }), refl);
-            divides = ([], [], whole_multiple τ) }
+          record {
+            by = τ;
+            is_syzygy = inl (
+              record { signature = τ; trace = record { start = start; steps = steps } },
+              Contains-push state.syzygies (record {
+                signature = τ;
+                trace = record { start = start; steps = steps };
+              }),
+              refl,
+            );
+            divides = ([], [], whole_multiple τ);
+          }
 
       carried : (α : Element) × Carries P.setting τ [] (λ y. 0) α
       carried =
           let t : (α : Element) × Carries P.setting τ f (λ y. 0) α =
-              starts_carry P.setting field state inv.sound τ module_τ starts in
+          starts_carry P.setting field state inv.sound τ module_τ starts in
           carry P.setting field state.entries inv.sound.entries τ reduction (λ y. 0) t.0 t.1
 
       label : (h : Syzygy) → Contains state.syzygies h
@@ -420,8 +463,10 @@ module _ (P : Problem) (field : IsField P.setting.prime) (state : State) (last :
           → (α : Element) × IsLabelled P.setting h.signature [] α
       label h (inl c) = inv.sound.syzygies h c
       label h (inr e) =
-          subst (λ g. (α : Element) × IsLabelled P.setting g.signature [] α) e (carried.0,
-            labelled_from P.setting τ [] carried.0 carried.1)
+          subst (λ g. (α : Element) × IsLabelled P.setting g.signature [] α) e (
+            carried.0,
+            labelled_from P.setting τ [] carried.0 carried.1,
+          )
 
   module _ {f kept : Polynomial} {t : Term Word} {start : Start} {steps : List Step}
       (starts : Starts P.setting state.entries τ f start)
@@ -452,10 +497,17 @@ module _ (P : Problem) (field : IsField P.setting.prime) (state : State) (last :
 
     new_multiple : Multiple P.setting entries' τ t.key
     new_multiple =
-        record { divisor = record { entry = new_entry τ (t ∷ kept) trace;
+        record {
+          divisor = record {
+            entry = new_entry τ (t ∷ kept) trace;
             listed = Contains-push state.entries (new_entry τ (t ∷ kept) trace);
-            left = []; right = []; spells = append-nil (leading P.setting.prime (t ∷ kept))
-            ∙ new_lead }; signed = whole_multiple τ }
+            left = [];
+            right = [];
+            spells = append-nil (leading P.setting.prime (t ∷ kept))
+                ∙ new_lead;
+          };
+          signed = whole_multiple τ;
+        }
 
     -- the new leading word is less than that of each ambiguity at τ
     less_word : {g : Polynomial} {begin : Start} → Starts P.setting state.entries τ g begin
@@ -463,16 +515,16 @@ module _ (P : Problem) (field : IsField P.setting.prime) (state : State) (last :
         → Ambiguity P.setting state.entries τ w → IsWordLess t.key w
     less_word (Starts.at_generator i e) red w amb =
         absurd ((monomial_laws (generator_weight P.setting)).irrefl τ
-          (subst (λ σ. IsLess P.setting σ τ)
-            (unit_divisor amb.high.left amb.high.right amb.high.entry.signature i (amb.signed ∙ e)
-              ∙ sym e) (old_below amb.high.entry amb.high.listed)))
+        (subst (λ σ. IsLess P.setting σ τ)
+        (unit_divisor amb.high.left amb.high.right amb.high.entry.signature i (amb.signed ∙ e)
+        ∙ sym e) (old_below amb.high.entry amb.high.listed)))
     less_word (Starts.at_multiple not_unit b d best regular) red w amb =
         onward (best_at_most w amb b d best)
       where
         gone : (x : Word) → From b x → IsZero P.setting.prime (coefficient (t ∷ kept) x)
         gone = kept_less P.setting field state.entries inv.sound.nonzero (λ σ. IsLess P.setting σ τ)
             red b (multiple_leads_at P.setting field state.entries inv.sound.nonzero
-              (λ σ. IsLess P.setting σ τ) b d) regular.divisor regular.below
+            (λ σ. IsLess P.setting σ τ) b d) regular.divisor regular.below
 
         place : IsWordLess t.key b ⊎ ((t.key ≡ b) ⊎ IsWordLess b t.key) → IsWordLess t.key b
         place (inl l) = l
@@ -532,18 +584,22 @@ module _ (P : Problem) (field : IsField P.setting.prime) (state : State) (last :
         go (inl (u, v)) =
             kept_clear P.setting field state.entries inv.sound.nonzero (λ σ. IsLess P.setting σ τ)
             reduction t.key new_leads.nonzero
-            (record { entry = amb.low.entry;
-                listed = k; left = amb.low.left;
-                right = amb.low.right; spells = amb.low.spells ∙ word })
+            (record {
+              entry = amb.low.entry;
+              listed = k;
+              left = amb.low.left;
+              right = amb.low.right;
+              spells = amb.low.spells ∙ word;
+            })
             (subst (IsLess P.setting (signature_at P.setting entries' w amb.low))
-              (amb.signed ∙ (sym high ∙ (ap₂ (λ a b. times a τ b) u v ∙ whole_multiple τ)))
-              amb.below)
+            (amb.signed ∙ (sym high ∙ (ap₂ (λ a b. times a τ b) u v ∙ whole_multiple τ)))
+            amb.below)
           where
             word : w ≡ t.key
             word = sym amb.high.spells ∙ (ap₂
-                  (λ a b. a ++ (leading P.setting.prime amb.high.entry.polynomial ++ b)) u v
-                  ∙ (append-nil (leading P.setting.prime amb.high.entry.polynomial)
-                    ∙ (ap (λ x. leading P.setting.prime x.polynomial) (sym e) ∙ new_lead)))
+                (λ a b. a ++ (leading P.setting.prime amb.high.entry.polynomial ++ b)) u v
+                ∙ (append-nil (leading P.setting.prime amb.high.entry.polynomial)
+                ∙ (ap (λ x. leading P.setting.prime x.polynomial) (sym e) ∙ new_lead)))
 
     ambiguities_new : (ρ : Monomial) (w : Word) → Ambiguity P.setting entries' ρ w → IsWithin P ρ
         → IsReached P.setting (Some τ) ρ
@@ -562,30 +618,45 @@ module _ (P : Problem) (field : IsField P.setting.prime) (state : State) (last :
         go (inl k) (inl h) =
             ambiguities_step (Outcome.an_entry (t ∷ kept) trace)
             (λ v a. inr (t.key, less_word starts reduction v a, new_multiple)) ρ w (record {
-          high = record { entry = amb.high.entry;
-                listed = h; left = amb.high.left;
-                right = amb.high.right; spells = amb.high.spells };
-          low = record { entry = amb.low.entry;
-                listed = k; left = amb.low.left; right = amb.low.right; spells = amb.low.spells };
-          spans_front = amb.spans_front;
-          spans_back = amb.spans_back;
-          high_begins = amb.high_begins;
-          low_begins = amb.low_begins;
-          below = amb.below;
-          signed = amb.signed;
-        }) within r
+              high = record {
+                entry = amb.high.entry;
+                listed = h;
+                left = amb.high.left;
+                right = amb.high.right;
+                spells = amb.high.spells;
+              };
+              low = record {
+                entry = amb.low.entry;
+                listed = k;
+                left = amb.low.left;
+                right = amb.low.right;
+                spells = amb.low.spells;
+              };
+              spans_front = amb.spans_front;
+              spans_back = amb.spans_back;
+              high_begins = amb.high_begins;
+              low_begins = amb.low_begins;
+              below = amb.below;
+              signed = amb.signed;
+            }) within r
 
     step_entry : Invariant P (state_after state τ (Outcome.an_entry (t ∷ kept) trace)) (Some τ)
     step_entry = record {
       below_last = λ e c. reached e (old_or_new e c);
       within = λ e c. inside e (old_or_new e c);
-      sound = record { nonzero = λ e c. something e (old_or_new e c);
-            entries = λ e c. label e (old_or_new e c); syzygies = inv.sound.syzygies };
+      sound = record {
+        nonzero = λ e c. something e (old_or_new e c);
+        entries = λ e c. label e (old_or_new e c);
+        syzygies = inv.sound.syzygies;
+      };
       clear = λ e c. clean e (old_or_new e c);
       generators =
           generators_step (Outcome.an_entry (t ∷ kept) trace)
-          (λ i e. inl (new_entry τ (t ∷ kept) trace,
-              Contains-push state.entries (new_entry τ (t ∷ kept) trace), e));
+          (λ i e. inl (
+            new_entry τ (t ∷ kept) trace,
+            Contains-push state.entries (new_entry τ (t ∷ kept) trace),
+            e,
+          ));
       ambiguities = ambiguities_new;
     }
       where
@@ -637,9 +708,16 @@ module _ (P : Problem) (field : IsField P.setting.prime) (state : State) (last :
             go : Contains state.entries r.divisor.entry
                 ⊎ (new_entry τ (t ∷ kept) trace ≡ r.divisor.entry) → ⊥
             go (inl k) =
-                inv.clear e c x nz (record { divisor = record { entry = r.divisor.entry;
-                      listed = k; left = r.divisor.left;
-                      right = r.divisor.right; spells = r.divisor.spells }; below = r.below })
+                inv.clear e c x nz (record {
+                  divisor = record {
+                    entry = r.divisor.entry;
+                    listed = k;
+                    left = r.divisor.left;
+                    right = r.divisor.right;
+                    spells = r.divisor.spells;
+                  };
+                  below = r.below;
+                })
             go (inr i) = not_below e.signature x r.divisor i (inr (old_below e c)) r.below
         clean e (inr d) x nz r = go (old_or_new r.divisor.entry r.divisor.listed)
           where
@@ -649,18 +727,22 @@ module _ (P : Problem) (field : IsField P.setting.prime) (state : State) (last :
                 kept_clear P.setting field state.entries inv.sound.nonzero
                 (λ σ. IsLess P.setting σ τ) reduction x
                 (subst (λ y. ¬ IsZero P.setting.prime (coefficient y.polynomial x)) (sym d) nz)
-                (record { entry = r.divisor.entry;
-                    listed = k; left = r.divisor.left;
-                    right = r.divisor.right; spells = r.divisor.spells })
+                (record {
+                  entry = r.divisor.entry;
+                  listed = k;
+                  left = r.divisor.left;
+                  right = r.divisor.right;
+                  spells = r.divisor.spells;
+                })
                 (subst (λ y. IsLess P.setting (signature_at P.setting entries' x r.divisor)
-                    y.signature) (sym d) r.below)
+                y.signature) (sym d) r.below)
             go (inr i) =
                 not_below e.signature x r.divisor i (inl (ap (λ y. y.signature) (sym d))) r.below
 
         carried : (α : Element) × Carries P.setting τ (t ∷ kept) (λ y. 0) α
         carried =
             let b : (α : Element) × Carries P.setting τ f (λ y. 0) α =
-                starts_carry P.setting field state inv.sound τ module_τ starts in
+            starts_carry P.setting field state inv.sound τ module_τ starts in
             carry P.setting field state.entries inv.sound.entries τ reduction (λ y. 0) b.0 b.1
 
         label : (e : Entry) → Contains state.entries e ⊎ (new_entry τ (t ∷ kept) trace ≡ e)
@@ -685,8 +767,11 @@ pub invariant : (P : Problem) → IsField P.setting.prime
 invariant P field SequentialRun.opened = record {
   below_last = λ e c. absurd (nobody e c);
   within = λ e c. absurd (nobody e c);
-  sound = record { nonzero = λ e c. absurd (nobody e c);
-        entries = λ e c. absurd (nobody e c); syzygies = λ h c. absurd (nothing h c) };
+  sound = record {
+    nonzero = λ e c. absurd (nobody e c);
+    entries = λ e c. absurd (nobody e c);
+    syzygies = λ h c. absurd (nothing h c);
+  };
   clear = λ e c. absurd (nobody e c);
   generators = λ i within r. absurd r;
   ambiguities = λ ρ w amb within r. absurd r;
@@ -742,10 +827,12 @@ module _ (P : Problem) (field : IsField P.setting.prime) {n : ℕ} {state : Stat
 
   pub enough_reached : IsBasisBelow P.setting state (IsWithinReached P last)
       × IsSyzygyBasisBelow P.setting state (IsWithinReached P last)
-  enough_reached =
-      (basis_below P.setting field state inv'.sound (IsWithinReached P last) down (λ σ b. b.0.0)
-        closed_reached, syzygies_below P.setting field state inv'.sound (IsWithinReached P last)
-        down (λ σ b. b.0.0) closed_reached)
+  enough_reached = (
+    basis_below P.setting field state inv'.sound (IsWithinReached P last) down (λ σ b. b.0.0)
+        closed_reached,
+    syzygies_below P.setting field state inv'.sound (IsWithinReached P last)
+        down (λ σ b. b.0.0) closed_reached,
+  )
     where
       down : (σ ρ : Monomial) → IsWithinReached P last ρ → IsLess P.setting σ ρ
           → HasGenerator P.setting σ → IsWithinReached P last σ
@@ -781,22 +868,27 @@ module _ (P : Problem) (field : IsField P.setting.prime) {n : ℕ} {state : Stat
 
   pub enough_at_end : ((τ : Monomial) → IsCandidate P state τ → ¬ IsAfter P last τ)
       → IsBasisBelow P.setting state (IsWithin P) × IsSyzygyBasisBelow P.setting state (IsWithin P)
-  enough_at_end none =
-      (basis_below P.setting field state inv'.sound (IsWithin P)
+  enough_at_end none = (
+    basis_below P.setting field state inv'.sound (IsWithin P)
         (λ σ τ b l m. within_down P σ τ b l m) (λ σ b. b.0) (closed_at_end none),
-        syzygies_below P.setting field state inv'.sound (IsWithin P)
-        (λ σ τ b l m. within_down P σ τ b l m) (λ σ b. b.0) (closed_at_end none))
+    syzygies_below P.setting field state inv'.sound (IsWithin P)
+        (λ σ τ b l m. within_down P σ τ b l m) (λ σ b. b.0) (closed_at_end none),
+  )
 
   pub enough_below_next : (τ : Monomial) → IsNext P state last τ
       → IsBasisBelow P.setting state (IsWithinBelow P τ)
       × IsSyzygyBasisBelow P.setting state (IsWithinBelow P τ)
-  enough_below_next τ next =
-      (basis_below P.setting field state inv'.sound (IsWithinBelow P τ) down (λ σ b. b.0.0)
-        (closed_below_next τ next), syzygies_below P.setting field state inv'.sound
-        (IsWithinBelow P τ) down (λ σ b. b.0.0) (closed_below_next τ next))
+  enough_below_next τ next = (
+    basis_below P.setting field state inv'.sound (IsWithinBelow P τ) down (λ σ b. b.0.0)
+        (closed_below_next τ next),
+    syzygies_below P.setting field state inv'.sound
+        (IsWithinBelow P τ) down (λ σ b. b.0.0) (closed_below_next τ next),
+  )
     where
       down : (σ ρ : Monomial) → IsWithinBelow P τ ρ → IsLess P.setting σ ρ
           → HasGenerator P.setting σ → IsWithinBelow P τ σ
-      down σ ρ b l m =
-          (within_down P σ ρ b.0 l m, (monomial_laws (generator_weight P.setting)).trans σ ρ τ l
-            b.1)
+      down σ ρ b l m = (
+        within_down P σ ρ b.0 l m,
+        (monomial_laws (generator_weight P.setting)).trans σ ρ τ l
+            b.1,
+      )

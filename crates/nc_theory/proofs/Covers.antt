@@ -17,7 +17,7 @@ none_listed_further hs τ n g within is before here h c k d = go (nat_order c.0 
     go (inl l) = before h c l d
     go (inr (inl l)) =
         here (subst (λ (x : Syzygy). Divides x.signature τ)
-          (listed_same hs h g c (n, within, sym is) l) d)
+        (listed_same hs h g c (n, within, sym is) l) d)
     go (inr (inr l)) = omega (arith, k, l)
 
 pub none_listed : (hs : List Syzygy) (τ : Monomial) (n : ℕ) → length hs ≤ n → NoneListed hs τ n

@@ -62,9 +62,9 @@ ends a b = go (nat_order (length a) (length b))
             same (inl j) = inl (x, ap (λ z. x ++ z) (sym j) ∙ i)
             same (inr m) =
                 inr (λ t. m (append_cancel_left x y a
-                    (i ∙ (sym t.1 ∙ ap (λ z. z ++ a)
-                        (fronts_same t.0 a x y (t.1 ∙ sym i)
-                        (omega (arith, e, n, ap length t.1, length-append t.0 a)))))))
+                (i ∙ (sym t.1 ∙ ap (λ z. z ++ a)
+                (fronts_same t.0 a x y (t.1 ∙ sym i)
+                (omega (arith, e, n, ap length t.1, length-append t.0 a)))))))
 
     go : (length a < length b) ⊎ ((length a ≡ length b) ⊎ (length b < length a))
         → Decided ((r : Word) × (r ++ a ≡ b))
@@ -100,16 +100,16 @@ less_dec s σ τ = go ((monomial_laws (generator_weight s)).total σ τ)
         inr (λ l. (monomial_laws (generator_weight s)).irrefl τ (subst (λ κ. IsLess s κ τ) e l))
     go (inr (inr m)) =
         inr (λ l. (monomial_laws (generator_weight s)).irrefl τ
-          ((monomial_laws (generator_weight s)).trans τ σ τ m l))
+        ((monomial_laws (generator_weight s)).trans τ σ τ m l))
 
 module _ (s : Setting) (field : IsField s.prime) (state : State) (nonzero : (e : Entry)
-      → Contains state.entries e → ¬ IsZeroPolynomial s e.polynomial) (τ : Monomial) where
+    → Contains state.entries e → ¬ IsZeroPolynomial s e.polynomial) (τ : Monomial) where
   pub regular_dec : (w : Word) → Decided (RegularDivisor s state.entries τ w)
   regular_dec w =
       go (choose s field state.entries nonzero (λ σ. IsLess s σ τ) (λ σ. less_dec s σ τ) w)
     where
       go : ((d : Divisor s state.entries w)
-            × IsChosenDivisor s state.entries (λ σ. IsLess s σ τ) w d)
+          × IsChosenDivisor s state.entries (λ σ. IsLess s σ τ) w d)
           ⊎ ((d : Divisor s state.entries w) → ¬ IsLess s (signature_at s state.entries w d) τ)
           → Decided (RegularDivisor s state.entries τ w)
       go (inl (d, c)) = inl (record { divisor = d; below = c.allowed })
@@ -122,7 +122,7 @@ module _ (s : Setting) (field : IsField s.prime) (state : State) (nonzero : (e :
   BestBelow n w =
       (d : Divisor s state.entries w) × (signature_at s state.entries w d ≡ τ) × (d.listed.0 < n)
       × ((v : Word) (e : Divisor s state.entries v) → signature_at s state.entries v e ≡ τ
-        → e.listed.0 < n → IsWordLess w v ⊎ ((w ≡ v) × (d.listed.0 + 1 ≤ e.listed.0 + 1)))
+      → e.listed.0 < n → IsWordLess w v ⊎ ((w ≡ v) × (d.listed.0 + 1 ≤ e.listed.0 + 1)))
 
   abbrev NoneBelow : ℕ → Type 0
   NoneBelow n =
@@ -139,22 +139,44 @@ module _ (s : Setting) (field : IsField s.prime) (state : State) (nonzero : (e :
     where
       nobody : Entry
       nobody =
-          record { signature = unit_monomial 0;
-            polynomial = []; trace = record { start = Start.a_generator 0; steps = [] } }
+          record {
+            signature = unit_monomial 0;
+            polynomial = [];
+            trace = record { start = Start.a_generator 0; steps = [] };
+          }
 
       found : n < length state.entries
           → Decided (Divides (get_or state.entries n nobody).signature τ) → Decided (At n)
       found l (inl (u, v, e)) =
-          inl (u ++ (leading s.prime (get_or state.entries n nobody).polynomial ++ v),
-            record { entry = get_or state.entries n nobody;
-              listed = (n, l, get_or_default state.entries n (get_or state.entries n nobody) nobody
-                l); left = u; right = v; spells = refl }, e, refl)
+          inl (
+            u ++ (leading s.prime (get_or state.entries n nobody).polynomial ++ v),
+            record {
+              entry = get_or state.entries n nobody;
+              listed = (
+                n,
+                l,
+                get_or_default state.entries n (get_or state.entries n nobody) nobody
+                    l,
+              );
+              left = u;
+              right = v;
+              spells = refl;
+            },
+            e,
+            refl,
+          )
       found l (inr m) =
-          inr (λ t. m (t.1.left, t.1.right,
-              ap (λ x. times t.1.left x.signature t.1.right)
-              (listed_same state.entries (get_or state.entries n nobody) t.1.entry (n, l,
-                  get_or_default state.entries n (get_or state.entries n nobody) nobody l)
-                t.1.listed (sym t.3)) ∙ t.2))
+          inr (λ t. m (
+            t.1.left,
+            t.1.right,
+            ap (λ x. times t.1.left x.signature t.1.right)
+                (listed_same state.entries (get_or state.entries n nobody) t.1.entry (
+                  n,
+                  l,
+                  get_or_default state.entries n (get_or state.entries n nobody) nobody l,
+                )
+                t.1.listed (sym t.3)) ∙ t.2,
+          ))
 
       inside : (n < length state.entries)
           ⊎ ((n ≡ length state.entries) ⊎ (length state.entries < n)) → Decided (At n)
@@ -226,8 +248,15 @@ module _ (s : Setting) (field : IsField s.prime) (state : State) (nonzero : (e :
                   inr (b ∙ one_word w' v d' e i' j (k' ∙ sym g), omega (arith, l, g))
               rest v e j (inr (inr g)) h = absurd (omega arith)
           pick (inr (inr b)) =
-              inl (w', (d', i', omega (arith, k'),
-                  λ v e j h. rest v e j (nat_order e.listed.0 n) h))
+              inl (
+                w',
+                (
+                  d',
+                  i',
+                  omega (arith, k'),
+                  λ v e j h. rest v e j (nat_order e.listed.0 n) h,
+                ),
+              )
             where
               over : (v : Word) (e : Divisor s state.entries v) → IsWordLess w v
                   ⊎ ((w ≡ v) × (d.listed.0 + 1 ≤ e.listed.0 + 1)) → IsWordLess w' v
@@ -244,7 +273,7 @@ module _ (s : Setting) (field : IsField s.prime) (state : State) (nonzero : (e :
               rest v e j (inr (inr g)) h = absurd (omega arith)
 
   pub best_exists : ((w : Word) × (d : Divisor s state.entries w)
-        × IsBestMultiple s state.entries τ w d) ⊎ ((w : Word) → ¬ Multiple s state.entries τ w)
+      × IsBestMultiple s state.entries τ w d) ⊎ ((w : Word) → ¬ Multiple s state.entries τ w)
   best_exists = go (best_below (length state.entries))
     where
       go : ((w : Word) × BestBelow (length state.entries) w) ⊎ NoneBelow (length state.entries)
@@ -277,7 +306,7 @@ around l y Good good = go (least At at_dec (suc (length y)))
                 back : (t : At k) → l ++ t.1 ≡ b
                 back t =
                     append_cancel_left a (l ++ t.1) b (ap (λ z. z ++ (l ++ t.1)) (sym (front t))
-                      ∙ (t.2 ∙ sym e))
+                    ∙ (t.2 ∙ sym e))
 
                 rest : Decided ((r : Word) × (l ++ r ≡ b)) → Decided (At k)
                 rest (inr m) = inr (λ t. m (t.1, back t))
@@ -287,7 +316,7 @@ around l y Good good = go (least At at_dec (suc (length y)))
                     last (inl g) = inl (a, r, ap (λ z. a ++ z) i ∙ e, g, n)
                     last (inr m) =
                         inr (λ t. m (subst₂ Good (front t)
-                            (append_cancel_left l t.1 r (back t ∙ sym i)) t.3))
+                        (append_cancel_left l t.1 r (back t ∙ sym i)) t.3))
 
         bounds : (k < length y) ⊎ ((k ≡ length y) ⊎ (length y < k)) → Decided (At k)
         bounds (inl h) = inside (omega arith)
@@ -301,7 +330,7 @@ around l y Good good = go (least At at_dec (suc (length y)))
     go (inl (k, h, (m, v, e, g, n), f)) = inl (m, v, e, g)
     go (inr none) =
         inr (λ t. none (length t.0) (omega (arith, ap length t.2, length-append t.0 (l ++ t.1)))
-          (t.0, t.1, t.2, t.3, refl))
+        (t.0, t.1, t.2, t.3, refl))
 
 module _ (s : Setting) (state : State) (τ : Monomial) where
   abbrev side1 : Entry → Entry → Word → Monomial
@@ -328,22 +357,38 @@ module _ (s : Setting) (state : State) (τ : Monomial) where
 
       go : Decided (Divides i.signature τ) → Decided (First i j)
       go (inr n) =
-          inr (λ t. n (t.2.0 ++ [], t.0 ++ (leading s.prime j.polynomial ++ t.2.1),
-              sym (apart t.0 t.2.0 t.2.1) ∙ t.2.2))
+          inr (λ t. n (
+            t.2.0 ++ [],
+            t.0 ++ (leading s.prime j.polynomial ++ t.2.1),
+            sym (apart t.0 t.2.0 t.2.1) ∙ t.2.2,
+          ))
       go (inl (u, y, e)) =
           rest (around (leading s.prime j.polynomial) y
-            (λ m v. IsLess s (side2 i j m) (side1 i j m))
-            (λ m v. less_dec s (side2 i j m) (side1 i j m)))
+          (λ m v. IsLess s (side2 i j m) (side1 i j m))
+          (λ m v. less_dec s (side2 i j m) (side1 i j m)))
         where
           rest : Decided ((m : Word) × (v : Word) × (m ++ (leading s.prime j.polynomial ++ v) ≡ y)
-                × IsLess s (side2 i j m) (side1 i j m)) → Decided (First i j)
+              × IsLess s (side2 i j m) (side1 i j m)) → Decided (First i j)
           rest (inl (m, v, f, l)) =
-              inl (m, l, (u, v, apart m u v ∙ (ap₂ (λ a b. times a i.signature b) (append-nil u) f
-                    ∙ e)))
+              inl (
+                m,
+                l,
+                (
+                  u,
+                  v,
+                  apart m u v ∙ (ap₂ (λ a b. times a i.signature b) (append-nil u) f
+                      ∙ e),
+                ),
+              )
           rest (inr none) =
-              inr (λ t. none (t.0, t.2.1, append_cancel_left i.signature.right
-                  (t.0 ++ (leading s.prime j.polynomial ++ t.2.1)) y
-                  (ap (λ ρ. ρ.right) (sym (apart t.0 t.2.0 t.2.1) ∙ (t.2.2 ∙ sym e))), t.1))
+              inr (λ t. none (
+                t.0,
+                t.2.1,
+                append_cancel_left i.signature.right
+                    (t.0 ++ (leading s.prime j.polynomial ++ t.2.1)) y
+                    (ap (λ ρ. ρ.right) (sym (apart t.0 t.2.0 t.2.1) ∙ (t.2.2 ∙ sym e))),
+                t.1,
+              ))
 
   second_dec : (i j : Entry) → Decided (Second i j)
   second_dec i j = go (divides_dec j.signature τ)
@@ -354,32 +399,40 @@ module _ (s : Setting) (state : State) (τ : Monomial) where
 
       -- the place of the leading word in the left part, with the word after it
       place : (x : Word) → Decided ((u : Word) × (m : Word)
-            × (u ++ (leading s.prime i.polynomial ++ m) ≡ x) × IsLess s (side1 i j m) (side2 i j m))
+          × (u ++ (leading s.prime i.polynomial ++ m) ≡ x) × IsLess s (side1 i j m) (side2 i j m))
       place x =
           around (leading s.prime i.polynomial) x (λ u m. IsLess s (side1 i j m) (side2 i j m))
           (λ u m. less_dec s (side1 i j m) (side2 i j m))
 
       go : Decided (Divides j.signature τ) → Decided (Second i j)
       go (inr n) =
-          inr (λ t. n (t.2.0 ++ (leading s.prime i.polynomial ++ t.0), t.2.1,
-              sym (apart t.0 t.2.0 t.2.1) ∙ t.2.2))
+          inr (λ t. n (
+            t.2.0 ++ (leading s.prime i.polynomial ++ t.0),
+            t.2.1,
+            sym (apart t.0 t.2.0 t.2.1) ∙ t.2.2,
+          ))
       go (inl (x, v, e)) = rest (place x)
         where
           rest : Decided ((u : Word) × (m : Word) × (u ++ (leading s.prime i.polynomial ++ m) ≡ x)
-                × IsLess s (side1 i j m) (side2 i j m)) → Decided (Second i j)
+              × IsLess s (side1 i j m) (side2 i j m)) → Decided (Second i j)
           rest (inl (u, m, f, l)) =
               inl (m, l, (u, v, apart m u v ∙ (ap (λ a. times a j.signature v) f ∙ e)))
           rest (inr none) =
-              inr (λ t. none (t.2.0, t.0, append_cancel_right
-                  (t.2.0 ++ (leading s.prime i.polynomial ++ t.0)) x j.signature.left
-                  (ap (λ ρ. ρ.left) (sym (apart t.0 t.2.0 t.2.1) ∙ (t.2.2 ∙ sym e))), t.1))
+              inr (λ t. none (
+                t.2.0,
+                t.0,
+                append_cancel_right
+                    (t.2.0 ++ (leading s.prime i.polynomial ++ t.0)) x j.signature.left
+                    (ap (λ ρ. ρ.left) (sym (apart t.0 t.2.0 t.2.1) ∙ (t.2.2 ∙ sym e))),
+                t.1,
+              ))
 
   pub covered_dec : Decided (Covered s state τ)
   covered_dec =
       go (any (λ h. Divides h.signature τ) (λ h. divides_dec h.signature τ) state.syzygies)
       (any (λ i. (j : Entry) × Contains state.entries j × (First i j ⊎ Second i j))
-        (λ i. any (λ j. First i j ⊎ Second i j) (λ j. either (first_dec i j) (second_dec i j))
-          state.entries) state.entries)
+      (λ i. any (λ j. First i j ⊎ Second i j) (λ j. either (first_dec i j) (second_dec i j))
+      state.entries) state.entries)
     where
       either : {A B : Type 0} → Decided A → Decided B → Decided (A ⊎ B)
       either (inl a) d = inl (inl a)
@@ -389,17 +442,37 @@ module _ (s : Setting) (state : State) (τ : Monomial) where
       from : (i : Entry) → Contains state.entries i → (j : Entry) → Contains state.entries j
           → First i j ⊎ Second i j → Covered s state τ
       from i c j d (inl (m, l, q)) =
-          record { by = side1 i j m; is_syzygy = inr
-            (record { first = i; first_listed = c;
-                second = j; second_listed = d; m = m; greater = inl (l, refl) }); divides = q }
+          record {
+            by = side1 i j m;
+            is_syzygy = inr
+                (record {
+                  first = i;
+                  first_listed = c;
+                  second = j;
+                  second_listed = d;
+                  m = m;
+                  greater = inl (l, refl);
+                });
+            divides = q;
+          }
       from i c j d (inr (m, l, q)) =
-          record { by = side2 i j m; is_syzygy = inr
-            (record { first = i; first_listed = c;
-                second = j; second_listed = d; m = m; greater = inr (l, refl) }); divides = q }
+          record {
+            by = side2 i j m;
+            is_syzygy = inr
+                (record {
+                  first = i;
+                  first_listed = c;
+                  second = j;
+                  second_listed = d;
+                  m = m;
+                  greater = inr (l, refl);
+                });
+            divides = q;
+          }
 
       go : Decided ((h : Syzygy) × Contains state.syzygies h × Divides h.signature τ)
           → Decided ((i : Entry) × Contains state.entries i
-            × ((j : Entry) × Contains state.entries j × (First i j ⊎ Second i j)))
+          × ((j : Entry) × Contains state.entries j × (First i j ⊎ Second i j)))
           → Decided (Covered s state τ)
       go (inl (h, c, d)) o =
           inl (record { by = h.signature; is_syzygy = inl (h, c, refl); divides = d })
@@ -412,9 +485,9 @@ module _ (s : Setting) (state : State) (τ : Monomial) where
               m (t.first, t.first_listed, (t.second, t.second_listed, greater t.greater))
             where
               greater : (IsLess s (side2 t.first t.second t.m) (side1 t.first t.second t.m)
-                    × (k.by ≡ side1 t.first t.second t.m))
+                  × (k.by ≡ side1 t.first t.second t.m))
                   ⊎ (IsLess s (side1 t.first t.second t.m) (side2 t.first t.second t.m)
-                    × (k.by ≡ side2 t.first t.second t.m)) → First t.first t.second
+                  × (k.by ≡ side2 t.first t.second t.m)) → First t.first t.second
                   ⊎ Second t.first t.second
               greater (inl (l, e)) = inl (t.m, l, subst (λ ρ. Divides ρ τ) e k.divides)
               greater (inr (l, e)) = inr (t.m, l, subst (λ ρ. Divides ρ τ) e k.divides)

@@ -133,9 +133,13 @@ work_counts i w [] = refl
 work_counts i w (n ∷ ns) = go (nat_eq n.index i) (work_counts i w ns)
   where
     go : (b : Bool) → length (with_work i w ns) ≡ length ns
-        → length (cond b (record { signature = n.signature;
-              index = n.index; generation = n.generation + 1; work = Some w } ∷ ns)
-          (n ∷ with_work i w ns)) ≡ length (n ∷ ns)
+        → length (cond b (record {
+          signature = n.signature;
+          index = n.index;
+          generation = n.generation + 1;
+          work = Some w;
+        } ∷ ns)
+        (n ∷ with_work i w ns)) ≡ length (n ∷ ns)
     go true e = refl
     go false e = omega (arith, e)
 
@@ -181,13 +185,19 @@ module _ (P : NamedProblem) where
   advance_counts : {d d' : Desk} → Advances P.problem d d' → IsCounted d → IsCounted d'
   advance_counts (Advances.at_end f) h = h
   advance_counts (Advances.no_work f none) h = h
-  advance_counts (Advances.drops {d = d} f τ n w ready not) h =
-      (omega (arith, h.0, remove_counts n.index d.window n (found d.window τ n ready.held) refl),
-        h.1)
+  advance_counts (Advances.drops {d = d} f τ n w ready not) h = (
+    omega (arith, h.0, remove_counts n.index d.window n (found d.window τ n ready.held) refl),
+    h.1,
+  )
   advance_counts (Advances.commits {d = d} f τ n w ready handles more) h =
-      advance_counts more (omega (arith, h.0,
-          remove_counts n.index d.window n (found d.window τ n ready.held) refl),
-        omega (arith, h.1))
+      advance_counts more (
+        omega (
+          arith,
+          h.0,
+          remove_counts n.index d.window n (found d.window τ n ready.held) refl,
+        ),
+        omega (arith, h.1),
+      )
 
   submit_counts : (d : Desk) (t : Ticket) (w : Work) (answer : Submitted) (d' : Desk)
       → Submits P d t w answer d' → IsCounted d → IsCounted d'
@@ -207,10 +217,16 @@ module _ (P : NamedProblem) where
   event_counts : {d d' : Desk} {e : Event} → Does P d e d' → IsCounted d → IsCounted d'
   event_counts (Does.claims (Claims.is_finished f)) h = h
   event_counts (Does.claims (Claims.is_none f o)) h = h
-  event_counts {d} (Does.claims (Claims.is_task f i others free few τ first)) h =
-      (omega (arith, h.0, insert_counts (generator_weight P.problem.setting)
+  event_counts {d} (Does.claims (Claims.is_task f i others free few τ first)) h = (
+    omega (
+      arith,
+      h.0,
+      insert_counts (generator_weight P.problem.setting)
           (record { signature = τ; index = i; generation = 2 * d.claimed + 1; work = None })
-          d.window), h.1)
+          d.window,
+    ),
+    h.1,
+  )
   event_counts {d} {d'} (Does.submits {answer = answer} t given w l s) h =
       submit_counts d t w answer d' s h
   event_counts {d} {d'} (Does.abandons {answer = answer} t given a) h =

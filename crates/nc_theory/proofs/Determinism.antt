@@ -40,18 +40,20 @@ fronts_same a b c d e l = go (cut a b c d e (omega (arith, l)))
     go : (r : Word) × (c ≡ a ++ r) × (b ≡ r ++ d) → a ≡ c
     go (r, f, g) =
         sym (f ∙ (ap (λ z. a ++ z) (nil_by_length r
-              (omega (arith, l, ap length f, length-append a r))) ∙ append-nil a))
+        (omega (arith, l, ap length f, length-append a r))) ∙ append-nil a))
 
 module _ (s : Setting) (field : IsField s.prime) (entries : List Entry) where
   -- two divisors of one word under one number and at one place
   pub parts_same : (w : Word) (d e : Divisor s entries w) → d.listed.0 ≡ e.listed.0
       → d.left ≡ e.left → (d.entry ≡ e.entry) × (d.right ≡ e.right)
-  parts_same w d e k l =
-      (entry, append_cancel_left (leading s.prime d.entry.polynomial) d.right e.right
+  parts_same w d e k l = (
+    entry,
+    append_cancel_left (leading s.prime d.entry.polynomial) d.right e.right
         (append_cancel_left d.left (leading s.prime d.entry.polynomial ++ d.right)
-          (leading s.prime d.entry.polynomial ++ e.right)
-          (d.spells ∙ (sym e.spells ∙ ap₂ (λ a x. a ++ (leading s.prime x.polynomial ++ e.right))
-              (sym l) (sym entry)))))
+        (leading s.prime d.entry.polynomial ++ e.right)
+        (d.spells ∙ (sym e.spells ∙ ap₂ (λ a x. a ++ (leading s.prime x.polynomial ++ e.right))
+        (sym l) (sym entry)))),
+  )
     where
       entry : d.entry ≡ e.entry
       entry = listed_same entries d.entry e.entry d.listed e.listed k
@@ -60,7 +62,7 @@ module _ (s : Setting) (field : IsField s.prime) (entries : List Entry) where
       → multiple_at s entries w d ≡ multiple_at s entries w e
   multiple_same w d e k l =
       let t : (d.entry ≡ e.entry) × (d.right ≡ e.right) =
-          parts_same w d e k l in (λ i. polynomial_times (l i) (t.0 i).polynomial (t.1 i))
+      parts_same w d e k l in (λ i. polynomial_times (l i) (t.0 i).polynomial (t.1 i))
 
   pub chosen_same : (set : Monomial → Type 0) (w : Word) (d e : Divisor s entries w)
       → IsChosenDivisor s entries set w d → IsChosenDivisor s entries set w e
@@ -75,10 +77,12 @@ module _ (s : Setting) (field : IsField s.prime) (entries : List Entry) where
       go (inl l) (inl m) = absurd (omega arith)
       go (inl l) (inr m) = absurd (omega (arith, m.0))
       go (inr l) (inl m) = absurd (omega (arith, l.0))
-      go (inr (l, a)) (inr (m, b)) =
-          (omega (arith, l), fronts_same d.left (leading s.prime d.entry.polynomial ++ d.right)
+      go (inr (l, a)) (inr (m, b)) = (
+        omega (arith, l),
+        fronts_same d.left (leading s.prime d.entry.polynomial ++ d.right)
             e.left (leading s.prime e.entry.polynomial ++ e.right) (d.spells ∙ sym e.spells)
-            (omega (arith, a, b)))
+            (omega (arith, a, b)),
+      )
 
   -- a residue is known by its product with a number that is not zero
   residue_same : (l c c' : ℕ) → ¬ IsZero s.prime l → c < s.prime → c' < s.prime
@@ -88,19 +92,19 @@ module _ (s : Setting) (field : IsField s.prime) (entries : List Entry) where
       go : (i : ℕ) × (l * i % s.prime ≡ 1) → c ≡ c'
       go (i, q) =
           sym (mod-eq_of_lt a) ∙ (undone c
-            ∙ (sym (mul-mod_first (c * l) i s.prime)
-              ∙ (ap (λ m. m * i % s.prime) e
-                ∙ (mul-mod_first (c' * l) i s.prime ∙ (sym (undone c') ∙ mod-eq_of_lt b)))))
+          ∙ (sym (mul-mod_first (c * l) i s.prime)
+          ∙ (ap (λ m. m * i % s.prime) e
+          ∙ (mul-mod_first (c' * l) i s.prime ∙ (sym (undone c') ∙ mod-eq_of_lt b)))))
         where
           undone : (k : ℕ) → k % s.prime ≡ k * l * i % s.prime
           undone k =
               sym (ap (λ m. m % s.prime) (omega arith)
-                ∙ (times_mod s.prime k (l * i) 1 (q ∙ sym (mod-eq_of_lt field.above_one))
-                  ∙ ap (λ m. m % s.prime) (mul-one k)))
+              ∙ (times_mod s.prime k (l * i) 1 (q ∙ sym (mod-eq_of_lt field.above_one))
+              ∙ ap (λ m. m % s.prime) (mul-one k)))
 
   -- equal polynomials have one reduction
   pub reduction_unique : (nonzero : (e : Entry) → Contains entries e
-        → ¬ IsZeroPolynomial s e.polynomial) (set : Monomial → Type 0)
+      → ¬ IsZeroPolynomial s e.polynomial) (set : Monomial → Type 0)
       → {f kept : Polynomial} {steps : List Step} → Reduction s entries set f kept steps
       → {f' kept' : Polynomial} {steps' : List Step} → Reduction s entries set f' kept' steps'
       → SamePolynomial s f f' → (kept ≡ kept') × (steps ≡ steps')
@@ -115,19 +119,27 @@ module _ (s : Setting) (field : IsField s.prime) (entries : List Entry) where
       absurd (d.nonzero (e.at w ∙ n w))
   reduction_unique nonzero set (Reduction.subtract {f = f} w d v chosen k small q rest)
       (Reduction.keep {f = f'} w' d' any k' q' rest') e =
-      absurd (any (record { entry = v.entry;
-            listed = v.listed; left = v.left;
-            right = v.right; spells = v.spells ∙ lead_unique same_word IsWordLess word_laws s.prime
-            f' w w' (leads_same s f f' w e d) d' }) chosen.allowed)
+      absurd (any (record {
+        entry = v.entry;
+        listed = v.listed;
+        left = v.left;
+        right = v.right;
+        spells = v.spells ∙ lead_unique same_word IsWordLess word_laws s.prime
+            f' w w' (leads_same s f f' w e d) d';
+      }) chosen.allowed)
   reduction_unique nonzero set (Reduction.keep {f = f} w d any k q rest)
       (Reduction.subtract {f = f'} w' d' v chosen k' small q' rest') e =
-      absurd (any (record { entry = v.entry;
-            listed = v.listed; left = v.left;
-            right = v.right; spells = v.spells
+      absurd (any (record {
+        entry = v.entry;
+        listed = v.listed;
+        left = v.left;
+        right = v.right;
+        spells = v.spells
             ∙ sym (lead_unique same_word IsWordLess word_laws s.prime f' w w'
-              (leads_same s f f' w e d) d') }) chosen.allowed)
+            (leads_same s f f' w e d) d');
+      }) chosen.allowed)
   reduction_unique nonzero set (Reduction.keep {f = f} {kept = kept} {steps = steps} w d any k q
-        rest) (Reduction.keep {f = f'} {kept = kept'} {steps = steps'} w' d' any' k' q' rest') e =
+      rest) (Reduction.keep {f = f'} {kept = kept'} {steps = steps'} w' d' any' k' q' rest') e =
       join (reduction_unique nonzero set rest rest' next)
     where
       ww : w ≡ w'
@@ -139,31 +151,43 @@ module _ (s : Setting) (field : IsField s.prime) (entries : List Entry) where
       next : SamePolynomial s (minus s.prime f 1 (record { coefficient = k; key = w } ∷ []))
           (minus s.prime f' 1 (record { coefficient = k'; key = w' } ∷ []))
       next = subst₂ (λ c x. SamePolynomial s
-            (minus s.prime f 1 (record { coefficient = k; key = w } ∷ []))
-            (minus s.prime f' 1 (record { coefficient = c; key = x } ∷ []))) kk ww
+          (minus s.prime f 1 (record { coefficient = k; key = w } ∷ []))
+          (minus s.prime f' 1 (record { coefficient = c; key = x } ∷ []))) kk ww
           (same_minus s f f' 1 (record { coefficient = k; key = w } ∷ []) e)
 
       join : (kept ≡ kept') × (steps ≡ steps')
           → (◌≡◌ {A = Polynomial} (record { coefficient = k; key = w } ∷ kept)
-            (record { coefficient = k'; key = w' } ∷ kept')) × (steps ≡ steps')
+          (record { coefficient = k'; key = w' } ∷ kept')) × (steps ≡ steps')
       join (a, b) = (λ i. record { coefficient = kk i; key = ww i } ∷ a i, b)
   reduction_unique nonzero set (Reduction.subtract {f = f} {kept = kept} {steps = steps} w d v
-        chosen k small q rest) (Reduction.subtract {f = f'} {kept = kept'} {steps = steps'} w' d' v'
-        chosen' k' small' q' rest') e = join (reduction_unique nonzero set rest rest' next)
+      chosen k small q rest) (Reduction.subtract {f = f'} {kept = kept'} {steps = steps'} w' d' v'
+      chosen' k' small' q' rest') e = join (reduction_unique nonzero set rest rest' next)
     where
       ww : w ≡ w'
       ww = lead_unique same_word IsWordLess word_laws s.prime f' w w' (leads_same s f f' w e d) d'
 
       -- the other divisor, as one of w
       v'' : Divisor s entries w
-      v'' = record { entry = v'.entry;
-            listed = v'.listed; left = v'.left; right = v'.right; spells = v'.spells ∙ sym ww }
+      v'' = record {
+        entry = v'.entry;
+        listed = v'.listed;
+        left = v'.left;
+        right = v'.right;
+        spells = v'.spells ∙ sym ww;
+      }
 
       place : (v.listed.0 ≡ v'.listed.0) × (v.left ≡ v'.left)
       place = chosen_same set w v v'' chosen
-          (record { allowed = chosen'.allowed;
-              least = λ g a. chosen'.least (record { entry = g.entry;
-                  listed = g.listed; left = g.left; right = g.right; spells = g.spells ∙ ww }) a })
+          (record {
+            allowed = chosen'.allowed;
+            least = λ g a. chosen'.least (record {
+              entry = g.entry;
+              listed = g.listed;
+              left = g.left;
+              right = g.right;
+              spells = g.spells ∙ ww;
+            }) a;
+          })
 
       parts : (v.entry ≡ v'.entry) × (v.right ≡ v'.right)
       parts = parts_same w v v'' place.0 place.1
@@ -172,23 +196,33 @@ module _ (s : Setting) (field : IsField s.prime) (entries : List Entry) where
       kk = residue_same (coefficient v.entry.polynomial (leading s.prime v.entry.polynomial)) k k'
           (lead_leads s.prime v.entry.polynomial (nonzero v.entry v.listed)).nonzero small small'
           (q ∙ (e.at w ∙ (ap (λ x. coefficient f' x % s.prime) ww
-                ∙ (sym q' ∙ ap (λ x. k' * coefficient x.polynomial (leading s.prime x.polynomial)
-                  % s.prime) (sym parts.0)))))
+          ∙ (sym q' ∙ ap (λ x. k' * coefficient x.polynomial (leading s.prime x.polynomial)
+          % s.prime) (sym parts.0)))))
 
       next : SamePolynomial s (minus s.prime f k (multiple_at s entries w v))
           (minus s.prime f' k' (multiple_at s entries w' v'))
       next = subst₂ (λ c g. SamePolynomial s (minus s.prime f k (multiple_at s entries w v))
-            (minus s.prime f' c g)) kk (multiple_same w v v'' place.0 place.1)
+          (minus s.prime f' c g)) kk (multiple_same w v v'' place.0 place.1)
           (same_minus s f f' k (multiple_at s entries w v) e)
 
       join : (kept ≡ kept') × (steps ≡ steps') → (kept ≡ kept')
-          × ◌≡◌ {A = List Step} (record { coefficient = k;
-              left = v.left; number = v.listed.0 + 1; right = v.right } ∷ steps)
+          × ◌≡◌ {A = List Step} (record {
+            coefficient = k;
+            left = v.left;
+            number = v.listed.0 + 1;
+            right = v.right;
+          } ∷ steps)
           (record { coefficient = k'; left = v'.left; number = v'.listed.0 + 1; right = v'.right }
-            ∷ steps')
-      join (a, b) =
-          (a, λ i. record { coefficient = kk i;
-              left = place.1 i; number = place.0 i + 1; right = parts.1 i } ∷ b i)
+          ∷ steps')
+      join (a, b) = (
+        a,
+        λ i. record {
+          coefficient = kk i;
+          left = place.1 i;
+          number = place.0 i + 1;
+          right = parts.1 i;
+        } ∷ b i,
+      )
 
   best_same : (τ : Monomial) (w : Word) (d : Divisor s entries w) (w' : Word)
       (e : Divisor s entries w') → IsBestMultiple s entries τ w d → IsBestMultiple s entries τ w' e
@@ -200,13 +234,18 @@ module _ (s : Setting) (field : IsField s.prime) (entries : List Entry) where
           × (d.left ≡ e.left) × (d.right ≡ e.right) × (d.entry ≡ e.entry)
       all i k =
           let entry : d.entry ≡ e.entry =
-              listed_same entries d.entry e.entry d.listed e.listed k in
-          (i, k, append_cancel_right d.left e.left d.entry.signature.left
-            (ap (λ σ. σ.left) (b.signed ∙ sym b'.signed)
-              ∙ ap (λ x. e.left ++ x.signature.left) (sym entry)),
+          listed_same entries d.entry e.entry d.listed e.listed k in (
+            i,
+            k,
+            append_cancel_right d.left e.left d.entry.signature.left
+                (ap (λ σ. σ.left) (b.signed ∙ sym b'.signed)
+                ∙ ap (λ x. e.left ++ x.signature.left) (sym entry)),
             append_cancel_left d.entry.signature.right d.right e.right
-            (ap (λ σ. σ.right) (b.signed ∙ sym b'.signed) ∙ ap (λ x. x.signature.right ++ e.right)
-              (sym entry)), entry)
+                (ap (λ σ. σ.right) (b.signed ∙ sym b'.signed)
+                ∙ ap (λ x. x.signature.right ++ e.right)
+                (sym entry)),
+            entry,
+          )
 
       go : IsWordLess w w' ⊎ ((w ≡ w') × (d.listed.0 + 1 ≤ e.listed.0 + 1)) → IsWordLess w' w
           ⊎ ((w' ≡ w) × (e.listed.0 + 1 ≤ d.listed.0 + 1)) → (w ≡ w') × (d.listed.0 ≡ e.listed.0)
@@ -220,7 +259,7 @@ module _ (s : Setting) (field : IsField s.prime) (entries : List Entry) where
       → {f' : Polynomial} {a' : Start} → Starts s entries τ f' a' → (f ≡ f') × (a ≡ a')
   starts_unique τ (Starts.at_generator i e) (Starts.at_generator j e') =
       let k : i ≡ j =
-          ap (λ σ. σ.generator) (sym e ∙ e') in (ap (generator s) k, ap Start.a_generator k)
+      ap (λ σ. σ.generator) (sym e ∙ e') in (ap (generator s) k, ap Start.a_generator k)
   starts_unique τ (Starts.at_generator i e) (Starts.at_multiple n w d b r) = absurd (n i e)
   starts_unique τ (Starts.at_multiple n w d b r) (Starts.at_generator i e) = absurd (n i e)
   starts_unique τ (Starts.at_multiple n w d b r) (Starts.at_multiple n' w' d' b' r') =
@@ -229,13 +268,14 @@ module _ (s : Setting) (field : IsField s.prime) (entries : List Entry) where
       go : (w ≡ w') × (d.listed.0 ≡ d'.listed.0) × (d.left ≡ d'.left) × (d.right ≡ d'.right)
           × (d.entry ≡ d'.entry) → (multiple_at s entries w d ≡ multiple_at s entries w' d')
           × (Start.a_multiple d.left (d.listed.0 + 1) d.right ≡ Start.a_multiple d'.left
-            (d'.listed.0 + 1) d'.right)
-      go (i, k, l, r, x) =
-          (λ j. polynomial_times (l j) (x j).polynomial (r j),
-            λ j. Start.a_multiple (l j) (k j + 1) (r j))
+          (d'.listed.0 + 1) d'.right)
+      go (i, k, l, r, x) = (
+        λ j. polynomial_times (l j) (x j).polynomial (r j),
+        λ j. Start.a_multiple (l j) (k j + 1) (r j),
+      )
 
 module _ (s : Setting) (field : IsField s.prime) (state : State) (nonzero : (e : Entry)
-      → Contains state.entries e → ¬ IsZeroPolynomial s e.polynomial) (τ : Monomial) where
+    → Contains state.entries e → ¬ IsZeroPolynomial s e.polynomial) (τ : Monomial) where
   regular_same : (w w' : Word) → w ≡ w' → RegularDivisor s state.entries τ w
       → RegularDivisor s state.entries τ w'
   regular_same w w' e r = subst (RegularDivisor s state.entries τ) e r
@@ -265,26 +305,28 @@ module _ (s : Setting) (field : IsField s.prime) (state : State) (nonzero : (e :
       absurd (not_settled starts u w d b m)
   handles_unique (Handles.is_syzygy n starts red) (Handles.is_syzygy n' starts' red') =
       let t = starts_unique s field state.entries τ starts starts' in
-      λ i. Outcome.a_syzygy (record { start = t.1 i;
-          steps = (reduction_unique s field state.entries nonzero (λ σ. IsLess s σ τ) red red'
-            (record { at = λ y. ap (λ g. coefficient g y % s.prime) t.0 })).1 i })
+      λ i. Outcome.a_syzygy (record {
+        start = t.1 i;
+        steps = (reduction_unique s field state.entries nonzero (λ σ. IsLess s σ τ) red red'
+            (record { at = λ y. ap (λ g. coefficient g y % s.prime) t.0 })).1 i;
+      })
   handles_unique (Handles.is_syzygy n starts red) (Handles.is_entry n' starts' red') =
       let t = starts_unique s field state.entries τ starts starts' in let e =
-          (reduction_unique s field state.entries nonzero (λ σ. IsLess s σ τ) red red'
-            (record { at = λ y. ap (λ g. coefficient g y % s.prime) t.0 })).0 in let none : ⊥ =
-          cc in absurd none
+      (reduction_unique s field state.entries nonzero (λ σ. IsLess s σ τ) red red'
+      (record { at = λ y. ap (λ g. coefficient g y % s.prime) t.0 })).0 in let none : ⊥ =
+      cc in absurd none
   handles_unique (Handles.is_entry n starts red) (Handles.is_covered k) = absurd (n k)
   handles_unique (Handles.is_entry n starts red) (Handles.is_settled n' u w d b m) =
       absurd (not_settled starts u w d b m)
   handles_unique (Handles.is_entry n starts red) (Handles.is_syzygy n' starts' red') =
       let t = starts_unique s field state.entries τ starts starts' in let e =
-          (reduction_unique s field state.entries nonzero (λ σ. IsLess s σ τ) red red'
-            (record { at = λ y. ap (λ g. coefficient g y % s.prime) t.0 })).0 in let none : ⊥ =
-          cc in absurd none
+      (reduction_unique s field state.entries nonzero (λ σ. IsLess s σ τ) red red'
+      (record { at = λ y. ap (λ g. coefficient g y % s.prime) t.0 })).0 in let none : ⊥ =
+      cc in absurd none
   handles_unique (Handles.is_entry n starts red) (Handles.is_entry n' starts' red') =
       let t = starts_unique s field state.entries τ starts starts' in let r =
-          reduction_unique s field state.entries nonzero (λ σ. IsLess s σ τ) red red'
-          (record { at = λ y. ap (λ g. coefficient g y % s.prime) t.0 }) in
+      reduction_unique s field state.entries nonzero (λ σ. IsLess s σ τ) red red'
+      (record { at = λ y. ap (λ g. coefficient g y % s.prime) t.0 }) in
       λ i. Outcome.an_entry (r.0 i) (record { start = t.1 i; steps = r.1 i })
 
 pub next_unique : (P : Problem) (state : State) (last : Option Monomial) (τ τ' : Monomial)
@@ -297,7 +339,7 @@ next_unique P state last τ τ' a b =
     go (inr l) (inl e) = e
     go (inr l) (inr m) =
         absurd ((monomial_laws (generator_weight P.setting)).irrefl τ
-          ((monomial_laws (generator_weight P.setting)).trans τ τ' τ l m))
+        ((monomial_laws (generator_weight P.setting)).trans τ τ' τ l m))
 
 -- a run has one state at each number
 pub run_unique : (P : Problem) → IsField P.setting.prime
@@ -326,17 +368,20 @@ pub one_multiple : (s : Setting) (entries : List Entry) (τ : Monomial) (w v : W
     (d : Divisor s entries w) (e : Divisor s entries v) → signature_at s entries w d ≡ τ
     → signature_at s entries v e ≡ τ → d.listed.0 ≡ e.listed.0 → (w ≡ v) × (d.left ≡ e.left)
     × (d.right ≡ e.right) × (d.entry ≡ e.entry)
-one_multiple s entries τ w v d e i j k =
-    (sym d.spells ∙ (ap₂ (λ a b. a ++ (leading s.prime d.entry.polynomial ++ b)) left right
-        ∙ (ap (λ x. e.left ++ (leading s.prime x.polynomial ++ e.right)) entry ∙ e.spells)), left,
-      right, entry)
+one_multiple s entries τ w v d e i j k = (
+  sym d.spells ∙ (ap₂ (λ a b. a ++ (leading s.prime d.entry.polynomial ++ b)) left right
+      ∙ (ap (λ x. e.left ++ (leading s.prime x.polynomial ++ e.right)) entry ∙ e.spells)),
+  left,
+  right,
+  entry,
+)
   where
     entry : d.entry ≡ e.entry
     entry = listed_same entries d.entry e.entry d.listed e.listed k
 
     left : d.left ≡ e.left
     left = append_cancel_right d.left e.left d.entry.signature.left (ap (λ σ. σ.left) (i ∙ sym j)
-          ∙ ap (λ x. e.left ++ x.signature.left) (sym entry))
+        ∙ ap (λ x. e.left ++ x.signature.left) (sym entry))
 
     right : d.right ≡ e.right
     right = append_cancel_left d.entry.signature.right d.right e.right

@@ -40,7 +40,7 @@ unit_dec τ = go (word_dec τ.left []) (word_dec τ.right [])
     go (inl a) (inr n) = inr (λ t. n (ap (λ ρ. ρ.right) t.1))
 
 module _ (s : Setting) (field : IsField s.prime) (state : State) (nonzero : (e : Entry)
-      → Contains state.entries e → ¬ IsZeroPolynomial s e.polynomial) (τ : Monomial) where
+    → Contains state.entries e → ¬ IsZeroPolynomial s e.polynomial) (τ : Monomial) where
   from_start : ¬ Covered s state τ → {f : Polynomial} {start : Start}
       → Starts s state.entries τ f start → (o : Outcome) × Handles s state τ o
   from_start n {f = f} {start = start} starts =
@@ -51,9 +51,10 @@ module _ (s : Setting) (field : IsField s.prime) (state : State) (nonzero : (e :
           × Handles s state τ o
       go ([], steps, r) =
           (Outcome.a_syzygy (record { start = start; steps = steps }), Handles.is_syzygy n starts r)
-      go (t ∷ kept, steps, r) =
-          (Outcome.an_entry (t ∷ kept) (record { start = start; steps = steps }),
-            Handles.is_entry n starts r)
+      go (t ∷ kept, steps, r) = (
+        Outcome.an_entry (t ∷ kept) (record { start = start; steps = steps }),
+        Handles.is_entry n starts r,
+      )
 
   -- each signature that is a unit or has a multiple has an outcome
   pub handles_exists : ((i : ℕ) × (τ ≡ unit_monomial i))
@@ -70,9 +71,10 @@ module _ (s : Setting) (field : IsField s.prime) (state : State) (nonzero : (e :
         where
           place : Decided (RegularDivisor s state.entries τ w) → (o : Outcome) × Handles s state τ o
           place (inl r) = from_start n (Starts.at_multiple (λ i e. not_unit (i, e)) w d best r)
-          place (inr m) =
-              (Outcome.settled (d.listed.0 + 1),
-                Handles.is_settled n (λ i e. not_unit (i, e)) w d best m)
+          place (inr m) = (
+            Outcome.settled (d.listed.0 + 1),
+            Handles.is_settled n (λ i e. not_unit (i, e)) w d best m,
+          )
       go (inr n) (inr not_unit) (inr none) = absurd (impossible source)
         where
           impossible : ((i : ℕ) × (τ ≡ unit_monomial i))
@@ -87,7 +89,7 @@ at_place : (u w : Word) (q : ℕ) → (Good : Word → Word → Type 0)
 at_place u w q Good good = bounds (nat_order q (length w))
   where
     inside : q ≤ length w → Decided ((x : Word) × (g : Word) × (x ++ (u ++ g) ≡ w) × Good x g
-          × (length x ≡ q))
+        × (length x ≡ q))
     inside l = parts (split q w l)
       where
         parts : (x : Word) × (y : Word) × (x ++ y ≡ w) × (length x ≡ q)
@@ -102,20 +104,20 @@ at_place u w q Good good = bounds (nat_order q (length w))
                 → u ++ t.1 ≡ y
             back t =
                 append_cancel_left x (u ++ t.1) y (ap (λ z. z ++ (u ++ t.1)) (sym (front t))
-                  ∙ (t.2 ∙ sym e))
+                ∙ (t.2 ∙ sym e))
 
             go : Decided ((r : Word) × (u ++ r ≡ y))
                 → Decided ((x : Word) × (g : Word) × (x ++ (u ++ g) ≡ w) × Good x g
-                  × (length x ≡ q))
+                × (length x ≡ q))
             go (inr m) = inr (λ t. m (t.1, back t))
             go (inl (r, i)) = last (good x r)
               where
                 last : Decided (Good x r) → Decided ((x : Word) × (g : Word) × (x ++ (u ++ g) ≡ w)
-                      × Good x g × (length x ≡ q))
+                    × Good x g × (length x ≡ q))
                 last (inl p) = inl (x, r, ap (λ z. x ++ z) i ∙ e, p, n)
                 last (inr m) =
                     inr (λ t. m (subst₂ Good (front t) (append_cancel_left u t.1 r (back t ∙ sym i))
-                        t.3))
+                    t.3))
 
     bounds : (q < length w) ⊎ ((q ≡ length w) ⊎ (length w < q))
         → Decided ((x : Word) × (g : Word) × (x ++ (u ++ g) ≡ w) × Good x g × (length x ≡ q))
@@ -152,13 +154,19 @@ over_end u v q Good good l = parts (split q u l)
         go (inl (r, i)) = last (good x r)
           where
             last : Decided (Good x r) → Decided ((x : Word) × (f : Word) × (x ++ v ≡ u ++ f)
-                  × Good x f × (length x ≡ q))
+                × Good x f × (length x ≡ q))
             last (inl p) =
-                inl (x, r, ap (λ z. x ++ z) (sym i)
-                  ∙ (sym (append_assoc x y r) ∙ ap (λ z. z ++ r) e), p, n)
+                inl (
+                  x,
+                  r,
+                  ap (λ z. x ++ z) (sym i)
+                      ∙ (sym (append_assoc x y r) ∙ ap (λ z. z ++ r) e),
+                  p,
+                  n,
+                )
             last (inr m) =
                 inr (λ t. m (subst₂ Good (front t) (append_cancel_left y t.1 r (back t ∙ sym i))
-                    t.3))
+                t.3))
 
 lt_dec : (m n : ℕ) → Decided (m < n)
 lt_dec m n = go (nat_order m n)
@@ -184,8 +192,11 @@ collect : (s : Setting) (entries : List Entry) (Q : ℕ → Type 0) → ((k : �
     → ((k : ℕ) → Q k → FoundAmbiguity s entries) → ℕ → List (FoundAmbiguity s entries)
 collect s entries Q dec make zero = []
 collect s entries Q dec make (suc n) =
-    elim (dec n) [ inl q ↦ make n q ∷ collect s entries Q dec make n | inr m ↦ collect s entries Q
-      dec make n ]
+    elim (dec n) [
+      | inl q ↦ make n q ∷ collect s entries Q dec make n
+      | inr m ↦ collect s entries Q
+          dec make n
+    ]
 
 in_collect : (s : Setting) (entries : List Entry) (Q : ℕ → Type 0) (dec : (k : ℕ) → Decided (Q k))
     (make : (k : ℕ) → Q k → FoundAmbiguity s entries)
@@ -199,15 +210,22 @@ in_collect s entries Q dec make same (suc n) k l q =
   where
     go : (o : Decided (Q n)) → (k < n) ⊎ ((k ≡ n) ⊎ (n < k))
         → (k < n → (q : Q k) → (x : FoundAmbiguity s entries)
-          × Contains (collect s entries Q dec make n) x × (x.0 ≡ (make k q).0))
+        × Contains (collect s entries Q dec make n) x × (x.0 ≡ (make k q).0))
         → (x : FoundAmbiguity s entries)
-        × Contains (elim o [ inl q ↦ make n q ∷ collect s entries Q dec make n | inr m ↦ collect s
-            entries Q dec make n ]) x × (x.0 ≡ (make k q).0)
+        × Contains (elim o [
+          | inl q ↦ make n q ∷ collect s entries Q dec make n
+          | inr m ↦ collect s
+              entries Q dec make n
+        ]) x × (x.0 ≡ (make k q).0)
     go (inl p) (inl h) f =
         let t : (x : FoundAmbiguity s entries) × Contains (collect s entries Q dec make n) x
-            × (x.0 ≡ (make k q).0) =
-            f h q in (t.0, Contains-append_right (make n p ∷ []) (collect s entries Q dec make n)
-              t.0 t.1, t.2)
+        × (x.0 ≡ (make k q).0) =
+        f h q in (
+          t.0,
+          Contains-append_right (make n p ∷ []) (collect s entries Q dec make n)
+              t.0 t.1,
+          t.2,
+        )
     go (inr m) (inl h) f = f h q
     go (inl p) (inr (inl e)) f = (make n p, (0, omega arith, refl), at k e q)
       where
@@ -253,51 +271,86 @@ module _ (s : Setting) (entries : List Entry) (i : Entry) (c : Contains entries 
   front_within : (q : ℕ) → FrontWithin q → FoundAmbiguity s entries
   front_within q (x, g, e, less, n, l, m) =
       found s entries (times [] i.signature []) a
-      (record { high = record { entry = i;
-            listed = c; left = []; right = []; spells = append-nil a };
-          low = record { entry = j; listed = d; left = x; right = g; spells = e };
-          spans_front = inl refl; spans_back = inl refl;
-          high_begins = omega (arith, n, m);
-          low_begins = omega (arith, n, l); below = less; signed = refl })
+      (record {
+        high = record {
+          entry = i;
+          listed = c;
+          left = [];
+          right = [];
+          spells = append-nil a;
+        };
+        low = record { entry = j; listed = d; left = x; right = g; spells = e };
+        spans_front = inl refl;
+        spans_back = inl refl;
+        high_begins = omega (arith, n, m);
+        low_begins = omega (arith, n, l);
+        below = less;
+        signed = refl;
+      })
 
   front_past : (q : ℕ) → FrontPast q → FoundAmbiguity s entries
   front_past q (x, f, e, less, n, l, m) =
       found s entries (times [] i.signature f) (a ++ f)
-      (record { high = record { entry = i; listed = c; left = []; right = f; spells = refl };
-          low = record { entry = j; listed = d;
-            left = x; right = []; spells = ap (λ z. x ++ z) (append-nil b) ∙ e };
-          spans_front = inl refl; spans_back = inr refl;
-          high_begins = omega (arith, n, m);
-          low_begins = omega (arith, n, l); below = less; signed = refl })
+      (record {
+        high = record { entry = i; listed = c; left = []; right = f; spells = refl };
+        low = record {
+          entry = j;
+          listed = d;
+          left = x;
+          right = [];
+          spells = ap (λ z. x ++ z) (append-nil b) ∙ e;
+        };
+        spans_front = inl refl;
+        spans_back = inr refl;
+        high_begins = omega (arith, n, m);
+        low_begins = omega (arith, n, l);
+        below = less;
+        signed = refl;
+      })
 
   back_within : (q : ℕ) → BackWithin q → FoundAmbiguity s entries
   back_within q (x, f, e, less, n, l, m) =
       found s entries (times x i.signature f) b
-      (record { high = record { entry = i; listed = c; left = x; right = f; spells = e };
-          low = record { entry = j; listed = d; left = []; right = []; spells = append-nil b };
-          spans_front = inr refl; spans_back = inr refl;
-          high_begins = omega (arith, n, l);
-          low_begins = omega (arith, n, m); below = less; signed = refl })
+      (record {
+        high = record { entry = i; listed = c; left = x; right = f; spells = e };
+        low = record { entry = j; listed = d; left = []; right = []; spells = append-nil b };
+        spans_front = inr refl;
+        spans_back = inr refl;
+        high_begins = omega (arith, n, l);
+        low_begins = omega (arith, n, m);
+        below = less;
+        signed = refl;
+      })
 
   back_past : (q : ℕ) → BackPast q → FoundAmbiguity s entries
   back_past q (x, g, e, less, n, l, m) =
       found s entries (times x i.signature []) (b ++ g)
-      (record { high = record { entry = i;
-            listed = c; left = x; right = []; spells = ap (λ z. x ++ z) (append-nil a) ∙ e };
-          low = record { entry = j; listed = d; left = []; right = g; spells = refl };
-          spans_front = inr refl; spans_back = inl refl;
-          high_begins = omega (arith, n, l);
-          low_begins = omega (arith, n, m); below = less; signed = refl })
+      (record {
+        high = record {
+          entry = i;
+          listed = c;
+          left = x;
+          right = [];
+          spells = ap (λ z. x ++ z) (append-nil a) ∙ e;
+        };
+        low = record { entry = j; listed = d; left = []; right = g; spells = refl };
+        spans_front = inr refl;
+        spans_back = inl refl;
+        high_begins = omega (arith, n, l);
+        low_begins = omega (arith, n, m);
+        below = less;
+        signed = refl;
+      })
 
   within_dec : (q : ℕ) → Decided (FrontWithin q)
   within_dec q =
       go (lt_dec q (length a)) (lt_dec 0 (q + length b))
       (at_place b a q (λ x g. IsLess s (times x j.signature g) (times [] i.signature []))
-        (λ x g. less_dec s (times x j.signature g) (times [] i.signature [])))
+      (λ x g. less_dec s (times x j.signature g) (times [] i.signature [])))
     where
       go : Decided (q < length a) → Decided (0 < q + length b)
           → Decided ((x : Word) × (g : Word) × (x ++ (b ++ g) ≡ a)
-            × IsLess s (times x j.signature g) (times [] i.signature []) × (length x ≡ q))
+          × IsLess s (times x j.signature g) (times [] i.signature []) × (length x ≡ q))
           → Decided (FrontWithin q)
       go (inl l) (inl m) (inl (x, g, e, less, n)) = inl (x, g, e, less, n, l, m)
       go (inr l) m t = inr (λ k. l k.5)
@@ -308,7 +361,7 @@ module _ (s : Setting) (entries : List Entry) (i : Entry) (c : Contains entries 
   past_dec q = go (lt_dec q (length a)) (lt_dec 0 (q + length b))
     where
       core : q < length a → Decided ((x : Word) × (f : Word) × (x ++ b ≡ a ++ f)
-            × IsLess s (times x j.signature []) (times [] i.signature f) × (length x ≡ q))
+          × IsLess s (times x j.signature []) (times [] i.signature f) × (length x ≡ q))
       core l =
           over_end a b q (λ x f. IsLess s (times x j.signature []) (times [] i.signature f))
           (λ x f. less_dec s (times x j.signature []) (times [] i.signature f)) (omega arith)
@@ -319,7 +372,7 @@ module _ (s : Setting) (entries : List Entry) (i : Entry) (c : Contains entries 
       go (inl l) (inl m) = last (core l)
         where
           last : Decided ((x : Word) × (f : Word) × (x ++ b ≡ a ++ f)
-                × IsLess s (times x j.signature []) (times [] i.signature f) × (length x ≡ q))
+              × IsLess s (times x j.signature []) (times [] i.signature f) × (length x ≡ q))
               → Decided (FrontPast q)
           last (inl (x, f, e, less, n)) = inl (x, f, e, less, n, l, m)
           last (inr t) = inr (λ k. t (k.0, k.1, k.2, k.3, k.4))
@@ -328,11 +381,11 @@ module _ (s : Setting) (entries : List Entry) (i : Entry) (c : Contains entries 
   back_within_dec q =
       go (lt_dec q (length b)) (lt_dec 0 (q + length a))
       (at_place a b q (λ x f. IsLess s (times [] j.signature []) (times x i.signature f))
-        (λ x f. less_dec s (times [] j.signature []) (times x i.signature f)))
+      (λ x f. less_dec s (times [] j.signature []) (times x i.signature f)))
     where
       go : Decided (q < length b) → Decided (0 < q + length a)
           → Decided ((x : Word) × (f : Word) × (x ++ (a ++ f) ≡ b)
-            × IsLess s (times [] j.signature []) (times x i.signature f) × (length x ≡ q))
+          × IsLess s (times [] j.signature []) (times x i.signature f) × (length x ≡ q))
           → Decided (BackWithin q)
       go (inl l) (inl m) (inl (x, g, e, less, n)) = inl (x, g, e, less, n, l, m)
       go (inr l) m t = inr (λ k. l k.5)
@@ -343,7 +396,7 @@ module _ (s : Setting) (entries : List Entry) (i : Entry) (c : Contains entries 
   back_past_dec q = go (lt_dec q (length b)) (lt_dec 0 (q + length a))
     where
       core : q < length b → Decided ((x : Word) × (g : Word) × (x ++ a ≡ b ++ g)
-            × IsLess s (times [] j.signature g) (times x i.signature []) × (length x ≡ q))
+          × IsLess s (times [] j.signature g) (times x i.signature []) × (length x ≡ q))
       core l =
           over_end b a q (λ x g. IsLess s (times [] j.signature g) (times x i.signature []))
           (λ x g. less_dec s (times [] j.signature g) (times x i.signature [])) (omega arith)
@@ -354,7 +407,7 @@ module _ (s : Setting) (entries : List Entry) (i : Entry) (c : Contains entries 
       go (inl l) (inl m) = last (core l)
         where
           last : Decided ((x : Word) × (g : Word) × (x ++ a ≡ b ++ g)
-                × IsLess s (times [] j.signature g) (times x i.signature []) × (length x ≡ q))
+              × IsLess s (times [] j.signature g) (times x i.signature []) × (length x ≡ q))
               → Decided (BackPast q)
           last (inl (x, f, e, less, n)) = inl (x, f, e, less, n, l, m)
           last (inr t) = inr (λ k. t (k.0, k.1, k.2, k.3, k.4))
@@ -368,23 +421,23 @@ module _ (s : Setting) (entries : List Entry) (i : Entry) (c : Contains entries 
       go (z, r, i, k) =
           fronts_same x v z (r ++ f) (e ∙ (ap (λ t. t ++ f) (sym i) ∙ append_assoc z r f))
           (n ∙ sym k) ∙ sym (fronts_same y v z (r ++ y')
-            (e' ∙ (ap (λ t. t ++ y') (sym i) ∙ append_assoc z r y')) (n' ∙ sym k))
+          (e' ∙ (ap (λ t. t ++ y') (sym i) ∙ append_assoc z r y')) (n' ∙ sym k))
 
   past_same : (q : ℕ) (p r : FrontPast q) → (front_past q p).0 ≡ (front_past q r).0
   unfolding front_past
   past_same q p r =
       ap (λ z. times [] i.signature z)
       (append_cancel_left a p.1 r.1 (sym p.2
-          ∙ (ap (λ z. z ++ b) (own_front p.0 a r.0 b p.1 q p.2 p.4 p.5 r.1 r.2 r.4) ∙ r.2)))
+      ∙ (ap (λ z. z ++ b) (own_front p.0 a r.0 b p.1 q p.2 p.4 p.5 r.1 r.2 r.4) ∙ r.2)))
 
   back_within_same : (q : ℕ) (p r : BackWithin q) → (back_within q p).0 ≡ (back_within q r).0
   unfolding back_within
   back_within_same q p r =
       let x : p.0 ≡ r.0 =
-          fronts_same p.0 (a ++ p.1) r.0 (a ++ r.1) (p.2 ∙ sym r.2) (p.4 ∙ sym r.4) in
+      fronts_same p.0 (a ++ p.1) r.0 (a ++ r.1) (p.2 ∙ sym r.2) (p.4 ∙ sym r.4) in
       ap₂ (λ y z. times y i.signature z) x
       (append_cancel_left a p.1 r.1 (append_cancel_left p.0 (a ++ p.1) (a ++ r.1)
-          (p.2 ∙ (sym r.2 ∙ ap (λ z. z ++ (a ++ r.1)) (sym x)))))
+      (p.2 ∙ (sym r.2 ∙ ap (λ z. z ++ (a ++ r.1)) (sym x)))))
 
   back_past_same : (q : ℕ) (p r : BackPast q) → (back_past q p).0 ≡ (back_past q r).0
   unfolding back_past
@@ -395,8 +448,8 @@ module _ (s : Setting) (entries : List Entry) (i : Entry) (c : Contains entries 
   pair : List (FoundAmbiguity s entries)
   pair = collect s entries FrontWithin within_dec front_within (length a)
       ++ (collect s entries FrontPast past_dec front_past (length a)
-        ++ (collect s entries BackWithin back_within_dec back_within (length b) ++ collect s entries
-          BackPast back_past_dec back_past (length b)))
+      ++ (collect s entries BackWithin back_within_dec back_within (length b) ++ collect s entries
+      BackPast back_past_dec back_past (length b)))
 
   abbrev Has : List (FoundAmbiguity s entries) → Monomial → Type 0
   Has xs ρ = (x : FoundAmbiguity s entries) × Contains xs x × (x.0 ≡ ρ)
@@ -414,71 +467,99 @@ module _ (s : Setting) (entries : List Entry) (i : Entry) (c : Contains entries 
   in_pair u f x g e (inl p) (inl q) h k less =
       has_left (collect s entries FrontWithin within_dec front_within (length a))
       (collect s entries FrontPast past_dec front_past (length a)
-        ++ (collect s entries BackWithin back_within_dec back_within (length b) ++ collect s entries
-          BackPast back_past_dec back_past (length b))) (times u i.signature f) (t.0, t.1,
-        t.2 ∙ ap₂ (λ y z. times y i.signature z) (sym p) (sym q))
+      ++ (collect s entries BackWithin back_within_dec back_within (length b) ++ collect s entries
+      BackPast back_past_dec back_past (length b))) (times u i.signature f) (
+        t.0,
+        t.1,
+        t.2 ∙ ap₂ (λ y z. times y i.signature z) (sym p) (sym q),
+      )
     where
       t : Has (collect s entries FrontWithin within_dec front_within (length a))
           (times [] i.signature [])
       t = in_collect s entries FrontWithin within_dec front_within (λ n y z. refl) (length a)
-          (length x) (omega (arith, k, ap length p)) (x, g,
+          (length x) (omega (arith, k, ap length p)) (
+            x,
+            g,
             sym e ∙ (ap₂ (λ y z. y ++ (a ++ z)) p q ∙ append-nil a),
-            subst₂ (λ y z. IsLess s (times x j.signature g) (times y i.signature z)) p q less, refl,
-            omega (arith, k, ap length p), omega (arith, h, ap length p))
+            subst₂ (λ y z. IsLess s (times x j.signature g) (times y i.signature z)) p q less,
+            refl,
+            omega (arith, k, ap length p),
+            omega (arith, h, ap length p),
+          )
   in_pair u f x g e (inl p) (inr q) h k less =
       has_right (collect s entries FrontWithin within_dec front_within (length a))
       (collect s entries FrontPast past_dec front_past (length a)
-        ++ (collect s entries BackWithin back_within_dec back_within (length b) ++ collect s entries
-          BackPast back_past_dec back_past (length b))) (times u i.signature f)
+      ++ (collect s entries BackWithin back_within_dec back_within (length b) ++ collect s entries
+      BackPast back_past_dec back_past (length b))) (times u i.signature f)
       (has_left (collect s entries FrontPast past_dec front_past (length a))
-        (collect s entries BackWithin back_within_dec back_within (length b) ++ collect s entries
-          BackPast back_past_dec back_past (length b)) (times u i.signature f) (t.0, t.1,
-          t.2 ∙ ap (λ y. times y i.signature f) (sym p)))
+      (collect s entries BackWithin back_within_dec back_within (length b) ++ collect s entries
+      BackPast back_past_dec back_past (length b)) (times u i.signature f) (
+        t.0,
+        t.1,
+        t.2 ∙ ap (λ y. times y i.signature f) (sym p),
+      ))
     where
       t : Has (collect s entries FrontPast past_dec front_past (length a)) (times [] i.signature f)
       t = in_collect s entries FrontPast past_dec front_past past_same (length a) (length x)
-          (omega (arith, k, ap length p)) (x, f, ap (λ z. x ++ z) (sym (append-nil b))
-            ∙ (ap (λ z. x ++ (b ++ z)) (sym q) ∙ (sym e ∙ ap (λ z. z ++ (a ++ f)) p)),
-            subst₂ (λ y z. IsLess s (times x j.signature z) (times y i.signature f)) p q less, refl,
-            omega (arith, k, ap length p), omega (arith, h, ap length p))
+          (omega (arith, k, ap length p)) (
+            x,
+            f,
+            ap (λ z. x ++ z) (sym (append-nil b))
+                ∙ (ap (λ z. x ++ (b ++ z)) (sym q) ∙ (sym e ∙ ap (λ z. z ++ (a ++ f)) p)),
+            subst₂ (λ y z. IsLess s (times x j.signature z) (times y i.signature f)) p q less,
+            refl,
+            omega (arith, k, ap length p),
+            omega (arith, h, ap length p),
+          )
   in_pair u f x g e (inr p) (inr q) h k less =
       has_right (collect s entries FrontWithin within_dec front_within (length a))
       (collect s entries FrontPast past_dec front_past (length a)
-        ++ (collect s entries BackWithin back_within_dec back_within (length b) ++ collect s entries
-          BackPast back_past_dec back_past (length b))) (times u i.signature f)
+      ++ (collect s entries BackWithin back_within_dec back_within (length b) ++ collect s entries
+      BackPast back_past_dec back_past (length b))) (times u i.signature f)
       (has_right (collect s entries FrontPast past_dec front_past (length a))
-        (collect s entries BackWithin back_within_dec back_within (length b) ++ collect s entries
-          BackPast back_past_dec back_past (length b)) (times u i.signature f)
-        (has_left (collect s entries BackWithin back_within_dec back_within (length b))
-          (collect s entries BackPast back_past_dec back_past (length b)) (times u i.signature f)
-          t))
+      (collect s entries BackWithin back_within_dec back_within (length b) ++ collect s entries
+      BackPast back_past_dec back_past (length b)) (times u i.signature f)
+      (has_left (collect s entries BackWithin back_within_dec back_within (length b))
+      (collect s entries BackPast back_past_dec back_past (length b)) (times u i.signature f)
+      t))
     where
       t : Has (collect s entries BackWithin back_within_dec back_within (length b))
           (times u i.signature f)
       t = in_collect s entries BackWithin back_within_dec back_within back_within_same (length b)
-          (length u) (omega (arith, h, ap length p)) (u, f,
+          (length u) (omega (arith, h, ap length p)) (
+            u,
+            f,
             e ∙ (ap₂ (λ y z. y ++ (b ++ z)) p q ∙ append-nil b),
-            subst₂ (λ y z. IsLess s (times y j.signature z) (times u i.signature f)) p q less, refl,
-            omega (arith, h, ap length p), omega (arith, k, ap length p))
+            subst₂ (λ y z. IsLess s (times y j.signature z) (times u i.signature f)) p q less,
+            refl,
+            omega (arith, h, ap length p),
+            omega (arith, k, ap length p),
+          )
   in_pair u f x g e (inr p) (inl q) h k less =
       has_right (collect s entries FrontWithin within_dec front_within (length a))
       (collect s entries FrontPast past_dec front_past (length a)
-        ++ (collect s entries BackWithin back_within_dec back_within (length b) ++ collect s entries
-          BackPast back_past_dec back_past (length b))) (times u i.signature f)
+      ++ (collect s entries BackWithin back_within_dec back_within (length b) ++ collect s entries
+      BackPast back_past_dec back_past (length b))) (times u i.signature f)
       (has_right (collect s entries FrontPast past_dec front_past (length a))
-        (collect s entries BackWithin back_within_dec back_within (length b) ++ collect s entries
-          BackPast back_past_dec back_past (length b)) (times u i.signature f)
-        (has_right (collect s entries BackWithin back_within_dec back_within (length b))
-          (collect s entries BackPast back_past_dec back_past (length b)) (times u i.signature f)
-          (t.0, t.1, t.2 ∙ ap (λ y. times u i.signature y) (sym q))))
+      (collect s entries BackWithin back_within_dec back_within (length b) ++ collect s entries
+      BackPast back_past_dec back_past (length b)) (times u i.signature f)
+      (has_right (collect s entries BackWithin back_within_dec back_within (length b))
+      (collect s entries BackPast back_past_dec back_past (length b)) (times u i.signature f)
+      (t.0, t.1, t.2 ∙ ap (λ y. times u i.signature y) (sym q))))
     where
       t : Has (collect s entries BackPast back_past_dec back_past (length b))
           (times u i.signature [])
       t = in_collect s entries BackPast back_past_dec back_past back_past_same (length b) (length u)
-          (omega (arith, h, ap length p)) (u, g, ap (λ z. u ++ z) (sym (append-nil a))
-            ∙ (ap (λ z. u ++ (a ++ z)) (sym q) ∙ (e ∙ ap (λ z. z ++ (b ++ g)) p)),
-            subst₂ (λ y z. IsLess s (times y j.signature g) (times u i.signature z)) p q less, refl,
-            omega (arith, h, ap length p), omega (arith, k, ap length p))
+          (omega (arith, h, ap length p)) (
+            u,
+            g,
+            ap (λ z. u ++ z) (sym (append-nil a))
+                ∙ (ap (λ z. u ++ (a ++ z)) (sym q) ∙ (e ∙ ap (λ z. z ++ (b ++ g)) p)),
+            subst₂ (λ y z. IsLess s (times y j.signature g) (times u i.signature z)) p q less,
+            refl,
+            omega (arith, h, ap length p),
+            omega (arith, k, ap length p),
+          )
 
 -- ---- all candidates of a state, listed
 
@@ -499,18 +580,21 @@ in_join {X} N F Good k has (suc n) l h = go (nat_order k n) (in_join N F Good k 
         × Contains (F n l ++ join_below N F n (le_of_lt l)) x × Good x
     go (inl g) f =
         let t : (x : X) × Contains (join_below N F n (le_of_lt l)) x × Good x =
-            f g in (t.0, Contains-append_right (F n l) (join_below N F n (le_of_lt l)) t.0 t.1, t.2)
+        f g in (t.0, Contains-append_right (F n l) (join_below N F n (le_of_lt l)) t.0 t.1, t.2)
     go (inr (inl e)) f =
         let t : (x : X) × Contains (F n l) x × Good x =
-            subst (λ m. (l : m < N) → (x : X) × Contains (F m l) x × Good x) e has l in
+        subst (λ m. (l : m < N) → (x : X) × Contains (F m l) x × Good x) e has l in
         (t.0, Contains-append_left (F n l) (join_below N F n (le_of_lt l)) t.0 t.1, t.2)
     go (inr (inr g)) f = absurd (omega arith)
 
 module _ (s : Setting) (entries : List Entry) where
   nobody : Entry
   nobody =
-      record { signature = unit_monomial 0;
-        polynomial = []; trace = record { start = Start.a_generator 0; steps = [] } }
+      record {
+        signature = unit_monomial 0;
+        polynomial = [];
+        trace = record { start = Start.a_generator 0; steps = [] };
+      }
 
   entry_at : ℕ → Entry
   entry_at k = get_or entries k nobody
@@ -522,8 +606,8 @@ module _ (s : Setting) (entries : List Entry) where
   all_pairs : List (FoundAmbiguity s entries)
   all_pairs =
       join_below (length entries) (λ k l. join_below (length entries)
-        (λ m h. pair s entries (entry_at k) (listed_at k l) (entry_at m) (listed_at m h))
-        (length entries) (le_refl (length entries))) (length entries) (le_refl (length entries))
+      (λ m h. pair s entries (entry_at k) (listed_at k l) (entry_at m) (listed_at m h))
+      (length entries) (le_refl (length entries))) (length entries) (le_refl (length entries))
 
   -- an entry is the one that stands at its number
   at_its_number : (e : Entry) (c : Contains entries e) → entry_at c.0 ≡ e
@@ -535,12 +619,12 @@ module _ (s : Setting) (entries : List Entry) where
   unfolding all_pairs
   in_all_pairs ρ w amb =
       in_join (length entries) (λ k l. join_below (length entries)
-        (λ m h. pair s entries (entry_at k) (listed_at k l) (entry_at m) (listed_at m h))
-        (length entries) (le_refl (length entries))) (λ x. x.0 ≡ ρ) amb.high.listed.0
+      (λ m h. pair s entries (entry_at k) (listed_at k l) (entry_at m) (listed_at m h))
+      (length entries) (le_refl (length entries))) (λ x. x.0 ≡ ρ) amb.high.listed.0
       (λ l. in_join (length entries)
-        (λ m h. pair s entries (entry_at amb.high.listed.0) (listed_at amb.high.listed.0 l)
-          (entry_at m) (listed_at m h)) (λ x. x.0 ≡ ρ) amb.low.listed.0 (λ h. here l h)
-        (length entries) (le_refl (length entries)) amb.low.listed.1) (length entries)
+      (λ m h. pair s entries (entry_at amb.high.listed.0) (listed_at amb.high.listed.0 l)
+      (entry_at m) (listed_at m h)) (λ x. x.0 ≡ ρ) amb.low.listed.0 (λ h. here l h)
+      (length entries) (le_refl (length entries)) amb.low.listed.1) (length entries)
       (le_refl (length entries)) amb.high.listed.1
     where
       i : entry_at amb.high.listed.0 ≡ amb.high.entry
@@ -552,28 +636,31 @@ module _ (s : Setting) (entries : List Entry) where
       here : (l : amb.high.listed.0 < length entries) (h : amb.low.listed.0 < length entries)
           → (x : FoundAmbiguity s entries)
           × Contains (pair s entries (entry_at amb.high.listed.0) (listed_at amb.high.listed.0 l)
-            (entry_at amb.low.listed.0) (listed_at amb.low.listed.0 h)) x × (x.0 ≡ ρ)
+          (entry_at amb.low.listed.0) (listed_at amb.low.listed.0 h)) x × (x.0 ≡ ρ)
       here l h =
           let t : (x : FoundAmbiguity s entries)
-              × Contains (pair s entries (entry_at amb.high.listed.0)
-                (listed_at amb.high.listed.0 l) (entry_at amb.low.listed.0)
-                (listed_at amb.low.listed.0 h)) x
-              × (x.0 ≡ times amb.high.left (entry_at amb.high.listed.0).signature amb.high.right) =
-              in_pair s entries (entry_at amb.high.listed.0) (listed_at amb.high.listed.0 l)
-              (entry_at amb.low.listed.0) (listed_at amb.low.listed.0 h) amb.high.left
-              amb.high.right amb.low.left amb.low.right
-              ((ap (λ e. amb.high.left ++ (leading s.prime e.polynomial ++ amb.high.right)) i
-                  ∙ amb.high.spells) ∙ sym (ap (λ e. amb.low.left
-                    ++ (leading s.prime e.polynomial ++ amb.low.right)) j ∙ amb.low.spells))
-              amb.spans_front amb.spans_back
-              (subst (λ e. length amb.high.left < length amb.low.left
-                  + length (leading s.prime e.polynomial)) (sym j) amb.high_begins)
-              (subst (λ e. length amb.low.left < length amb.high.left
-                  + length (leading s.prime e.polynomial)) (sym i) amb.low_begins)
-              (subst₂ (λ e f. IsLess s (times amb.low.left e.signature amb.low.right)
-                  (times amb.high.left f.signature amb.high.right)) (sym j) (sym i) amb.below) in
-          (t.0, t.1, t.2 ∙ (ap (λ e. times amb.high.left e.signature amb.high.right) i
-              ∙ amb.signed))
+          × Contains (pair s entries (entry_at amb.high.listed.0)
+          (listed_at amb.high.listed.0 l) (entry_at amb.low.listed.0)
+          (listed_at amb.low.listed.0 h)) x
+          × (x.0 ≡ times amb.high.left (entry_at amb.high.listed.0).signature amb.high.right) =
+          in_pair s entries (entry_at amb.high.listed.0) (listed_at amb.high.listed.0 l)
+          (entry_at amb.low.listed.0) (listed_at amb.low.listed.0 h) amb.high.left
+          amb.high.right amb.low.left amb.low.right
+          ((ap (λ e. amb.high.left ++ (leading s.prime e.polynomial ++ amb.high.right)) i
+          ∙ amb.high.spells) ∙ sym (ap (λ e. amb.low.left
+          ++ (leading s.prime e.polynomial ++ amb.low.right)) j ∙ amb.low.spells))
+          amb.spans_front amb.spans_back
+          (subst (λ e. length amb.high.left < length amb.low.left
+          + length (leading s.prime e.polynomial)) (sym j) amb.high_begins)
+          (subst (λ e. length amb.low.left < length amb.high.left
+          + length (leading s.prime e.polynomial)) (sym i) amb.low_begins)
+          (subst₂ (λ e f. IsLess s (times amb.low.left e.signature amb.low.right)
+          (times amb.high.left f.signature amb.high.right)) (sym j) (sym i) amb.below) in (
+            t.0,
+            t.1,
+            t.2 ∙ (ap (λ e. times amb.high.left e.signature amb.high.right) i
+                ∙ amb.signed),
+          )
 
   units : ℕ → List (FoundAmbiguity s entries)
   units zero = []
@@ -587,24 +674,30 @@ module _ (s : Setting) (entries : List Entry) where
     where
       go : (i < n + 1) ⊎ ((i ≡ n + 1) ⊎ (n + 1 < i))
           → (i ≤ n → (x : FoundAmbiguity s entries) × Contains (units n) x
-            × (x.0 ≡ unit_monomial i)) → (x : FoundAmbiguity s entries)
+          × (x.0 ≡ unit_monomial i)) → (x : FoundAmbiguity s entries)
           × Contains ((unit_monomial (n + 1), inl (n + 1, refl)) ∷ units n) x
           × (x.0 ≡ unit_monomial i)
       go (inl g) f =
           let t : (x : FoundAmbiguity s entries) × Contains (units n) x × (x.0 ≡ unit_monomial i) =
-              f (omega arith) in (t.0, Contains-append_right
-                ((unit_monomial (n + 1), inl (n + 1, refl)) ∷ []) (units n) t.0 t.1, t.2)
-      go (inr (inl e)) f =
-          ((unit_monomial (n + 1), inl (n + 1, refl)), (0, omega arith, refl),
-            ap unit_monomial (sym e))
+          f (omega arith) in (
+            t.0,
+            Contains-append_right
+                ((unit_monomial (n + 1), inl (n + 1, refl)) ∷ []) (units n) t.0 t.1,
+            t.2,
+          )
+      go (inr (inl e)) f = (
+        (unit_monomial (n + 1), inl (n + 1, refl)),
+        (0, omega arith, refl),
+        ap unit_monomial (sym e),
+      )
       go (inr (inr g)) f = absurd (omega arith)
 
   -- of a list, the least with a property
   pick : (Good : Monomial → Type 0) → ((σ : Monomial) → Decided (Good σ))
       → (xs : List (FoundAmbiguity s entries))
       → ((x : FoundAmbiguity s entries) × Good x.0
-        × ((y : FoundAmbiguity s entries) → Contains xs y → Good y.0 → (y.0 ≡ x.0)
-          ⊎ IsLess s x.0 y.0)) ⊎ ((y : FoundAmbiguity s entries) → Contains xs y → ¬ Good y.0)
+      × ((y : FoundAmbiguity s entries) → Contains xs y → Good y.0 → (y.0 ≡ x.0)
+      ⊎ IsLess s x.0 y.0)) ⊎ ((y : FoundAmbiguity s entries) → Contains xs y → ¬ Good y.0)
   pick Good good [] = inr (λ y c g. omega (arith, c.1))
   pick Good good (z ∷ xs) = go (good z.0) (pick Good good xs)
     where
@@ -619,8 +712,8 @@ module _ (s : Setting) (entries : List Entry) where
           at : Contains (z ∷ []) y ⊎ Contains xs y → (y.0 ≡ x.0) ⊎ IsLess s x.0 y.0
           at (inl k) =
               let e : z ≡ y =
-                  only_one z y k in subst (λ q. (q ≡ x.0) ⊎ IsLess s x.0 q) (ap (λ q. q.0) e)
-                  (first (subst Good (sym (ap (λ q. q.0) e)) g))
+              only_one z y k in subst (λ q. (q ≡ x.0) ⊎ IsLess s x.0 q) (ap (λ q. q.0) e)
+              (first (subst Good (sym (ap (λ q. q.0) e)) g))
           at (inr k) = rest y k g
 
       go : Decided (Good z.0) → ((x : FoundAmbiguity s entries) × Good x.0 × Best x xs)
@@ -654,7 +747,7 @@ module _ (P : Problem) (state : State) (last : Option Monomial) where
     where
       go : (degree_of (generator_weight P.setting) σ < d)
           ⊎ ((degree_of (generator_weight P.setting) σ ≡ d)
-            ⊎ (d < degree_of (generator_weight P.setting) σ))
+          ⊎ (d < degree_of (generator_weight P.setting) σ))
           → Decided (degree_of (generator_weight P.setting) σ ≤ d)
       go (inl l) = inl (le_of_lt l)
       go (inr (inl e)) = inl (omega (arith, e))
@@ -687,34 +780,40 @@ module _ (P : Problem) (state : State) (last : Option Monomial) where
   unfolding all
   in_all σ (within, inl (i, e)) =
       let g : σ.generator ≡ i =
-          ap (λ ρ. ρ.generator) e in let t : (x : FoundAmbiguity P.setting state.entries)
-          × Contains (units P.setting state.entries (length P.setting.generators)) x
-          × (x.0 ≡ unit_monomial i) =
-          in_units P.setting state.entries (length P.setting.generators) i
-          (omega (arith, within.0.0, g)) (omega (arith, within.0.1, g)) in
-      (t.0, Contains-append_right (all_pairs P.setting state.entries)
-        (units P.setting state.entries (length P.setting.generators)) t.0 t.1, t.2 ∙ sym e)
+      ap (λ ρ. ρ.generator) e in let t : (x : FoundAmbiguity P.setting state.entries)
+      × Contains (units P.setting state.entries (length P.setting.generators)) x
+      × (x.0 ≡ unit_monomial i) =
+      in_units P.setting state.entries (length P.setting.generators) i
+      (omega (arith, within.0.0, g)) (omega (arith, within.0.1, g)) in (
+        t.0,
+        Contains-append_right (all_pairs P.setting state.entries)
+            (units P.setting state.entries (length P.setting.generators)) t.0 t.1,
+        t.2 ∙ sym e,
+      )
   in_all σ (within, inr (w, amb)) =
       let t : (x : FoundAmbiguity P.setting state.entries)
-          × Contains (all_pairs P.setting state.entries) x × (x.0 ≡ σ) =
-          in_all_pairs P.setting state.entries σ w amb in
-      (t.0, Contains-append_left (all_pairs P.setting state.entries)
-        (units P.setting state.entries (length P.setting.generators)) t.0 t.1, t.2)
+      × Contains (all_pairs P.setting state.entries) x × (x.0 ≡ σ) =
+      in_all_pairs P.setting state.entries σ w amb in (
+        t.0,
+        Contains-append_left (all_pairs P.setting state.entries)
+            (units P.setting state.entries (length P.setting.generators)) t.0 t.1,
+        t.2,
+      )
 
   -- of the waiting signatures with a property there is a least, or none has it
   pub first_with : (Q : Monomial → Type 0) → ((σ : Monomial) → Decided (Q σ))
       → ((τ : Monomial) × IsWaiting P state last τ × Q τ
-        × ((σ : Monomial) → IsWaiting P state last σ → Q σ → (σ ≡ τ) ⊎ IsLess P.setting τ σ))
+      × ((σ : Monomial) → IsWaiting P state last σ → Q σ → (σ ≡ τ) ⊎ IsLess P.setting τ σ))
       ⊎ ((τ : Monomial) → IsWaiting P state last τ → ¬ Q τ)
   first_with Q dec =
       go (pick P.setting state.entries (λ σ. Good σ × Q σ) (λ σ. pair_dec (good_dec σ) (dec σ)) all)
     where
       go : ((x : FoundAmbiguity P.setting state.entries) × (Good x.0 × Q x.0)
-            × ((y : FoundAmbiguity P.setting state.entries) → Contains all y → Good y.0 × Q y.0
-              → (y.0 ≡ x.0) ⊎ IsLess P.setting x.0 y.0))
+          × ((y : FoundAmbiguity P.setting state.entries) → Contains all y → Good y.0 × Q y.0
+          → (y.0 ≡ x.0) ⊎ IsLess P.setting x.0 y.0))
           ⊎ ((y : FoundAmbiguity P.setting state.entries) → Contains all y → ¬ (Good y.0 × Q y.0))
           → ((τ : Monomial) × IsWaiting P state last τ × Q τ
-            × ((σ : Monomial) → IsWaiting P state last σ → Q σ → (σ ≡ τ) ⊎ IsLess P.setting τ σ))
+          × ((σ : Monomial) → IsWaiting P state last σ → Q σ → (σ ≡ τ) ⊎ IsLess P.setting τ σ))
           ⊎ ((τ : Monomial) → IsWaiting P state last τ → ¬ Q τ)
       go (inl (x, g, best)) =
           inl (x.0, ((g.0.0, x.1), g.0.1), g.1, λ σ c q. at σ c q (in_all σ c.0))
@@ -737,8 +836,8 @@ module _ (P : Problem) (state : State) (last : Option Monomial) where
   next_exists = go (first_with (λ σ. Unit {0}) (λ σ. inl tt))
     where
       go : ((τ : Monomial) × IsWaiting P state last τ × Unit {0}
-            × ((σ : Monomial) → IsWaiting P state last σ → Unit {0} → (σ ≡ τ)
-              ⊎ IsLess P.setting τ σ)) ⊎ ((τ : Monomial) → IsWaiting P state last τ → ¬ Unit {0})
+          × ((σ : Monomial) → IsWaiting P state last σ → Unit {0} → (σ ≡ τ)
+          ⊎ IsLess P.setting τ σ)) ⊎ ((τ : Monomial) → IsWaiting P state last τ → ¬ Unit {0})
           → ((τ : Monomial) × IsNext P state last τ)
           ⊎ ((τ : Monomial) → IsCandidate P state τ → ¬ IsAfter P last τ)
       go (inl (τ, w, q, least)) =
@@ -772,8 +871,8 @@ module _ (P : Problem) (field : IsField P.setting.prime) where
           next (inr none) = inr (n, state, End.complete, IsEnd.is_complete (le_of_lt l) run none)
           next (inl (τ, k)) =
               let t : (o : Outcome) × Handles P.setting state τ o =
-                  handles_exists P.setting field state (invariant P field run).sound.nonzero τ
-                  (source state τ k.candidate) in
+              handles_exists P.setting field state (invariant P field run).sound.nonzero τ
+              (source state τ k.candidate) in
               inl (state_after state τ t.0, Some τ, SequentialRun.handled run τ k t.0 t.1)
 
   -- each problem's run has an end
@@ -802,7 +901,7 @@ module _ (P : Problem) (field : IsField P.setting.prime) where
     where
       go : (n < m) ⊎ ((n ≡ m) ⊎ (m < n))
           → (n < m → (state : State) × (last : Option Monomial) × SequentialRun P n state last
-            × ((τ : Monomial) × IsNext P state last τ)) → (state : State) × (last : Option Monomial)
+          × ((τ : Monomial) × IsNext P state last τ)) → (state : State) × (last : Option Monomial)
           × SequentialRun P n state last × ((τ : Monomial) × IsNext P state last τ)
       go (inl k) f = f k
       go (inr (inl e)) f =
@@ -819,8 +918,8 @@ module _ (P : Problem) (field : IsField P.setting.prime) where
           × ((τ : Monomial) × IsNext P state' last' τ) → ⊥
       go (a, b, r, (τ, k)) =
           let e : (a ≡ state) × (b ≡ last) =
-              run_unique P field r run in let k' : IsNext P state last τ =
-              subst₂ (λ x y. IsNext P x y τ) e.0 e.1 k in none τ k'.candidate k'.left
+          run_unique P field r run in let k' : IsNext P state last τ =
+          subst₂ (λ x y. IsNext P x y τ) e.0 e.1 k in none τ k'.candidate k'.left
 
   -- and only one
   pub end_unique : {n m : ℕ} {state later : State} {end end' : End} → IsEnd P n state end
@@ -840,9 +939,9 @@ module _ (P : Problem) (field : IsField P.setting.prime) where
       go (inl k) = stops run none run' k
       go (inr (inl e)) =
           let t : (state ≡ later) × (last ≡ last') =
-              run_unique P field (subst (λ j. SequentialRun P j state last) e run) run' in
+          run_unique P field (subst (λ j. SequentialRun P j state last) e run) run' in
           let k : IsNext P state last τ =
-              subst₂ (λ x y. IsNext P x y τ) (sym t.0) (sym t.1) next in none τ k.candidate k.left
+          subst₂ (λ x y. IsNext P x y τ) (sym t.0) (sym t.1) next in none τ k.candidate k.left
       go (inr (inr k)) = omega (arith, i)
   end_unique {n} {m} {state} {later} (IsEnd.is_budget {last = last} i run τ next)
       (IsEnd.is_complete {last = last'} l run' none) = absurd (go (nat_order n m))
@@ -851,18 +950,21 @@ module _ (P : Problem) (field : IsField P.setting.prime) where
       go (inr (inr k)) = stops run' none run k
       go (inr (inl e)) =
           let t : (state ≡ later) × (last ≡ last') =
-              run_unique P field (subst (λ j. SequentialRun P j state last) e run) run' in
+          run_unique P field (subst (λ j. SequentialRun P j state last) e run) run' in
           let k : IsNext P later last' τ =
-              subst₂ (λ x y. IsNext P x y τ) t.0 t.1 next in none τ k.candidate k.left
+          subst₂ (λ x y. IsNext P x y τ) t.0 t.1 next in none τ k.candidate k.left
       go (inl k) = omega (arith, i)
   end_unique {n} {m} {state} {later} (IsEnd.is_budget {last = last} i run τ next)
       (IsEnd.is_budget {last = last'} i' run' τ' next') =
       let e : n ≡ m =
-          omega (arith, i, i') in go e (run_unique P field
-            (subst (λ j. SequentialRun P j state last) e run) run')
+      omega (arith, i, i') in go e (run_unique P field
+      (subst (λ j. SequentialRun P j state last) e run) run')
     where
       go : n ≡ m → (state ≡ later) × (last ≡ last') → (n ≡ m) × (state ≡ later)
           × (End.budget τ ≡ End.budget τ')
-      go e (a, b) =
-          (e, a, ap End.budget (next_unique P later last' τ τ'
-              (subst₂ (λ x y. IsNext P x y τ) a b next) next'))
+      go e (a, b) = (
+        e,
+        a,
+        ap End.budget (next_unique P later last' τ τ'
+            (subst₂ (λ x y. IsNext P x y τ) a b next) next'),
+      )

@@ -61,9 +61,9 @@ module _ (P : Problem) where
       is_held τ nn (inr n) = absurd (nn n)
 
       go : ((τ : Monomial) × IsWaiting P d.state d.last τ × (¬ IsHeld d τ)
-            × ((σ : Monomial) → IsWaiting P d.state d.last σ → ¬ IsHeld d σ → (σ ≡ τ)
-              ⊎ IsLess P.setting τ σ)) ⊎ ((τ : Monomial) → IsWaiting P d.state d.last τ
-            → ¬ (¬ IsHeld d τ)) → ((τ : Monomial) × IsFirstUnheld P d τ)
+          × ((σ : Monomial) → IsWaiting P d.state d.last σ → ¬ IsHeld d σ → (σ ≡ τ)
+          ⊎ IsLess P.setting τ σ)) ⊎ ((τ : Monomial) → IsWaiting P d.state d.last τ
+          → ¬ (¬ IsHeld d τ)) → ((τ : Monomial) × IsFirstUnheld P d τ)
           ⊎ ((τ : Monomial) → IsWaiting P d.state d.last τ → IsHeld d τ)
       go (inl (τ, w, n, least)) = inl (τ, record { waits = w; unheld = n; least = least })
       go (inr all) = inr (λ τ w. is_held τ (all τ w) (held_dec d τ))
@@ -74,7 +74,7 @@ module _ (P : Problem) where
     where
       none : ¬ IsFinished P d → (d.free ≡ [])
           ⊎ (((τ : Monomial) → IsWaiting P d.state d.last τ → IsHeld d τ)
-            ⊎ (claim_limit ≤ d.claimed)) → (answer : Claimed) × (d' : Desk) × Claims P d answer d'
+          ⊎ (claim_limit ≤ d.claimed)) → (answer : Claimed) × (d' : Desk) × Claims P d answer d'
       none n o = (Claimed.none_now, d, Claims.is_none n o)
 
       go : Decided (IsFinished P d) → (free : List ℕ) → d.free ≡ free → (d.claimed < claim_limit)
@@ -87,14 +87,24 @@ module _ (P : Problem) where
       go (inr n) (i ∷ others) e (inr (inl m)) first = none n (inr (inr (omega (arith, m))))
       go (inr n) (i ∷ others) e (inr (inr m)) first = none n (inr (inr (omega (arith, m))))
       go (inr n) (i ∷ others) e (inl m) (inr all) = none n (inr (inl all))
-      go (inr n) (i ∷ others) e (inl m) (inl (τ, first)) =
-          (Claimed.a_task τ (record { index = i; generation = 2 * d.claimed + 1 }),
-            record { handled = d.handled; state = d.state;
-              last = d.last; window = insert_node (generator_weight P.setting)
+      go (inr n) (i ∷ others) e (inl m) (inl (τ, first)) = (
+        Claimed.a_task τ (record { index = i; generation = 2 * d.claimed + 1 }),
+        record {
+          handled = d.handled;
+          state = d.state;
+          last = d.last;
+          window = insert_node (generator_weight P.setting)
               (record { signature = τ; index = i; generation = 2 * d.claimed + 1; work = None })
-              d.window; free = others; claimed = d.claimed + 1;
-              committed = d.committed; dropped = d.dropped;
-              abandoned = d.abandoned; alone = d.alone }, Claims.is_task n i others e m τ first)
+              d.window;
+          free = others;
+          claimed = d.claimed + 1;
+          committed = d.committed;
+          dropped = d.dropped;
+          abandoned = d.abandoned;
+          alone = d.alone;
+        },
+        Claims.is_task n i others e m τ first,
+      )
 
 submits_exist : (P : NamedProblem) (d : Desk) (t : Ticket) → IsGiven t → (w : Work)
     → (answer : Submitted) × (d' : Desk) × Submits P d t w answer d'
@@ -140,7 +150,7 @@ module _ (P : Problem) (field : IsField P.setting.prime) where
       → Decided (Handles P.setting state τ o)
   handles_dec {state = state} run τ next o =
       go (handles_exists P.setting field state (invariant P field run).sound.nonzero τ
-        (source P field state τ next.candidate))
+      (source P field state τ next.candidate))
     where
       go : (o' : Outcome) × Handles P.setting state τ o' → Decided (Handles P.setting state τ o)
       go (o', h) = same (outcome_dec o' o)
@@ -149,12 +159,12 @@ module _ (P : Problem) (field : IsField P.setting.prime) where
           same (inl e) = inl (subst (Handles P.setting state τ) e h)
           same (inr n) =
               inr (λ k. n (handles_unique P.setting field state
-                  (invariant P field run).sound.nonzero τ h k))
+              (invariant P field run).sound.nonzero τ h k))
 
   -- an advance from a desk, where one exists from each desk with a shorter window
   advance_on : (d : Desk) → SequentialRun P d.handled d.state d.last
       → ((d' : Desk) → length d'.window < length d.window
-        → SequentialRun P d'.handled d'.state d'.last → (d'' : Desk) × Advances P d' d'')
+      → SequentialRun P d'.handled d'.state d'.last → (d'' : Desk) × Advances P d' d'')
       → (d' : Desk) × Advances P d d'
   advance_on d run shorter = go (finished_dec P d) (next_exists P d.state d.last)
     where
@@ -164,10 +174,12 @@ module _ (P : Problem) (field : IsField P.setting.prime) where
         where
           idle : ((n : Node) (w : Work) → node_of d.window τ ≡ Some n → n.work ≡ Some w → ⊥)
               → (d' : Desk) × Advances P d d'
-          idle none =
-              (d, Advances.no_work f (λ σ n w r. none n w
-                  (ap (node_of d.window) (next_unique P d.state d.last τ σ next r.next) ∙ r.held)
-                  r.work))
+          idle none = (
+            d,
+            Advances.no_work f (λ σ n w r. none n w
+                (ap (node_of d.window) (next_unique P d.state d.last τ σ next r.next) ∙ r.held)
+                r.work),
+          )
 
           node : (x : Option Node) → node_of d.window τ ≡ x → (d' : Desk) × Advances P d d'
           node None e =
@@ -177,8 +189,8 @@ module _ (P : Problem) (field : IsField P.setting.prime) where
               work : (x : Option Work) → n.work ≡ x → (d' : Desk) × Advances P d d'
               work None i =
                   idle (λ m w h j. let both : None ≡ Some w = sym i
-                    ∙ (ap (λ y. y.work) (some_same n m (sym e ∙ h)) ∙ j) in let none : ⊥ = cc in
-                    none)
+                  ∙ (ap (λ y. y.work) (some_same n m (sym e ∙ h)) ∙ j) in let none : ⊥ = cc in
+                  none)
               work (Some w) i = hold (handles_dec run τ next w.outcome)
                 where
                   ready : IsReadyWork P d τ n w
@@ -189,8 +201,11 @@ module _ (P : Problem) (field : IsField P.setting.prime) where
                   hold (inr m) = (after_dropped d n, Advances.drops f τ n w ready m)
                   hold (inl h) =
                       more (shorter (after_committed d τ n w.outcome)
-                        (omega (arith, remove_counts n.index d.window n (found d.window τ n e)
-                            refl)) (SequentialRun.handled run τ next w.outcome h))
+                      (omega (
+                        arith,
+                        remove_counts n.index d.window n (found d.window τ n e)
+                            refl,
+                      )) (SequentialRun.handled run τ next w.outcome h))
                     where
                       more : (d' : Desk) × Advances P (after_committed d τ n w.outcome) d'
                           → (d' : Desk) × Advances P d d'
@@ -239,8 +254,8 @@ module _ (P : NamedProblem) (field : IsField P.problem.setting.prime) where
   plays_from d run [] = (d, Plays.ends)
   plays_from d run (e ∷ events) =
       let first : (d' : Desk) × Does P d e d' =
-          event_exists d run e in let rest : (d' : Desk) × Plays P events first.0 d' =
-          plays_from first.0 (event_runs P first.1 run) events in
+      event_exists d run e in let rest : (d' : Desk) × Plays P events first.0 d' =
+      plays_from first.0 (event_runs P first.1 run) events in
       (rest.0, Plays.goes e first.1 rest.1)
 
   pub plays_exist : (capacity : ℕ) (events : List Event) → (d : Desk)

@@ -56,27 +56,41 @@ small : Setting
 small = record { prime = 2; generators = (term 1 (x ∷ x ∷ []) ∷ []) ∷ [] }
 
 -- x f_1 y, with f_1 = xx
-multiple : evaluation small (record { coefficient = 1;
-        key = record { left = x ∷ []; generator = 1; right = y ∷ [] } } ∷ [])
+multiple : evaluation small (record {
+  coefficient = 1;
+  key = record { left = x ∷ []; generator = 1; right = y ∷ [] };
+} ∷ [])
     ≡ term 1 (x ∷ x ∷ x ∷ y ∷ []) ∷ []
 unfolding small generator
 multiple = refl
 
 square : Entry
 square =
-    record { signature = unit_monomial 1;
+    record {
+      signature = unit_monomial 1;
       polynomial = term 1 (x ∷ x ∷ []) ∷ [];
-      trace = record { start = Start.a_generator 1; steps = [] } }
+      trace = record { start = Start.a_generator 1; steps = [] };
+    }
 
 -- xx overlaps itself in xxx, with signature x [1] 1
 overlap : Ambiguity small (square ∷ []) (record { left = x ∷ []; generator = 1; right = [] })
     (x ∷ x ∷ x ∷ [])
 unfolding small square leading generator
 overlap = record {
-  high = record { entry = square;
-        listed = (0, omega arith, refl); left = x ∷ []; right = []; spells = refl };
-  low = record { entry = square;
-        listed = (0, omega arith, refl); left = []; right = x ∷ []; spells = refl };
+  high = record {
+    entry = square;
+    listed = (0, omega arith, refl);
+    left = x ∷ [];
+    right = [];
+    spells = refl;
+  };
+  low = record {
+    entry = square;
+    listed = (0, omega arith, refl);
+    left = [];
+    right = x ∷ [];
+    spells = refl;
+  };
   spans_front = inr refl;
   spans_back = inl refl;
   high_begins = lit< tt;
@@ -109,18 +123,31 @@ with_constant =
     record { prime = 2; generators = (term 1 (x ∷ x ∷ []) ∷ []) ∷ (term 1 [] ∷ []) ∷ [] }
 
 one : Entry
-one = record { signature = unit_monomial 2;
-      polynomial = term 1 [] ∷ []; trace = record { start = Start.a_generator 2; steps = [] } }
+one = record {
+  signature = unit_monomial 2;
+  polynomial = term 1 [] ∷ [];
+  trace = record { start = Start.a_generator 2; steps = [] };
+}
 
 -- the empty leading word of 1 stands strictly inside xx, with signature x [2] x
 inside : Ambiguity with_constant (square ∷ one ∷ [])
     (record { left = x ∷ []; generator = 2; right = x ∷ [] }) (x ∷ x ∷ [])
 unfolding with_constant square one leading generator
 inside = record {
-  high = record { entry = one; listed = (1, omega arith, refl);
-        left = x ∷ []; right = x ∷ []; spells = refl };
-  low = record { entry = square;
-        listed = (0, omega arith, refl); left = []; right = []; spells = refl };
+  high = record {
+    entry = one;
+    listed = (1, omega arith, refl);
+    left = x ∷ [];
+    right = x ∷ [];
+    spells = refl;
+  };
+  low = record {
+    entry = square;
+    listed = (0, omega arith, refl);
+    left = [];
+    right = [];
+    spells = refl;
+  };
   spans_front = inr refl;
   spans_back = inr refl;
   high_begins = lit< tt;

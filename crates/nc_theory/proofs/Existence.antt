@@ -24,7 +24,7 @@ use Rattle.std.proofs.Math.Nat.{mod-lt}
 use Rattle.std.proofs.lemmas.List.{append_cancel_left, get_or_default}
 
 module _ (s : Setting) (field : IsField s.prime) (entries : List Entry) (nonzero : (e : Entry)
-      → Contains entries e → ¬ IsZeroPolynomial s e.polynomial) (set : Monomial → Type 0)
+    → Contains entries e → ¬ IsZeroPolynomial s e.polynomial) (set : Monomial → Type 0)
     (decide : (σ : Monomial) → Decided (set σ)) where
   -- a divisor of w in the set by entry number k, and one at place q
   abbrev AtNumber : Word → ℕ → Type 0
@@ -40,13 +40,19 @@ module _ (s : Setting) (field : IsField s.prime) (entries : List Entry) (nonzero
     where
       nobody : Entry
       nobody =
-          record { signature = unit_monomial 0;
-            polynomial = []; trace = record { start = Start.a_generator 0; steps = [] } }
+          record {
+            signature = unit_monomial 0;
+            polynomial = [];
+            trace = record { start = Start.a_generator 0; steps = [] };
+          }
 
       too_far : (d : Divisor s entries w) → length d.left ≤ length w
       too_far d =
-          omega (arith, ap length d.spells,
-            length-append d.left (leading s.prime d.entry.polynomial ++ d.right))
+          omega (
+            arith,
+            ap length d.spells,
+            length-append d.left (leading s.prime d.entry.polynomial ++ d.right),
+          )
 
       inside : k < length entries → q ≤ length w → Decided (AtPlace w k q)
       inside l m = parts (split q w m)
@@ -64,25 +70,37 @@ module _ (s : Setting) (field : IsField s.prime) (entries : List Entry) (nonzero
                   (d.spells ∙ sym e) (i ∙ sym n)
 
               ends : Decided ((r : Word) × (leading s.prime (get_or entries k nobody).polynomial
-                      ++ r ≡ b)) → Decided (AtPlace w k q)
+                  ++ r ≡ b)) → Decided (AtPlace w k q)
               ends (inr none) =
-                  inr (λ t. none (t.0.right, append_cancel_left a
-                      (leading s.prime (get_or entries k nobody).polynomial ++ t.0.right) b
-                      (ap₂ (λ x y. x ++ (leading s.prime y.polynomial ++ t.0.right))
+                  inr (λ t. none (
+                    t.0.right,
+                    append_cancel_left a
+                        (leading s.prime (get_or entries k nobody).polynomial ++ t.0.right) b
+                        (ap₂ (λ x y. x ++ (leading s.prime y.polynomial ++ t.0.right))
                         (sym (left_is t.0 t.3)) (listed_same entries (get_or entries k nobody)
-                          t.0.entry listed t.0.listed (sym t.2)) ∙ (t.0.spells ∙ sym e))))
+                        t.0.entry listed t.0.listed (sym t.2)) ∙ (t.0.spells ∙ sym e)),
+                  ))
               ends (inl (r, i)) = tried (decide (times a (get_or entries k nobody).signature r))
                 where
                   d0 : Divisor s entries w
-                  d0 = record { entry = get_or entries k nobody;
-                        listed = (k, l, get_or_default entries k (get_or entries k nobody) nobody
-                          l); left = a; right = r; spells = ap (λ z. a ++ z) i ∙ e }
+                  d0 = record {
+                    entry = get_or entries k nobody;
+                    listed = (
+                      k,
+                      l,
+                      get_or_default entries k (get_or entries k nobody) nobody
+                          l,
+                    );
+                    left = a;
+                    right = r;
+                    spells = ap (λ z. a ++ z) i ∙ e;
+                  }
 
                   other : (d : Divisor s entries w) → d.listed.0 ≡ k → length d.left ≡ q
                       → signature_at s entries w d ≡ times a (get_or entries k nobody).signature r
                   other d x y =
                       let p : (d.entry ≡ get_or entries k nobody) × (d.right ≡ r) =
-                          parts_same s field entries w d d0 x (left_is d y) in
+                      parts_same s field entries w d d0 x (left_is d y) in
                       (λ j. times (left_is d y j) (p.0 j).signature (p.1 j))
 
                   tried : Decided (set (times a (get_or entries k nobody).signature r))
@@ -107,9 +125,12 @@ module _ (s : Setting) (field : IsField s.prime) (entries : List Entry) (nonzero
       go (inl (q, l, (d, a, i, j), m)) = inl (d, a, i)
       go (inr none) =
           inr (λ t. none (length t.0.left)
-            (omega (arith, ap length t.0.spells,
-                length-append t.0.left (leading s.prime t.0.entry.polynomial ++ t.0.right)))
-            (t.0, t.1, t.2, refl))
+          (omega (
+            arith,
+            ap length t.0.spells,
+            length-append t.0.left (leading s.prime t.0.entry.polynomial ++ t.0.right),
+          ))
+          (t.0, t.1, t.2, refl))
 
   pub choose : (w : Word) → ((d : Divisor s entries w) × IsChosenDivisor s entries set w d)
       ⊎ ((d : Divisor s entries w) → ¬ set (signature_at s entries w d))
@@ -121,9 +142,12 @@ module _ (s : Setting) (field : IsField s.prime) (entries : List Entry) (nonzero
           × IsChosenDivisor s entries set w d
       leftmost k t first (inr none) =
           absurd (none (length t.0.left)
-            (omega (arith, ap length t.0.spells,
-                length-append t.0.left (leading s.prime t.0.entry.polynomial ++ t.0.right)))
-            (t.0, t.1, t.2, refl))
+          (omega (
+            arith,
+            ap length t.0.spells,
+            length-append t.0.left (leading s.prime t.0.entry.polynomial ++ t.0.right),
+          ))
+          (t.0, t.1, t.2, refl))
       leftmost k t first (inl (q, l, (d, a, i, j), m)) =
           (d, record { allowed = a; least = λ e b. at e b (nat_order e.listed.0 k) })
         where
@@ -154,11 +178,11 @@ module _ (s : Setting) (field : IsField s.prime) (entries : List Entry) (nonzero
       × (steps : List Step) × Reduction s entries set f kept steps
   reduce_below =
       word_ind (λ w. (f : Polynomial) → ((x : Word) → From w x → IsZero s.prime (coefficient f x))
-        → (kept : Polynomial) × (steps : List Step) × Reduction s entries set f kept steps) each
+      → (kept : Polynomial) × (steps : List Step) × Reduction s entries set f kept steps) each
     where
       each : (w : Word) → ((v : Word) → IsWordLess v w → (f : Polynomial)
-            → ((x : Word) → From v x → IsZero s.prime (coefficient f x)) → (kept : Polynomial)
-            × (steps : List Step) × Reduction s entries set f kept steps) → (f : Polynomial)
+          → ((x : Word) → From v x → IsZero s.prime (coefficient f x)) → (kept : Polynomial)
+          × (steps : List Step) × Reduction s entries set f kept steps) → (f : Polynomial)
           → ((x : Word) → From w x → IsZero s.prime (coefficient f x)) → (kept : Polynomial)
           × (steps : List Step) × Reduction s entries set f kept steps
       each w before f above = go (top same_word IsWordLess word_laws s.prime f)
@@ -169,45 +193,56 @@ module _ (s : Setting) (field : IsField s.prime) (entries : List Entry) (nonzero
               → (kept : Polynomial) × (steps : List Step) × Reduction s entries set f kept steps
           at v d l (inl (e, chosen)) =
               divide (field.inverse (coefficient e.entry.polynomial
-                  (leading s.prime e.entry.polynomial))
-                (lead_leads s.prime e.entry.polynomial (nonzero e.entry e.listed)).nonzero)
+              (leading s.prime e.entry.polynomial))
+              (lead_leads s.prime e.entry.polynomial (nonzero e.entry e.listed)).nonzero)
             where
               divide : (i : ℕ) × (coefficient e.entry.polynomial
-                    (leading s.prime e.entry.polynomial) * i % s.prime ≡ 1) → (kept : Polynomial)
+                  (leading s.prime e.entry.polynomial) * i % s.prime ≡ 1) → (kept : Polynomial)
                   × (steps : List Step) × Reduction s entries set f kept steps
               divide (i, q) =
                   let t : (kept : Polynomial) × (steps : List Step)
-                      × Reduction s entries set (minus s.prime f (coefficient f v * i % s.prime)
-                        (multiple_at s entries v e)) kept steps =
-                      before v l (minus s.prime f (coefficient f v * i % s.prime)
-                        (multiple_at s entries v e)) (take_off s field entries nonzero set f v d
-                        (coefficient f v * i % s.prime) (multiple_at s entries v e)
-                        (multiple_leads_at s field entries nonzero set v e).above
-                        (subtract_whole s field entries nonzero set f v e
-                          (coefficient f v * i % s.prime) whole)) in
-                  (t.0, record { coefficient = coefficient f v * i % s.prime;
-                      left = e.left; number = e.listed.0 + 1; right = e.right } ∷ t.1,
+                  × Reduction s entries set (minus s.prime f (coefficient f v * i % s.prime)
+                  (multiple_at s entries v e)) kept steps =
+                  before v l (minus s.prime f (coefficient f v * i % s.prime)
+                  (multiple_at s entries v e)) (take_off s field entries nonzero set f v d
+                  (coefficient f v * i % s.prime) (multiple_at s entries v e)
+                  (multiple_leads_at s field entries nonzero set v e).above
+                  (subtract_whole s field entries nonzero set f v e
+                  (coefficient f v * i % s.prime) whole)) in (
+                    t.0,
+                    record {
+                      coefficient = coefficient f v * i % s.prime;
+                      left = e.left;
+                      number = e.listed.0 + 1;
+                      right = e.right;
+                    } ∷ t.1,
                     Reduction.subtract v d e chosen (coefficient f v * i % s.prime)
-                    (mod-lt (coefficient f v * i) (omega (arith, field.above_one))) whole t.2)
+                        (mod-lt (coefficient f v * i) (omega (arith, field.above_one))) whole t.2,
+                  )
                 where
                   whole : coefficient f v * i % s.prime * coefficient e.entry.polynomial
                       (leading s.prime e.entry.polynomial) % s.prime ≡ coefficient f v % s.prime
                   whole = mul-mod_first (coefficient f v * i)
                       (coefficient e.entry.polynomial (leading s.prime e.entry.polynomial)) s.prime
                       ∙ sym (divided s.prime (coefficient f v) i
-                        (coefficient e.entry.polynomial (leading s.prime e.entry.polynomial)) q
-                        field.above_one)
+                      (coefficient e.entry.polynomial (leading s.prime e.entry.polynomial)) q
+                      field.above_one)
           at v d l (inr none) =
               let t : (kept : Polynomial) × (steps : List Step)
-                  × Reduction s entries set (minus s.prime f 1
-                    (record { coefficient = coefficient f v % s.prime; key = v } ∷ [])) kept steps =
-                  before v l (minus s.prime f 1 (record { coefficient = coefficient f v % s.prime;
-                        key = v } ∷ [])) (take_off s field entries nonzero set f v d 1
-                    (record { coefficient = coefficient f v % s.prime; key = v } ∷ [])
-                    (single_over s field entries nonzero set (coefficient f v % s.prime) v)
-                    (keep_whole s field entries nonzero set f v (coefficient f v % s.prime) refl))
-                  in (record { coefficient = coefficient f v % s.prime; key = v } ∷ t.0, t.1,
-                    Reduction.keep v d none (coefficient f v % s.prime) refl t.2)
+              × Reduction s entries set (minus s.prime f 1
+              (record { coefficient = coefficient f v % s.prime; key = v } ∷ [])) kept steps =
+              before v l (minus s.prime f 1 (record {
+                coefficient = coefficient f v % s.prime;
+                key = v;
+              } ∷ [])) (take_off s field entries nonzero set f v d 1
+              (record { coefficient = coefficient f v % s.prime; key = v } ∷ [])
+              (single_over s field entries nonzero set (coefficient f v % s.prime) v)
+              (keep_whole s field entries nonzero set f v (coefficient f v % s.prime) refl))
+              in (
+                record { coefficient = coefficient f v % s.prime; key = v } ∷ t.0,
+                t.1,
+                Reduction.keep v d none (coefficient f v % s.prime) refl t.2,
+              )
 
           under : (v : Word) → IsLeadingWord s f v → IsWordLess v w ⊎ ((v ≡ w) ⊎ IsWordLess w v)
               → IsWordLess v w

@@ -17,37 +17,73 @@ use Rattle.std.proofs.Common.{Contains, None, Option, Some, [], ◌+◌, ap, app
 extension_refl : (state : State) → Extension state state
 extension_refl state =
     let e : state.entries ≡ state.entries ++ [] =
-        sym (append-nil state.entries) in let h : state.syzygies ≡ state.syzygies ++ [] =
-        sym (append-nil state.syzygies) in record { es = [];
-          hs = []; is = λ i. record { entries = e i;
-            syzygies = h i; covered = state.covered; settled = state.settled } }
+    sym (append-nil state.entries) in let h : state.syzygies ≡ state.syzygies ++ [] =
+    sym (append-nil state.syzygies) in record {
+      es = [];
+      hs = [];
+      is = λ i. record {
+        entries = e i;
+        syzygies = h i;
+        covered = state.covered;
+        settled = state.settled;
+      };
+    }
 
 extension_after : (state later : State) (τ : Monomial) (o : Outcome) → Extension state later
     → Extension state (state_after later τ o)
 extension_after state later τ Outcome.covered x =
-    record { es = x.es; hs = x.hs;
-      is = λ i. record { entries = (x.is i).entries;
-        syzygies = (x.is i).syzygies; covered = later.covered + 1; settled = later.settled } }
+    record {
+      es = x.es;
+      hs = x.hs;
+      is = λ i. record {
+        entries = (x.is i).entries;
+        syzygies = (x.is i).syzygies;
+        covered = later.covered + 1;
+        settled = later.settled;
+      };
+    }
 extension_after state later τ (Outcome.settled j) x =
-    record { es = x.es; hs = x.hs;
-      is = λ i. record { entries = (x.is i).entries;
-        syzygies = (x.is i).syzygies; covered = later.covered; settled = later.settled + 1 } }
+    record {
+      es = x.es;
+      hs = x.hs;
+      is = λ i. record {
+        entries = (x.is i).entries;
+        syzygies = (x.is i).syzygies;
+        covered = later.covered;
+        settled = later.settled + 1;
+      };
+    }
 extension_after state later τ (Outcome.an_entry f trace) x =
     let e : later.entries ++ (record { signature = τ; polynomial = f; trace = trace } ∷ [])
-        ≡ state.entries ++ (x.es ++ (record { signature = τ; polynomial = f; trace = trace } ∷ []))
-        = ap (λ l. l.entries ++ (record { signature = τ; polynomial = f; trace = trace } ∷ [])) x.is
-        ∙ append_assoc state.entries x.es (record { signature = τ; polynomial = f; trace = trace }
-          ∷ []) in record { es = x.es ++ (record { signature = τ; polynomial = f; trace = trace }
-            ∷ []); hs = x.hs; is = λ i. record { entries = e i;
-            syzygies = (x.is i).syzygies; covered = later.covered; settled = later.settled } }
+    ≡ state.entries ++ (x.es ++ (record { signature = τ; polynomial = f; trace = trace } ∷ []))
+    = ap (λ l. l.entries ++ (record { signature = τ; polynomial = f; trace = trace } ∷ [])) x.is
+    ∙ append_assoc state.entries x.es (record { signature = τ; polynomial = f; trace = trace }
+    ∷ []) in record {
+      es = x.es ++ (record { signature = τ; polynomial = f; trace = trace }
+          ∷ []);
+      hs = x.hs;
+      is = λ i. record {
+        entries = e i;
+        syzygies = (x.is i).syzygies;
+        covered = later.covered;
+        settled = later.settled;
+      };
+    }
 extension_after state later τ (Outcome.a_syzygy trace) x =
     let h : later.syzygies ++ (record { signature = τ; trace = trace } ∷ []) ≡ state.syzygies
-        ++ (x.hs ++ (record { signature = τ; trace = trace } ∷ [])) =
-        ap (λ l. l.syzygies ++ (record { signature = τ; trace = trace } ∷ [])) x.is
-        ∙ append_assoc state.syzygies x.hs (record { signature = τ; trace = trace } ∷ []) in
-    record { es = x.es; hs = x.hs ++ (record { signature = τ; trace = trace } ∷ []);
-      is = λ i. record { entries = (x.is i).entries;
-        syzygies = h i; covered = later.covered; settled = later.settled } }
+    ++ (x.hs ++ (record { signature = τ; trace = trace } ∷ [])) =
+    ap (λ l. l.syzygies ++ (record { signature = τ; trace = trace } ∷ [])) x.is
+    ∙ append_assoc state.syzygies x.hs (record { signature = τ; trace = trace } ∷ []) in
+    record {
+      es = x.es;
+      hs = x.hs ++ (record { signature = τ; trace = trace } ∷ []);
+      is = λ i. record {
+        entries = (x.is i).entries;
+        syzygies = h i;
+        covered = later.covered;
+        settled = later.settled;
+      };
+    }
 
 -- each earlier number has a state, of which the later one is an extension
 earlier : (P : Problem) → {n : ℕ} {later : State} {last : Option Monomial}
@@ -61,16 +97,19 @@ earlier P (SequentialRun.handled {n = n} {state = state} {last = last} run τ ne
   where
     go : (k < suc n) ⊎ ((k ≡ suc n) ⊎ (suc n < k))
         → (k ≤ n → (state' : State) × (before : Option Monomial) × SequentialRun P k state' before
-          × Extension state' state) → (state' : State) × (before : Option Monomial)
+        × Extension state' state) → (state' : State) × (before : Option Monomial)
         × SequentialRun P k state' before × Extension state' (state_after state τ o)
     go (inl m) f =
         let t : (state' : State) × (before : Option Monomial) × SequentialRun P k state' before
-            × Extension state' state =
-            f (omega arith) in (t.0, t.1, t.2, extension_after t.0 state τ o t.3)
-    go (inr (inl e)) f =
-        (state_after state τ o, Some τ,
-          subst (λ m. SequentialRun P m (state_after state τ o) (Some τ)) (sym e)
-          (SequentialRun.handled run τ next o h), extension_refl (state_after state τ o))
+        × Extension state' state =
+        f (omega arith) in (t.0, t.1, t.2, extension_after t.0 state τ o t.3)
+    go (inr (inl e)) f = (
+      state_after state τ o,
+      Some τ,
+      subst (λ m. SequentialRun P m (state_after state τ o) (Some τ)) (sym e)
+          (SequentialRun.handled run τ next o h),
+      extension_refl (state_after state τ o),
+    )
     go (inr (inr m)) f = absurd (omega arith)
 
 pub extends : (P : Problem) → IsField P.setting.prime
@@ -88,13 +127,17 @@ pub stale : (P : Problem) → IsField P.setting.prime
     → {k n : ℕ} {state later : State} {before last : Option Monomial}
     → SequentialRun P k state before → SequentialRun P n later last → k ≤ n
     → (x : Extension state later) × ((τ : Monomial) (o : Outcome) → Handles P.setting state τ o
-      → Handles P.setting later τ o ↔ ((o ≡ Outcome.covered)
-        ⊎ Unaffected P.setting state x.es x.hs τ o))
-stale P field {state = state} {later = later} run run' l =
-    (x, λ τ o h. (λ g. stood P.setting field state alive x.es x.hs later.covered later.settled τ
+    → Handles P.setting later τ o ↔ ((o ≡ Outcome.covered)
+    ⊎ Unaffected P.setting state x.es x.hs τ o))
+stale P field {state = state} {later = later} run run' l = (
+  x,
+  λ τ o h. (
+    λ g. stood P.setting field state alive x.es x.hs later.covered later.settled τ
         nonzero (subst (λ y. Handles P.setting y τ o) x.is g),
-        λ u. subst (λ y. Handles P.setting y τ o) (sym x.is)
-        (stands P.setting field state alive x.es x.hs later.covered later.settled τ h u)))
+    λ u. subst (λ y. Handles P.setting y τ o) (sym x.is)
+        (stands P.setting field state alive x.es x.hs later.covered later.settled τ h u),
+  ),
+)
   where
     x : Extension state later
     x = extends P field run run' l

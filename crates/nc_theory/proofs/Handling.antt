@@ -56,9 +56,9 @@ module _ (a : Alphabet) (is : IsAlphabet a) where
       → HasSmallWords s f
   text_words s f texts =
       words_small s f (All-weaker (λ t. IsTextWord a t.key) (λ t. IsWordIn a t.key)
-        (λ t x. x.letters) f texts) (All-weaker (λ t. IsTextWord a t.key)
-        (λ t. word_weight t.key ≤ 200000) (λ t x. omega (arith, text_word_light a is t.key x)) f
-        texts)
+      (λ t x. x.letters) f texts) (All-weaker (λ t. IsTextWord a t.key)
+      (λ t. word_weight t.key ≤ 200000) (λ t x. omega (arith, text_word_light a is t.key x)) f
+      texts)
 
 generator_at : (s : Setting) (i : ℕ) → 1 ≤ i → get_or s.generators (i - 1) [] ≡ generator s i
 unfolding generator
@@ -98,60 +98,65 @@ module _ (s : Setting) (state : State) (τ : Monomial) (uncovered : ¬ Covered s
     module _ (usable : All (IsUsable s) state.entries) (limit : IsUsableSignature s τ) (e : Entry)
         (read : e ≡ get_or state.entries (b.number - 1) e) (f : Polynomial)
         (of_entry : f ≡ e.polynomial) (u v : Word) (is_left : u ≡ b.left) (is_right : v ≡ b.right)
-        where
-      entry_is : e ≡ best.0.entry
-      entry_is =
-          let place : b.number - 1 ≡ best.0.listed.0 = omega (arith, best.3) in
-          listed_same state.entries e best.0.entry (best.0.listed.0, best.0.listed.1,
-                ap (λ k. get_or state.entries k e) (sym place) ∙ sym read) best.0.listed refl
+      where
+        entry_is : e ≡ best.0.entry
+        entry_is =
+            let place : b.number - 1 ≡ best.0.listed.0 = omega (arith, best.3) in
+            listed_same state.entries e best.0.entry (
+              best.0.listed.0,
+              best.0.listed.1,
+              ap (λ k. get_or state.entries k e) (sym place) ∙ sym read,
+            ) best.0.listed refl
 
-      usable_one : IsUsable s e
-      usable_one =
-          subst (IsUsable s) (sym (entry_is ∙ sym best.0.listed.2))
-          (usable best.0.listed.0 best.0.entry best.0.listed.1)
+        usable_one : IsUsable s e
+        usable_one =
+            subst (IsUsable s) (sym (entry_is ∙ sym best.0.listed.2))
+            (usable best.0.listed.0 best.0.entry best.0.listed.1)
 
-      signed : times u e.signature v ≡ τ
-      signed =
-          ap₂ (λ x y. times x e.signature y) (is_left ∙ sym best.2) (is_right ∙ sym best.4)
-          ∙ (ap (λ (x : Entry). times best.0.left x.signature best.0.right) entry_is
+        signed : times u e.signature v ≡ τ
+        signed =
+            ap₂ (λ x y. times x e.signature y) (is_left ∙ sym best.2) (is_right ∙ sym best.4)
+            ∙ (ap (λ (x : Entry). times best.0.left x.signature best.0.right) entry_is
             ∙ best.1.signed)
 
-      pub multiple_residues : IsNormal s.prime f
-      multiple_residues = subst (IsNormal s.prime) (sym of_entry) usable_one.normal
+        pub multiple_residues : IsNormal s.prime f
+        multiple_residues = subst (IsNormal s.prime) (sym of_entry) usable_one.normal
 
-      pub multiple_few : All (λ x. length u + length x.key + length v ≤ 200000) f
-      multiple_few =
-          subst (λ (g : Polynomial). All (λ x. length u + length x.key + length v ≤ 200000) g)
-          (sym of_entry) (shifted_few s τ limit u v e usable_one signed)
+        pub multiple_few : All (λ x. length u + length x.key + length v ≤ 200000) f
+        multiple_few =
+            subst (λ (g : Polynomial). All (λ x. length u + length x.key + length v ≤ 200000) g)
+            (sym of_entry) (shifted_few s τ limit u v e usable_one signed)
 
-      module _ (g : Polynomial) (same : SameSum same_word s.prime g (polynomial_times u f v)) where
-        at_entry : SameSum same_word s.prime g (polynomial_times u e.polynomial v)
-        at_entry =
-            subst (λ (h : Polynomial). SameSum same_word s.prime g (polynomial_times u h v))
-            of_entry same
+        module _ (g : Polynomial) (same : SameSum same_word s.prime g (polynomial_times u f v))
+          where
+            at_entry : SameSum same_word s.prime g (polynomial_times u e.polynomial v)
+            at_entry =
+                subst (λ (h : Polynomial). SameSum same_word s.prime g (polynomial_times u h v))
+                of_entry same
 
-        pub start_small : HasSmallWords s g
-        start_small x n =
-            shifted_small s τ limit u v e usable_one signed x (λ z. n (at_entry.at x ∙ z))
+            pub start_small : HasSmallWords s g
+            start_small x n =
+                shifted_small s τ limit u v e usable_one signed x (λ z. n (at_entry.at x ∙ z))
 
-        pub multiple_handled : (c : Chosen) (kept : Polynomial) (steps : List Step) (o : Outcome)
-            → IsChoice s state.entries τ w (Some c) → ReductionAt s state.entries τ g kept steps
-            → o ≡ outcome_after (Start.a_multiple b.left b.number b.right) kept steps
-            → Handles s state τ o
-        multiple_handled c kept steps o found r h =
-            let regular : RegularDivisor s state.entries τ b.word =
+            pub multiple_handled : (c : Chosen) (kept : Polynomial) (steps : List Step) (o : Outcome)
+                → IsChoice s state.entries τ w (Some c) → ReductionAt s state.entries τ g kept steps
+                → o ≡ outcome_after (Start.a_multiple b.left b.number b.right) kept steps
+                → Handles s state τ o
+            multiple_handled c kept steps o found r h =
+                let regular : RegularDivisor s state.entries τ b.word =
                 (let k : IsChoice s state.entries τ b.word (Some c) = subst
-                  (λ x. IsChoice s state.entries τ x (Some c)) is_word found in
-                  record { divisor = k.0; below = k.1.allowed }) in
-            handled (multiple_at s state.entries b.word best.0) kept
+                (λ x. IsChoice s state.entries τ x (Some c)) is_word found in
+                record { divisor = k.0; below = k.1.allowed }) in
+                handled (multiple_at s state.entries b.word best.0) kept
                 (Start.a_multiple best.0.left (number_of s state.entries b.word best.0)
-                  best.0.right) steps o (Starts.at_multiple (no_unit other) b.word best.0 best.1
-                  regular)
-            (reduction_same s state.entries (λ σ. IsLess s σ τ) r
-                  (multiple_at s state.entries b.word best.0)
-                  (subst (λ (h : Polynomial). SameSum same_word s.prime g h)
-                    (ap₂ (λ x y. polynomial_times x e.polynomial y) (is_left ∙ sym best.2)
-                      (is_right ∙ sym best.4) ∙ ap (λ (x : Entry). polynomial_times best.0.left
-                        x.polynomial best.0.right) entry_is) at_entry))
-            (h ∙ (λ i. outcome_after (Start.a_multiple (sym best.2 i) (sym best.3 i) (sym best.4 i))
-                    kept steps))
+                best.0.right) steps o (Starts.at_multiple (no_unit other) b.word best.0 best.1
+                regular)
+                (reduction_same s state.entries (λ σ. IsLess s σ τ) r
+                (multiple_at s state.entries b.word best.0)
+                (subst (λ (h : Polynomial). SameSum same_word s.prime g h)
+                (ap₂ (λ x y. polynomial_times x e.polynomial y) (is_left ∙ sym best.2)
+                (is_right ∙ sym best.4) ∙ ap (λ (x : Entry). polynomial_times best.0.left
+                x.polynomial best.0.right) entry_is) at_entry))
+                (h ∙ (λ i. outcome_after (Start.a_multiple (sym best.2 i) (sym best.3 i)
+                (sym best.4 i))
+                kept steps))

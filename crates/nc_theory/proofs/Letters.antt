@@ -46,9 +46,10 @@ module _ (letters : List Letter) where
   around : (u x v w : Word) → u ++ (x ++ v) ≡ w → IsOver letters w → IsOver letters u
       × IsOver letters v
   around u x v w e o =
-      let whole : IsOver letters (u ++ (x ++ v)) = subst (IsOver letters) (sym e) o in
-      (over_front letters u (x ++ v) whole,
-            over_back letters x v (over_back letters u (x ++ v) whole))
+      let whole : IsOver letters (u ++ (x ++ v)) = subst (IsOver letters) (sym e) o in (
+        over_front letters u (x ++ v) whole,
+        over_back letters x v (over_back letters u (x ++ v) whole),
+      )
 
   start_over : (s : Setting) (entries : List Entry) (τ : Monomial) → IsOver letters τ.left
       × IsOver letters τ.right → {f : Polynomial} {start : Start} → Starts s entries τ f start
@@ -63,25 +64,26 @@ module _ (letters : List Letter) where
 
   module _ (s : Setting) (inputs : (i : ℕ) → WordsAre s (IsOver letters) (generator s i))
       (entries : List Entry) (alive : (e : Entry) → Contains entries e
-        → ¬ IsZeroPolynomial s e.polynomial) (over : AreOver s letters entries) where
+      → ¬ IsZeroPolynomial s e.polynomial) (over : AreOver s letters entries) where
     -- each step's multiple has the word that is taken
     pub steps_over : (set : Monomial → Type 0) → {f kept : Polynomial} {steps : List Step}
         → Reduction s entries set f kept steps → WordsAre s (IsOver letters) f
         → AllByRecursion StepOver steps
     steps_over set (Reduction.finished z) o = tt
-    steps_over set (Reduction.subtract {f = f} w l d chosen c small q rest) o =
-        (around d.left (leading s.prime d.entry.polynomial) d.right w d.spells (o w l.nonzero),
-              steps_over set rest (minus_are s (IsOver letters) f c (multiple_at s entries w d) o
-                (divisor_over s letters inputs entries alive over w d (o w l.nonzero))))
+    steps_over set (Reduction.subtract {f = f} w l d chosen c small q rest) o = (
+      around d.left (leading s.prime d.entry.polynomial) d.right w d.spells (o w l.nonzero),
+      steps_over set rest (minus_are s (IsOver letters) f c (multiple_at s entries w d) o
+          (divisor_over s letters inputs entries alive over w d (o w l.nonzero))),
+    )
     steps_over set (Reduction.keep {f = f} w l none c e rest) o =
         steps_over set rest (minus_are s (IsOver letters) f 1
-              (record { coefficient = c; key = w } ∷ []) o
-              (more_are s (IsOver letters) c w [] (o w l.nonzero)
-                (λ y m. absurd (m (zero_number s.prime)))))
+        (record { coefficient = c; key = w } ∷ []) o
+        (more_are s (IsOver letters) c w [] (o w l.nonzero)
+        (λ y m. absurd (m (zero_number s.prime)))))
 
   module _ (s : Setting) (inputs : (i : ℕ) → WordsAre s (IsOver letters) (generator s i))
       (entries : List Entry) (alive : (e : Entry) → Contains entries e
-        → ¬ IsZeroPolynomial s e.polynomial) (over : AreOver s letters entries) (τ : Monomial)
+      → ¬ IsZeroPolynomial s e.polynomial) (over : AreOver s letters entries) (τ : Monomial)
       (o : IsOver letters τ.left × IsOver letters τ.right) (t : Trace) (f : Polynomial)
       (r : Rebuilds s entries τ t f) where
     -- the first entries are entries
@@ -94,8 +96,11 @@ module _ (letters : List Letter) where
 
     first_over : AreOver s letters r.first
     first_over =
-        record { left = λ e c. over.left e (among e c);
-          right = λ e c. over.right e (among e c); words = λ e c. over.words e (among e c) }
+        record {
+          left = λ e c. over.left e (among e c);
+          right = λ e c. over.right e (among e c);
+          words = λ e c. over.words e (among e c);
+        }
 
     rebuilt_over : TraceOver t
     rebuilt_over = record {
@@ -125,9 +130,10 @@ module _ (letters : List Letter) where
   keys_times : (u : Word) (α : Element) (v : Word) → IsOver letters u → IsOver letters v
       → KeysOver α → KeysOver (element_times u α v)
   keys_times u [] v l r a = tt
-  keys_times u (t ∷ α) v l r a =
-      ((over-append letters u t.key.left l a.0.0, over-append letters t.key.right v a.0.1 r),
-        keys_times u α v l r a.1)
+  keys_times u (t ∷ α) v l r a = (
+    (over-append letters u t.key.left l a.0.0, over-append letters t.key.right v a.0.1 r),
+    keys_times u α v l r a.1,
+  )
 
   -- no label is past the list, and there is none there
   pub keys_at : (ls : List Element) → AllByRecursion KeysOver ls → (i : ℕ)
@@ -154,11 +160,11 @@ module _ (letters : List Letter) where
   keys_steps p ls a α (t ∷ steps) k o =
       let β : Element = element_times t.left (label_at ls t.number) t.right in
       let more : KeysOver β =
-          keys_times t.left (label_at ls t.number) t.right o.0.0 o.0.1
-          (keys_at ls a (t.number - 1)) in
+      keys_times t.left (label_at ls t.number) t.right o.0.0 o.0.1
+      (keys_at ls a (t.number - 1)) in
       keys_steps p ls a (minus p α t.coefficient β) steps
-          (keys-append α (scale ((p - 1) * t.coefficient) β) k
-            (keys_scale ((p - 1) * t.coefficient) β more)) o.1
+      (keys-append α (scale ((p - 1) * t.coefficient) β) k
+      (keys_scale ((p - 1) * t.coefficient) β more)) o.1
 
   pub keys_trace : (p : ℕ) (ls : List Element) → AllByRecursion KeysOver ls → (t : Trace)
       → TraceOver t → KeysOver (trace_label p ls t)
@@ -171,9 +177,9 @@ module _ (letters : List Letter) where
   keys_onto p ls a [] o = a
   keys_onto p ls a (e ∷ es) o =
       keys_onto p (ls ++ (trace_label p ls e.trace ∷ []))
-          (lists-append ls (trace_label p ls e.trace ∷ []) a
-            (keys_trace p ls a e.trace (o e (0, omega arith, refl)), tt)) es
-          (λ x c. o x (suc c.0, omega (arith, c.1), c.2))
+      (lists-append ls (trace_label p ls e.trace ∷ []) a
+      (keys_trace p ls a e.trace (o e (0, omega arith, refl)), tt)) es
+      (λ x c. o x (suc c.0, omega (arith, c.1), c.2))
 
   -- a sum of multiples of labels
   pub keys_multiples : (ls : List Element) → AllByRecursion KeysOver ls → (steps : List Step)
@@ -182,8 +188,8 @@ module _ (letters : List Letter) where
   keys_multiples ls a (t ∷ steps) o =
       let β : Element = element_times t.left (label_at ls t.number) t.right in
       keys-append (step_multiples ls steps) (scale t.coefficient β) (keys_multiples ls a steps o.1)
-          (keys_scale t.coefficient β (keys_times t.left (label_at ls t.number) t.right o.0.0 o.0.1
-              (keys_at ls a (t.number - 1))))
+      (keys_scale t.coefficient β (keys_times t.left (label_at ls t.number) t.right o.0.0 o.0.1
+      (keys_at ls a (t.number - 1))))
 
   -- a monomial with a coefficient other than 0 is listed
   pub keys_found : (s : Setting) (α : Element) → KeysOver α → (σ : Monomial)
@@ -192,23 +198,26 @@ module _ (letters : List Letter) where
   keys_found s [] a σ n = absurd (n (zero_number s.prime))
   keys_found s (t ∷ α) a σ n =
       go (keys_found s α a.1 σ) (key_dec same_monomial (IsLess s)
-        (monomial_laws (generator_weight s)) σ t.key)
+      (monomial_laws (generator_weight s)) σ t.key)
     where
       go : (¬ IsZero s.prime (coefficient_by same_monomial α σ) → IsOver letters σ.left
-            × IsOver letters σ.right) → (σ ≡ t.key) ⊎ (σ ≢ t.key) → IsOver letters σ.left
+          × IsOver letters σ.right) → (σ ≡ t.key) ⊎ (σ ≢ t.key) → IsOver letters σ.left
           × IsOver letters σ.right
       go rest (inl e) =
           subst (λ (ρ : Monomial). IsOver letters ρ.left × IsOver letters ρ.right) (sym e) a.0
       go rest (inr d) =
           rest (λ z. n (subst (IsZero s.prime)
-              (omega (arith, ap (λ n. t.coefficient * n)
-                  (at_other same_monomial (IsLess s) (monomial_laws (generator_weight s)) σ t.key
-                  d))) z))
+          (omega (
+            arith,
+            ap (λ n. t.coefficient * n)
+                (at_other same_monomial (IsLess s) (monomial_laws (generator_weight s)) σ t.key
+                d),
+          )) z))
 
 -- ---- runs
 
 module _ (P : Problem) (field : IsField P.setting.prime) (letters : List Letter) (inputs : (i : ℕ)
-      → WordsAre P.setting (IsOver letters) (generator P.setting i)) {n : ℕ} {run : State}
+    → WordsAre P.setting (IsOver letters) (generator P.setting i)) {n : ℕ} {run : State}
     {last : Option Monomial} (runs : SequentialRun P n run last) where
   alive : (e : Entry) → Contains run.entries e → ¬ IsZeroPolynomial P.setting e.polynomial
   alive = (invariant P field runs).sound.nonzero
@@ -218,8 +227,10 @@ module _ (P : Problem) (field : IsField P.setting.prime) (letters : List Letter)
 
   pub entry_over : (e : Entry) → Contains run.entries e → TraceOver letters e.trace
   entry_over e c =
-      rebuilt_over letters P.setting inputs run.entries alive over e.signature (over.left e c,
-        over.right e c) e.trace e.polynomial ((rebuilt P field runs).entries e c)
+      rebuilt_over letters P.setting inputs run.entries alive over e.signature (
+        over.left e c,
+        over.right e c,
+      ) e.trace e.polynomial ((rebuilt P field runs).entries e c)
 
   pub syzygy_over : (h : Syzygy) → Contains run.syzygies h → TraceOver letters h.trace
   syzygy_over h c =
@@ -230,7 +241,7 @@ module _ (P : Problem) (field : IsField P.setting.prime) (letters : List Letter)
       signed =
           syzygies_are P (λ σ. IsOver letters σ.left × IsOver letters σ.right)
           (λ k before since q. candidate_over P field letters inputs before
-            (invariant P field q).sound.nonzero (run_over P field letters inputs q)) runs h c
+          (invariant P field q).sound.nonzero (run_over P field letters inputs q)) runs h c
 
   pub labels_over : AllByRecursion (KeysOver letters) (labels_of P.setting.prime run.entries)
   labels_over = keys_onto letters P.setting.prime [] tt run.entries entry_over

@@ -27,30 +27,33 @@ module _ (s : Setting) (field : IsField s.prime) where
   generator_limited : (i : ℕ) → WeighsAtMost s (generator_weight s i) (generator s i)
   generator_limited i w n =
       go (below_lead same_word IsWordLess word_laws s.prime (generator s i)
-        (leading s.prime (generator s i)) w (lead_leads s.prime (generator s i) (λ z. n (z w))) n)
+      (leading s.prime (generator s i)) w (lead_leads s.prime (generator s i) (λ z. n (z w))) n)
     where
       go : (w ≡ leading s.prime (generator s i)) ⊎ IsWordLess w (leading s.prime (generator s i))
           → word_weight w ≤ generator_weight s i
       go (inl e) =
           let d : word_weight w ≡ word_weight (leading s.prime (generator s i)) =
-              ap word_weight e in omega (arith, d)
+          ap word_weight e in omega (arith, d)
       go (inr l) = less_weighs w (leading s.prime (generator s i)) l
 
   module _ (entries : List Entry) (labels : (e : Entry) → Contains entries e → (α : Element)
-        × IsLabelled s e.signature e.polynomial α) where
+      × IsLabelled s e.signature e.polynomial α) where
     pub multiple_labelled : (w : Word) (d : Divisor s entries w) → (α : Element)
         × IsLabelled s (signature_at s entries w d) (multiple_at s entries w d) α
     multiple_labelled w d = go (labels d.entry d.listed)
       where
         go : (α : Element) × IsLabelled s d.entry.signature d.entry.polynomial α → (β : Element)
             × IsLabelled s (signature_at s entries w d) (multiple_at s entries w d) β
-        go (α, l) =
-            (element_times d.left α d.right,
-              record { lies = in_times s d.left α d.right l.lies;
-                evaluates = evaluation_times s d.left α d.entry.polynomial d.right
+        go (α, l) = (
+          element_times d.left α d.right,
+          record {
+            lies = in_times s d.left α d.right l.lies;
+            evaluates = evaluation_times s d.left α d.entry.polynomial d.right
                 (omega (arith, field.above_one)) l.evaluates;
-                leads = element_times_leads s d.left α d.right d.entry.signature l.leads;
-                one = element_times_coefficient s d.left α d.right d.entry.signature ∙ l.one })
+            leads = element_times_leads s d.left α d.right d.entry.signature l.leads;
+            one = element_times_coefficient s d.left α d.right d.entry.signature ∙ l.one;
+          },
+        )
 
     module _ (τ : Monomial) where
       multiples_limited : (w : Word) (d : Divisor s entries w) → (signature_at s entries w d ≡ τ)
@@ -58,19 +61,19 @@ module _ (s : Setting) (field : IsField s.prime) where
           → WeighsAtMost s (degree_of (generator_weight s) τ) (multiple_at s entries w d)
       multiples_limited w d o x n =
           let t : (α : Element) × IsLabelled s (signature_at s entries w d)
-              (multiple_at s entries w d) α = multiple_labelled w d in
+          (multiple_at s entries w d) α = multiple_labelled w d in
           let k : word_weight x ≤ degree_of (generator_weight s) (signature_at s entries w d) =
-              labelled_limited s (signature_at s entries w d) (multiple_at s entries w d) t.0 t.1 x
-              n in
+          labelled_limited s (signature_at s entries w d) (multiple_at s entries w d) t.0 t.1 x
+          n in
           let m : degree_of (generator_weight s) (signature_at s entries w d)
-              ≤ degree_of (generator_weight s) τ = degrees s (signature_at s entries w d) τ o in
+          ≤ degree_of (generator_weight s) τ = degrees s (signature_at s entries w d) τ o in
           omega (arith, k, m)
 
       starts_limited : {f : Polynomial} {start : Start} → Starts s entries τ f start
           → WeighsAtMost s (degree_of (generator_weight s) τ) f
       starts_limited (Starts.at_generator i e) x n =
           let d : degree_of (generator_weight s) τ ≡ degree_of (generator_weight s)
-              (unit_monomial i) = ap (degree_of (generator_weight s)) e in
+          (unit_monomial i) = ap (degree_of (generator_weight s)) e in
           omega (arith, d, generator_limited i x n)
       starts_limited (Starts.at_multiple not_unit w d best regular) x n =
           multiples_limited w d (inl best.signed) x n
@@ -83,7 +86,7 @@ module _ (s : Setting) (field : IsField s.prime) where
           minus_are s (λ v. word_weight v ≤ degree_of (generator_weight s) τ) f 1
           (record { coefficient = c; key = w } ∷ []) h
           (more_are s (λ v. word_weight v ≤ degree_of (generator_weight s) τ) c w [] (h w l.nonzero)
-            (λ y m. absurd (m (zero_number s.prime))))
+          (λ y m. absurd (m (zero_number s.prime))))
 
       keeps_limited : {f kept : Polynomial} {steps : List Step}
           → WeighsAtMost s (degree_of (generator_weight s) τ) f
@@ -92,7 +95,7 @@ module _ (s : Setting) (field : IsField s.prime) where
       keeps_limited h (Reduction.finished z) x n = absurd (n (zero_number s.prime))
       keeps_limited h (Reduction.subtract {f = f} w l d chosen c small q rest) x n =
           keeps_limited (minus_are s (λ v. word_weight v ≤ degree_of (generator_weight s) τ) f c
-            (multiple_at s entries w d) h (multiples_limited w d (inr chosen.allowed))) rest x n
+          (multiple_at s entries w d) h (multiples_limited w d (inr chosen.allowed))) rest x n
       keeps_limited h (Reduction.keep {f = f} {kept = kept} w l none c e rest) x n =
           more_are s (λ v. word_weight v ≤ degree_of (generator_weight s) τ) c w kept
           (h w l.nonzero) (keeps_limited (removes_limited f w c l h) rest) x n

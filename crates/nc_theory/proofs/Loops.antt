@@ -20,16 +20,28 @@ module _ (s : Setting) (entries : List Entry) (set : Monomial → Type 0) (f kep
       → (d : Divisor s entries w) → IsChosenDivisor s entries set w d → (c : ℕ) → c < s.prime
       → c * coefficient d.entry.polynomial (leading s.prime d.entry.polynomial) % s.prime
       ≡ coefficient h w % s.prime → ReducedTo s entries set f kept
-      (steps ++ (record { coefficient = c;
-            left = d.left; number = number_of s entries w d; right = d.right } ∷ []))
+      (steps ++ (record {
+        coefficient = c;
+        left = d.left;
+        number = number_of s entries w d;
+        right = d.right;
+      } ∷ []))
       (minus s.prime h c (multiple_at s entries w d))
   reduced_subtract to w l d chosen c small q more last r =
       subst (Reduction s entries set f (kept ++ more))
-      (sym (append_assoc steps (record { coefficient = c;
-              left = d.left; number = number_of s entries w d; right = d.right } ∷ []) last))
-      (to more (record { coefficient = c;
-            left = d.left; number = number_of s entries w d; right = d.right } ∷ last)
-        (Reduction.subtract w l d chosen c small q r))
+      (sym (append_assoc steps (record {
+        coefficient = c;
+        left = d.left;
+        number = number_of s entries w d;
+        right = d.right;
+      } ∷ []) last))
+      (to more (record {
+        coefficient = c;
+        left = d.left;
+        number = number_of s entries w d;
+        right = d.right;
+      } ∷ last)
+      (Reduction.subtract w l d chosen c small q r))
 
   pub reduced_keep : ReducedTo s entries set f kept steps h → (w : Word) → IsLeadingWord s h w
       → ((d : Divisor s entries w) → ¬ set (signature_at s entries w d)) → (c : ℕ)

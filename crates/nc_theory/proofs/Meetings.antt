@@ -26,7 +26,7 @@ use Rattle.std.proofs.lemmas.List.{append_cancel_left, drop-append-le, length-ta
 whole : (n : ℕ) (p : Word) → length p ≤ n → take n p ≡ p
 whole n p h =
     sym (append-nil (take n p)) ∙ (ap (λ z. take n p ++ z) (sym (drop_of_length-le p h))
-      ∙ take-append-drop n p)
+    ∙ take-append-drop n p)
 
 shorter_made : (p v : Word) (n : ℕ) → length p ≤ n → take n p ≡ take n v
     → p ++ drop n v ≡ v ++ drop n p
@@ -37,13 +37,22 @@ shorter_made p v n h e =
 shorter_parts : (p v y z : Word) (n : ℕ) → n ≡ length p → length p ≤ length v → p ++ y ≡ v ++ z
     → (y ≡ []) ⊎ (z ≡ []) → (take n p ≡ take n v) × (y ≡ drop n v) × (z ≡ drop n p)
 shorter_parts p v y z n is h e d =
-    subst (λ m. (take m p ≡ take m v) × (y ≡ drop m v) × (z ≡ drop m p)) (sym is) (front, back,
-      none ∙ sym (drop_of_length-le p (omega arith)))
+    subst (λ m. (take m p ≡ take m v) × (y ≡ drop m v) × (z ≡ drop m p)) (sym is) (
+      front,
+      back,
+      none ∙ sym (drop_of_length-le p (omega arith)),
+    )
   where
     empty : (y ≡ []) ⊎ (z ≡ []) → z ≡ []
     empty (inl i) =
-        nil_from_length z (omega (arith, h, ap length e, length-append p y, length-append v z,
-            ap length i))
+        nil_from_length z (omega (
+          arith,
+          h,
+          ap length e,
+          length-append p y,
+          length-append v z,
+          ap length i,
+        ))
     empty (inr i) = i
 
     none : z ≡ []
@@ -56,7 +65,7 @@ shorter_parts p v y z n is h e d =
     back : y ≡ drop (length p) v
     back = sym (drop-append_seam p y)
         ∙ (ap (drop (length p)) e ∙ (drop-append-le (length p) v z h
-            ∙ (ap (λ a. drop (length p) v ++ a) none ∙ append-nil (drop (length p) v))))
+        ∙ (ap (λ a. drop (length p) v ++ a) none ∙ append-nil (drop (length p) v))))
 
 pub not_empty : (v : Word) (b : Bool) → b ≡ (length v == 0) → b ≡ false → 0 < length v
 not_empty [] b e d = absurd (false≢true (sym d ∙ e))
@@ -84,7 +93,7 @@ made p v n is e = go (ordered (length p) (length v))
         let l : length p ≤ n = omega arith in (shorter_made p v n l e, inr (drop_of_length-le p l))
     go (inr h) =
         let l : length v ≤ n =
-            omega arith in (sym (shorter_made v p n l (sym e)), inl (drop_of_length-le v l))
+        omega arith in (sym (shorter_made v p n l (sym e)), inl (drop_of_length-le v l))
 
 parts : (p v y z : Word) (n : ℕ) → n ≡ min (length p) (length v) → p ++ y ≡ v ++ z → (y ≡ [])
     ⊎ (z ≡ []) → (take n p ≡ take n v) × (y ≡ drop n v) × (z ≡ drop n p)
@@ -95,14 +104,14 @@ parts p v y z n is e d = go (ordered (length p) (length v))
     go (inl h) = shorter_parts p v y z n (omega arith) h e d
     go (inr h) =
         let t : (take n v ≡ take n p) × (z ≡ drop n p) × (y ≡ drop n v) =
-            shorter_parts v p z y n (omega arith) h (sym e) (swap d) in (sym t.0, t.2, t.1)
+        shorter_parts v p z y n (omega arith) h (sym e) (swap d) in (sym t.0, t.2, t.1)
 
 -- where the letters agree, what is around
 pub around_made : (u v : Word) (k n : ℕ) → k ≤ length u → n ≡ min (length (drop k u)) (length v)
     → take n (drop k u) ≡ take n v → AreAround u v k (take k u) (drop n v) (drop n (drop k u))
 around_made u v k n h is e =
     let t : (drop k u ++ drop n v ≡ v ++ drop n (drop k u))
-        × ((drop n v ≡ []) ⊎ (drop n (drop k u) ≡ [])) = made (drop k u) v n is e in (
+    × ((drop n v ≡ []) ⊎ (drop n (drop k u) ≡ [])) = made (drop k u) v n is e in (
       ap (λ a. a ++ drop n v) (sym (take-append-drop k u))
           ∙ (append_assoc (take k u) (drop k u) (drop n v) ∙ ap (λ a. take k u ++ a) t.0),
       t.1,
@@ -126,7 +135,7 @@ around_parts u v k n x y z h is a = (t.0, sym front, t.1, t.2)
     t : (take n (drop k u) ≡ take n v) × (y ≡ drop n v) × (z ≡ drop n (drop k u))
     t = parts (drop k u) v y z n is
         (append_cancel_left x (drop k u ++ y) (v ++ z) (ap (λ b. b ++ (drop k u ++ y)) (sym front)
-            ∙ pieces)) a.1
+        ∙ pieces)) a.1
 
 pub one_around : (u v : Word) (k : ℕ) (x y z x' y' z' : Word) → k ≤ length u → AreAround u v k x y z
     → AreAround u v k x' y' z' → (x ≡ x') × (y ≡ y') × (z ≡ z')
@@ -141,8 +150,13 @@ pub around_short : (u v : Word) (k : ℕ) (x y z : Word) → k ≤ length u → 
 around_short u v k x y z h a = go a.1
   where
     sum : length u + length y ≡ length x + (length v + length z)
-    sum = omega (arith, ap length a.0, length-append u y, length-append x (v ++ z),
-          length-append v z)
+    sum = omega (
+      arith,
+      ap length a.0,
+      length-append u y,
+      length-append x (v ++ z),
+      length-append v z,
+    )
 
     go : (y ≡ []) ⊎ (z ≡ []) → (length x ≤ length u) × (length y ≤ length v) × (length z ≤ length u)
     go (inl i) = (omega (arith, a.2), omega (arith, ap length i), omega (arith, sum, ap length i))
@@ -164,7 +178,7 @@ module _ (s : Setting) where
       only ρ (inl g) = g.1
       only ρ (inr g) =
           absurd (monomial_irrefl (generator_weight s) σ
-            (monomial_trans (generator_weight s) σ τ σ l g.0))
+          (monomial_trans (generator_weight s) σ τ σ l g.0))
 
   pub greater_only : (σ τ : Monomial) → compare_monomials (generator_weight s) σ τ ≡ Greater
       → IsOnly (IsGreaterOf s σ τ) (Some σ)
@@ -177,7 +191,7 @@ module _ (s : Setting) where
       only : (ρ : Monomial) → IsGreaterOf s σ τ ρ → ρ ≡ σ
       only ρ (inl g) =
           absurd (monomial_irrefl (generator_weight s) σ
-            (monomial_trans (generator_weight s) σ τ σ g.0 l))
+          (monomial_trans (generator_weight s) σ τ σ g.0 l))
       only ρ (inr g) = g.1
 
   pub equal_only : (σ τ : Monomial) → compare_monomials (generator_weight s) σ τ ≡ Equal
@@ -197,8 +211,12 @@ module _ (s : Setting) where
   pub lead_short : (e : Entry) (n : ℕ) → IsUsable s e → degree s e.signature ≤ n
       → length (leading s.prime e.polynomial) ≤ n
   lead_short e n u h =
-      omega (arith, h, u.light (leading s.prime e.polynomial) (usable_lead s e u).nonzero,
-        length_at_most (leading s.prime e.polynomial))
+      omega (
+        arith,
+        h,
+        u.light (leading s.prime e.polynomial) (usable_lead s e u).nonzero,
+        length_at_most (leading s.prime e.polynomial),
+      )
 
   pub sides_short : (σ : Monomial) (n : ℕ) → degree s σ ≤ n → (length σ.left ≤ n)
       × (length σ.right ≤ n)
@@ -212,8 +230,8 @@ module _ (s : Setting) where
         (leading s.prime f.polynomial) k m.before m.behind_first m.behind_second
     around_leads u v i j o m h a =
         subst (λ b. AreAround b (leading s.prime f.polynomial) k m.before m.behind_first
-          m.behind_second) i (subst (λ b. AreAround u b k m.before m.behind_first m.behind_second) j
-          (subst (IsMeeting u v k) h a))
+        m.behind_second) i (subst (λ b. AreAround u b k m.before m.behind_first m.behind_second) j
+        (subst (IsMeeting u v k) h a))
 
     -- the words of both sides have few letters
     sides_fit : (x y z : Word) (n : ℕ) → IsUsable s e → IsUsable s f → degree s e.signature ≤ n
@@ -224,14 +242,14 @@ module _ (s : Setting) where
         × (length f.signature.right + length z ≤ n + n)
     sides_fit x y z n a b g h m l =
         let around : (length x ≤ length (leading s.prime e.polynomial))
-            × (length y ≤ length (leading s.prime f.polynomial))
-            × (length z ≤ length (leading s.prime e.polynomial)) =
-            around_short (leading s.prime e.polynomial) (leading s.prime f.polynomial) k x y z
-            (omega (arith, l)) m in
+        × (length y ≤ length (leading s.prime f.polynomial))
+        × (length z ≤ length (leading s.prime e.polynomial)) =
+        around_short (leading s.prime e.polynomial) (leading s.prime f.polynomial) k x y z
+        (omega (arith, l)) m in
         let one : (length e.signature.left ≤ n) × (length e.signature.right ≤ n) =
-            sides_short e.signature n g in
+        sides_short e.signature n g in
         let two : (length f.signature.left ≤ n) × (length f.signature.right ≤ n) =
-            sides_short f.signature n h in
+        sides_short f.signature n h in
         let first : length (leading s.prime e.polynomial) ≤ n = lead_short e n a g in
         let second : length (leading s.prime f.polynomial) ≤ n = lead_short f n b h in
         (one.0, omega arith, omega arith, omega arith)
@@ -242,7 +260,7 @@ module _ (s : Setting) where
     unmet u v i j none σ m =
         subst (λ a. IsMeeting a v k None) i none m.before m.behind_first m.behind_second
         (subst (λ b. AreAround (leading s.prime e.polynomial) b k m.before m.behind_first
-            m.behind_second) (sym j) m.around)
+        m.behind_second) (sym j) m.around)
 
     pub met : (x y z : Word) (one two : Monomial)
         → AreAround (leading s.prime e.polynomial) (leading s.prime f.polynomial) k x y z
@@ -251,24 +269,32 @@ module _ (s : Setting) where
         → IsOnly (IsGreaterOf s one two) o → IsOnly (MeetAt s e f k) o
     met x y z one two a h g i j o p =
         go o (subst (λ σ. IsOnly (IsGreaterOf s (times [] e.signature y) σ) o) j
-          (subst (λ σ. IsOnly (IsGreaterOf s σ two) o) i p))
+        (subst (λ σ. IsOnly (IsGreaterOf s σ two) o) i p))
       where
         side : (σ : Monomial) → MeetAt s e f k σ
             → IsGreaterOf s (times [] e.signature y) (times x f.signature z) σ
         side σ m =
             let t = one_around (leading s.prime e.polynomial) (leading s.prime f.polynomial) k
-                m.before m.behind_first m.behind_second x y z (omega (arith, h)) m.around a in
+            m.before m.behind_first m.behind_second x y z (omega (arith, h)) m.around a in
             subst (λ b. IsGreaterOf s (times [] e.signature y) (times b f.signature z) σ) t.0
             (subst (λ b. IsGreaterOf s (times [] e.signature y) (times m.before f.signature b) σ)
-                  t.2
+            t.2
             (subst (λ b. IsGreaterOf s (times [] e.signature b)
-                    (times m.before f.signature m.behind_second) σ) t.1 m.greater))
+            (times m.before f.signature m.behind_second) σ) t.1 m.greater))
 
         go : (o : Option Monomial) → IsOnly
             (IsGreaterOf s (times [] e.signature y) (times x f.signature z)) o
             → IsOnly (MeetAt s e f k) o
         go None none = λ σ m. none σ (side σ m)
-        go (Some τ) q =
-            (record { before = x; behind_first = y;
-                behind_second = z; around = a; within = h; some = g; greater = q.0 },
-              λ σ m. q.1 σ (side σ m))
+        go (Some τ) q = (
+          record {
+            before = x;
+            behind_first = y;
+            behind_second = z;
+            around = a;
+            within = h;
+            some = g;
+            greater = q.0;
+          },
+          λ σ m. q.1 σ (side σ m),
+        )

@@ -21,7 +21,7 @@ use Rattle.std.proofs.Common.{◌≡◌, ℕ, ◌+◌, ◌-◌, ◌*◌, ◌%◌
 
 module _ (s : Setting) (field : IsField s.prime) (state : State) (sound : IsSound s state)
     (bound : Monomial → Type 0) (down : (σ τ : Monomial) → bound τ → IsLess s σ τ → HasGenerator s σ
-      → bound σ) where
+    → bound σ) where
   positive : 0 < s.prime
   positive = omega (arith, field.above_one)
 
@@ -32,8 +32,8 @@ module _ (s : Setting) (field : IsField s.prime) (state : State) (sound : IsSoun
       → IsIn s (element_times d.left β d.right) bound
   multiple_within w d b β label σ n =
       go (below_lead same_monomial (IsLess s) (monomial_laws (generator_weight s)) s.prime
-        (element_times d.left β d.right) (signature_at s state.entries w d) σ
-        (element_times_leads s d.left β d.right d.entry.signature label.leads) n)
+      (element_times d.left β d.right) (signature_at s state.entries w d) σ
+      (element_times_leads s d.left β d.right d.entry.signature label.leads) n)
     where
       go : (σ ≡ signature_at s state.entries w d) ⊎ IsLess s σ (signature_at s state.entries w d)
           → bound σ
@@ -55,15 +55,15 @@ module _ (s : Setting) (field : IsField s.prime) (state : State) (sound : IsSoun
       go (inl z) (inr nz) = k σ nz
       go (inl z) (inl y) =
           absurd (n (subst (IsZero s.prime)
-              (sym (coefficient-minus same_monomial (IsLess s) (monomial_laws (generator_weight s))
-                  s.prime α c β σ)) (zero_add s.prime (coefficient_by same_monomial α σ)
-                ((s.prime - 1) * c * coefficient_by same_monomial β σ) z
-                (zero_mul_left s.prime ((s.prime - 1) * c) (coefficient_by same_monomial β σ) y))))
+          (sym (coefficient-minus same_monomial (IsLess s) (monomial_laws (generator_weight s))
+          s.prime α c β σ)) (zero_add s.prime (coefficient_by same_monomial α σ)
+          ((s.prime - 1) * c * coefficient_by same_monomial β σ) z
+          (zero_mul_left s.prime ((s.prime - 1) * c) (coefficient_by same_monomial β σ) y))))
 
   module_of : (e : Entry) → Contains state.entries e → HasGenerator s e.signature
   module_of e k =
       let t : (α : Element) × IsLabelled s e.signature e.polynomial α =
-          sound.entries e k in t.1.lies e.signature t.1.leads.nonzero
+      sound.entries e k in t.1.lies e.signature t.1.leads.nonzero
 
   same_minus_eval : (f : Polynomial) (α : Element) (c : ℕ) (w : Word)
       (d : Divisor s state.entries w) (β : Element)
@@ -71,17 +71,19 @@ module _ (s : Setting) (field : IsField s.prime) (state : State) (sound : IsSoun
       → SamePolynomial s (evaluation s (minus s.prime α c (element_times d.left β d.right)))
       (minus s.prime f c (multiple_at s state.entries w d))
   same_minus_eval f α c w d β label e =
-      record { at = λ y. ap (λ n. n % s.prime)
-        (evaluation-minus s α c (element_times d.left β d.right) y)
-        ∙ (sum_mod s.prime (coefficient (evaluation s α) y) (coefficient f y)
-          ((s.prime - 1) * c * coefficient (evaluation s (element_times d.left β d.right)) y)
-          ((s.prime - 1) * c * coefficient (multiple_at s state.entries w d) y) (e.at y)
-          (times_mod s.prime ((s.prime - 1) * c)
+      record {
+        at = λ y. ap (λ n. n % s.prime)
+            (evaluation-minus s α c (element_times d.left β d.right) y)
+            ∙ (sum_mod s.prime (coefficient (evaluation s α) y) (coefficient f y)
+            ((s.prime - 1) * c * coefficient (evaluation s (element_times d.left β d.right)) y)
+            ((s.prime - 1) * c * coefficient (multiple_at s state.entries w d) y) (e.at y)
+            (times_mod s.prime ((s.prime - 1) * c)
             (coefficient (evaluation s (element_times d.left β d.right)) y)
             (coefficient (multiple_at s state.entries w d) y)
             ((evaluation_times s d.left β d.entry.polynomial d.right positive label.evaluates).at
-              y)) ∙ ap (λ n. n % s.prime) (sym (coefficient_polynomial_minus s f c
-              (multiple_at s state.entries w d) y))) }
+            y)) ∙ ap (λ n. n % s.prime) (sym (coefficient_polynomial_minus s f c
+            (multiple_at s state.entries w d) y)));
+      }
 
   -- where there is a representation within the bound, nothing is kept
   pub none_kept : IsBasisBelow s state bound → {f kept : Polynomial} {steps : List Step}
@@ -89,10 +91,13 @@ module _ (s : Setting) (field : IsField s.prime) (state : State) (sound : IsSoun
   none_kept basis (Reduction.finished n) has = refl
   none_kept basis (Reduction.subtract {f = f} w d v chosen c small q rest) (α, lies, e) =
       let t : (β : Element) × IsLabelled s v.entry.signature v.entry.polynomial β =
-          sound.entries v.entry v.listed in
-      none_kept basis rest (minus s.prime α c (element_times v.left t.0 v.right),
+      sound.entries v.entry v.listed in
+      none_kept basis rest (
+        minus s.prime α c (element_times v.left t.0 v.right),
         within_minus α c (element_times v.left t.0 v.right) lies
-        (multiple_within w v chosen.allowed t.0 t.1), same_minus_eval f α c w v t.0 t.1 e)
+            (multiple_within w v chosen.allowed t.0 t.1),
+        same_minus_eval f α c w v t.0 t.1 e,
+      )
   none_kept basis (Reduction.keep {f = f} w d any c q rest) (α, lies, e) =
       absurd (go (top same_monomial (IsLess s) (monomial_laws (generator_weight s)) s.prime α))
     where
@@ -100,10 +105,14 @@ module _ (s : Setting) (field : IsField s.prime) (state : State) (sound : IsSoun
           → SamePolynomial s g f → ⊥
       begins σ b (ReducesToZero.done z) i = d.nonzero (sym (i.at w) ∙ z w)
       begins σ b (ReducesToZero.step {f = g} x gl v le k r rest') i =
-          any (record { entry = v.entry;
-              listed = v.listed; left = v.left;
-              right = v.right; spells = v.spells ∙ lead_unique same_word IsWordLess word_laws
-              s.prime f x w (leads_same s g f x i gl) d }) (place le)
+          any (record {
+            entry = v.entry;
+            listed = v.listed;
+            left = v.left;
+            right = v.right;
+            spells = v.spells ∙ lead_unique same_word IsWordLess word_laws
+                s.prime f x w (leads_same s g f x i gl) d;
+          }) (place le)
         where
           place : (signature_at s state.entries x v ≡ σ)
               ⊎ IsLess s (signature_at s state.entries x v) σ
@@ -120,12 +129,12 @@ module _ (s : Setting) (field : IsField s.prime) (state : State) (sound : IsSoun
   join_multiple : (f kept : Polynomial) (w : Word) (v : Divisor s state.entries w)
       → bound (signature_at s state.entries w v) → (c : ℕ) (α β : Element) → IsIn s α bound
       → ((y : Word) → coefficient (minus s.prime f c (multiple_at s state.entries w v)) y % s.prime
-        ≡ (coefficient (evaluation s α) y + coefficient kept y) % s.prime)
+      ≡ (coefficient (evaluation s α) y + coefficient kept y) % s.prime)
       → IsLabelled s v.entry.signature v.entry.polynomial β
       → IsIn s (α ++ scale c (element_times v.left β v.right)) bound
       × ((y : Word) → coefficient f y % s.prime
-        ≡ (coefficient (evaluation s (α ++ scale c (element_times v.left β v.right))) y
-          + coefficient kept y) % s.prime)
+      ≡ (coefficient (evaluation s (α ++ scale c (element_times v.left β v.right))) y
+      + coefficient kept y) % s.prime)
   join_multiple f kept w v allowed c α β lies e label = (within, value)
     where
       within : IsIn s (α ++ scale c (element_times v.left β v.right)) bound
@@ -142,15 +151,15 @@ module _ (s : Setting) (field : IsField s.prime) (state : State) (sound : IsSoun
           go (inl z) (inr nz) = multiple_within w v allowed β label σ nz
           go (inl z) (inl x) =
               absurd (n (subst (IsZero s.prime)
-                  (sym (linear_sum-append (is_at same_monomial σ) α
-                      (scale c (element_times v.left β v.right))
-                      ∙ ap (λ m. coefficient_by same_monomial α σ + m)
-                      (linear_sum-scale (is_at same_monomial σ) c
-                      (element_times v.left β v.right))))
-                  (zero_add s.prime (coefficient_by same_monomial α σ)
-                    (c * coefficient_by same_monomial (element_times v.left β v.right) σ) z
-                    (zero_mul_left s.prime c (coefficient_by same_monomial
-                      (element_times v.left β v.right) σ) x))))
+              (sym (linear_sum-append (is_at same_monomial σ) α
+              (scale c (element_times v.left β v.right))
+              ∙ ap (λ m. coefficient_by same_monomial α σ + m)
+              (linear_sum-scale (is_at same_monomial σ) c
+              (element_times v.left β v.right))))
+              (zero_add s.prime (coefficient_by same_monomial α σ)
+              (c * coefficient_by same_monomial (element_times v.left β v.right) σ) z
+              (zero_mul_left s.prime c (coefficient_by same_monomial
+              (element_times v.left β v.right) σ) x))))
 
       evaluated : (y : Word) → coefficient
           (evaluation s (α ++ scale c (element_times v.left β v.right))) y ≡ coefficient
@@ -158,37 +167,37 @@ module _ (s : Setting) (field : IsField s.prime) (state : State) (sound : IsSoun
       evaluated y =
           coefficient-evaluation s (α ++ scale c (element_times v.left β v.right)) y
           ∙ (linear_sum-append (image s y) α (scale c (element_times v.left β v.right))
-            ∙ ap₂ (λ a b. a + b) (sym (coefficient-evaluation s α y))
-            (linear_sum-scale (image s y) c (element_times v.left β v.right)
-              ∙ ap (λ m. c * m) (sym (coefficient-evaluation s (element_times v.left β v.right)
-                  y))))
+          ∙ ap₂ (λ a b. a + b) (sym (coefficient-evaluation s α y))
+          (linear_sum-scale (image s y) c (element_times v.left β v.right)
+          ∙ ap (λ m. c * m) (sym (coefficient-evaluation s (element_times v.left β v.right)
+          y))))
 
       swap_last : (a b c : ℕ) → (a + b) + c ≡ (a + c) + b
       swap_last a b c = omega arith
 
       value : (y : Word) → coefficient f y % s.prime
           ≡ (coefficient (evaluation s (α ++ scale c (element_times v.left β v.right))) y
-            + coefficient kept y) % s.prime
+          + coefficient kept y) % s.prime
       value y =
           put_back s.prime (coefficient f y) c (coefficient (multiple_at s state.entries w v) y)
           (coefficient (evaluation s (element_times v.left β v.right)) y) positive
           (sym ((evaluation_times s v.left β v.entry.polynomial v.right positive label.evaluates).at
-              y)) ∙ (sum_mod s.prime (coefficient f y + (s.prime - 1) * c
-              * coefficient (multiple_at s state.entries w v) y)
-            (coefficient (evaluation s α) y + coefficient kept y)
-            (c * coefficient (evaluation s (element_times v.left β v.right)) y)
-            (c * coefficient (evaluation s (element_times v.left β v.right)) y)
-            (ap (λ n. n % s.prime) (sym (coefficient_polynomial_minus s f c
-                  (multiple_at s state.entries w v) y)) ∙ e y) refl
-            ∙ ap (λ n. n % s.prime) (swap_last (coefficient (evaluation s α) y) (coefficient kept y)
-              (c * coefficient (evaluation s (element_times v.left β v.right)) y)
-              ∙ ap (λ n. n + coefficient kept y) (sym (evaluated y))))
+          y)) ∙ (sum_mod s.prime (coefficient f y + (s.prime - 1) * c
+          * coefficient (multiple_at s state.entries w v) y)
+          (coefficient (evaluation s α) y + coefficient kept y)
+          (c * coefficient (evaluation s (element_times v.left β v.right)) y)
+          (c * coefficient (evaluation s (element_times v.left β v.right)) y)
+          (ap (λ n. n % s.prime) (sym (coefficient_polynomial_minus s f c
+          (multiple_at s state.entries w v) y)) ∙ e y) refl
+          ∙ ap (λ n. n % s.prime) (swap_last (coefficient (evaluation s α) y) (coefficient kept y)
+          (c * coefficient (evaluation s (element_times v.left β v.right)) y)
+          ∙ ap (λ n. n + coefficient kept y) (sym (evaluated y))))
 
   -- what was subtracted is a representation of what is not kept
   pub representation : {f kept : Polynomial} {steps : List Step}
       → Reduction s state.entries bound f kept steps → (α : Element) × IsIn s α bound
       × ((y : Word) → coefficient f y % s.prime
-        ≡ (coefficient (evaluation s α) y + coefficient kept y) % s.prime)
+      ≡ (coefficient (evaluation s α) y + coefficient kept y) % s.prime)
   representation (Reduction.finished {f = f} n) =
       ([], (λ σ nz. absurd (nz (zero_number s.prime))), λ y. n y ∙ sym (zero_number s.prime))
   representation (Reduction.subtract {f = f} {kept = kept} w d v chosen c small q rest) =
@@ -196,75 +205,80 @@ module _ (s : Setting) (field : IsField s.prime) (state : State) (sound : IsSoun
     where
       join : (α : Element) × IsIn s α bound
           × ((y : Word) → coefficient (minus s.prime f c (multiple_at s state.entries w v)) y
-            % s.prime ≡ (coefficient (evaluation s α) y + coefficient kept y) % s.prime)
+          % s.prime ≡ (coefficient (evaluation s α) y + coefficient kept y) % s.prime)
           → (β : Element) × IsLabelled s v.entry.signature v.entry.polynomial β → (α : Element)
           × IsIn s α bound × ((y : Word)
-            → coefficient f y % s.prime ≡ (coefficient (evaluation s α) y + coefficient kept y)
-            % s.prime)
+          → coefficient f y % s.prime ≡ (coefficient (evaluation s α) y + coefficient kept y)
+          % s.prime)
       join (α, lies, e) (β, label) =
           let r : IsIn s (α ++ scale c (element_times v.left β v.right)) bound
-              × ((y : Word) → coefficient f y % s.prime
-                ≡ (coefficient (evaluation s (α ++ scale c (element_times v.left β v.right))) y
-                  + coefficient kept y) % s.prime) =
-              join_multiple f kept w v chosen.allowed c α β lies e label in
+          × ((y : Word) → coefficient f y % s.prime
+          ≡ (coefficient (evaluation s (α ++ scale c (element_times v.left β v.right))) y
+          + coefficient kept y) % s.prime) =
+          join_multiple f kept w v chosen.allowed c α β lies e label in
           (α ++ scale c (element_times v.left β v.right), r.0, r.1)
   representation (Reduction.keep {f = f} {kept = kept} w d any c q rest) =
       join (representation rest)
     where
       join : (α : Element) × IsIn s α bound
           × ((y : Word) → coefficient (minus s.prime f 1 (record { coefficient = c; key = w } ∷ []))
-            y % s.prime ≡ (coefficient (evaluation s α) y + coefficient kept y) % s.prime)
+          y % s.prime ≡ (coefficient (evaluation s α) y + coefficient kept y) % s.prime)
           → (α : Element) × IsIn s α bound
           × ((y : Word) → coefficient f y % s.prime
-            ≡ (coefficient (evaluation s α) y
-              + coefficient (record { coefficient = c; key = w } ∷ kept) y) % s.prime)
-      join (α, lies, e) =
-          (α, lies, λ y. put_back s.prime (coefficient f y) 1
+          ≡ (coefficient (evaluation s α) y
+          + coefficient (record { coefficient = c; key = w } ∷ kept) y) % s.prime)
+      join (α, lies, e) = (
+        α,
+        lies,
+        λ y. put_back s.prime (coefficient f y) 1
             (coefficient (record { coefficient = c; key = w } ∷ []) y)
             (coefficient (record { coefficient = c; key = w } ∷ []) y) positive refl
             ∙ (sum_mod s.prime (coefficient f y + (s.prime - 1) * 1
-                * coefficient (record { coefficient = c; key = w } ∷ []) y)
-              (coefficient (evaluation s α) y + coefficient kept y)
-              (1 * coefficient (record { coefficient = c; key = w } ∷ []) y)
-              (1 * coefficient (record { coefficient = c; key = w } ∷ []) y)
-              (ap (λ n. n % s.prime) (sym (coefficient_polynomial_minus s f 1
-                  (record { coefficient = c; key = w } ∷ []) y)) ∙ e y) refl
-              ∙ ap (λ n. n % s.prime) (omega arith)))
+            * coefficient (record { coefficient = c; key = w } ∷ []) y)
+            (coefficient (evaluation s α) y + coefficient kept y)
+            (1 * coefficient (record { coefficient = c; key = w } ∷ []) y)
+            (1 * coefficient (record { coefficient = c; key = w } ∷ []) y)
+            (ap (λ n. n % s.prime) (sym (coefficient_polynomial_minus s f 1
+            (record { coefficient = c; key = w } ∷ []) y)) ∙ e y) refl
+            ∙ ap (λ n. n % s.prime) (omega arith)),
+      )
 
   -- and the labels of the multiples that were subtracted sum up to one
   pub represents : (labels : List Element)
       → ((e : Entry) (k : Contains state.entries e)
-        → IsLabelled s e.signature e.polynomial (label_at labels (k.0 + 1)))
+      → IsLabelled s e.signature e.polynomial (label_at labels (k.0 + 1)))
       → {f kept : Polynomial} {steps : List Step} → Reduction s state.entries bound f kept steps
       → IsIn s (step_multiples labels steps) bound
       × ((y : Word) → coefficient f y % s.prime
-        ≡ (coefficient (evaluation s (step_multiples labels steps)) y + coefficient kept y)
-        % s.prime)
+      ≡ (coefficient (evaluation s (step_multiples labels steps)) y + coefficient kept y)
+      % s.prime)
   represents labels labelled (Reduction.finished {f = f} n) =
       (λ σ nz. absurd (nz (zero_number s.prime)), λ y. n y ∙ sym (zero_number s.prime))
   represents labels labelled (Reduction.subtract {f = f} {kept = kept} {steps = steps} w d v chosen
-        c small q rest) =
+      c small q rest) =
       let t : IsIn s (step_multiples labels steps) bound
-          × ((y : Word) → coefficient (minus s.prime f c (multiple_at s state.entries w v)) y
-            % s.prime ≡ (coefficient (evaluation s (step_multiples labels steps)) y
-              + coefficient kept y) % s.prime) =
-          represents labels labelled rest in
+      × ((y : Word) → coefficient (minus s.prime f c (multiple_at s state.entries w v)) y
+      % s.prime ≡ (coefficient (evaluation s (step_multiples labels steps)) y
+      + coefficient kept y) % s.prime) =
+      represents labels labelled rest in
       join_multiple f kept w v chosen.allowed c (step_multiples labels steps)
       (label_at labels (v.listed.0 + 1)) t.0 t.1 (labelled v.entry v.listed)
   represents labels labelled (Reduction.keep {f = f} {kept = kept} {steps = steps} w d any c q rest)
       = let t : IsIn s (step_multiples labels steps) bound
       × ((y : Word) → coefficient (minus s.prime f 1 (record { coefficient = c; key = w } ∷ [])) y
-        % s.prime ≡ (coefficient (evaluation s (step_multiples labels steps)) y + coefficient kept
-          y) % s.prime) =
-      represents labels labelled rest in
-      (t.0, λ y. put_back s.prime (coefficient f y) 1
-        (coefficient (record { coefficient = c; key = w } ∷ []) y)
-        (coefficient (record { coefficient = c; key = w } ∷ []) y) positive refl
-        ∙ (sum_mod s.prime (coefficient f y + (s.prime - 1) * 1
+      % s.prime ≡ (coefficient (evaluation s (step_multiples labels steps)) y + coefficient kept
+      y) % s.prime) =
+      represents labels labelled rest in (
+        t.0,
+        λ y. put_back s.prime (coefficient f y) 1
+            (coefficient (record { coefficient = c; key = w } ∷ []) y)
+            (coefficient (record { coefficient = c; key = w } ∷ []) y) positive refl
+            ∙ (sum_mod s.prime (coefficient f y + (s.prime - 1) * 1
             * coefficient (record { coefficient = c; key = w } ∷ []) y)
-          (coefficient (evaluation s (step_multiples labels steps)) y + coefficient kept y)
-          (1 * coefficient (record { coefficient = c; key = w } ∷ []) y)
-          (1 * coefficient (record { coefficient = c; key = w } ∷ []) y)
-          (ap (λ n. n % s.prime) (sym (coefficient_polynomial_minus s f 1
-              (record { coefficient = c; key = w } ∷ []) y)) ∙ t.1 y) refl
-          ∙ ap (λ n. n % s.prime) (omega arith)))
+            (coefficient (evaluation s (step_multiples labels steps)) y + coefficient kept y)
+            (1 * coefficient (record { coefficient = c; key = w } ∷ []) y)
+            (1 * coefficient (record { coefficient = c; key = w } ∷ []) y)
+            (ap (λ n. n % s.prime) (sym (coefficient_polynomial_minus s f 1
+            (record { coefficient = c; key = w } ∷ []) y)) ∙ t.1 y) refl
+            ∙ ap (λ n. n % s.prime) (omega arith)),
+      )

@@ -17,16 +17,19 @@ module _ (s : Setting) (τ : Monomial) (limit : IsUsableSignature s τ) (u v : W
     (usable : IsUsable s e) (signed : times u e.signature v ≡ τ) where
   stands_small : IsSmall (u ++ (leading s.prime e.polynomial ++ v))
   stands_small = (
-    omega (arith, multiple_fits s e τ u v (leading s.prime e.polynomial) usable limit signed refl,
-          weight-append u (leading s.prime e.polynomial ++ v),
-          weight-append (leading s.prime e.polynomial) v),
+    omega (
+      arith,
+      multiple_fits s e τ u v (leading s.prime e.polynomial) usable limit signed refl,
+      weight-append u (leading s.prime e.polynomial ++ v),
+      weight-append (leading s.prime e.polynomial) v,
+    ),
     letters-append 64 100 u (leading s.prime e.polynomial ++ v)
         (letters_front 64 100 u e.signature.left
-          (subst (AreLetters 64 100) (sym (ap (λ σ. σ.left) signed)) limit.left))
+        (subst (AreLetters 64 100) (sym (ap (λ σ. σ.left) signed)) limit.left))
         (letters-append 64 100 (leading s.prime e.polynomial) v
-              (usable.letters (leading s.prime e.polynomial) (usable_lead s e usable).nonzero)
-              (letters_back 64 100 e.signature.right v
-                (subst (AreLetters 64 100) (sym (ap (λ σ. σ.right) signed)) limit.right))),
+        (usable.letters (leading s.prime e.polynomial) (usable_lead s e usable).nonzero)
+        (letters_back 64 100 e.signature.right v
+        (subst (AreLetters 64 100) (sym (ap (λ σ. σ.right) signed)) limit.right))),
   )
 
   pub shifted_small : HasSmallWords s (polynomial_times u e.polynomial v)
@@ -43,5 +46,5 @@ module _ (s : Setting) (τ : Monomial) (limit : IsUsableSignature s τ) (u v : W
       go (t ∷ f) i =
           let n : IsNormal s.prime (t ∷ f) = subst (IsNormal s.prime) i usable.normal in
           few_letters u v t f 200000 n.0.1
-              (multiple_fits s e τ u v t.key usable limit signed
-                (ap (leading s.prime) i ∙ leading-normal s.prime t f n))
+          (multiple_fits s e τ u v t.key usable limit signed
+          (ap (leading s.prime) i ∙ leading-normal s.prime t f n))

@@ -45,9 +45,10 @@ module _ (P : NamedProblem) (is : IsProblem P) (prime : IsPrime P.problem.settin
 
     entry_in : (e : Entry) → Contains state.entries e → IsMonomialIn P.alphabet e.signature
         × AreWordsIn P.alphabet e.polynomial
-    entry_in e k =
-        (monomial_in e.signature ends,
-          polynomial_in P.alphabet P.problem.setting e.polynomial usable.normal words)
+    entry_in e k = (
+      monomial_in e.signature ends,
+      polynomial_in P.alphabet P.problem.setting e.polynomial usable.normal words,
+    )
       where
         es : SameEntries state.entries r.run.entries
         es = same_entries state r.run same
@@ -63,7 +64,7 @@ module _ (P : NamedProblem) (is : IsProblem P) (prime : IsPrime P.problem.settin
 
         ends : IsOver letters e.signature.left × IsOver letters e.signature.right
         ends = subst (λ (x : Entry). IsOver letters x.signature.left
-              × IsOver letters x.signature.right) alike (over.left d listed, over.right d listed)
+            × IsOver letters x.signature.right) alike (over.left d listed, over.right d listed)
 
         words : WordsAre P.problem.setting (IsOver letters) e.polynomial
         words = subst (λ (x : Entry). WordsAre P.problem.setting (IsOver letters) x.polynomial)
@@ -76,7 +77,7 @@ module _ (P : NamedProblem) (is : IsProblem P) (prime : IsPrime P.problem.settin
     syzygy_in : (h : Syzygy) → Contains state.syzygies h → IsMonomialIn P.alphabet h.signature
     syzygy_in h k =
         monomial_in h.signature (subst (λ (x : Syzygy). IsOver letters x.signature.left
-            × IsOver letters x.signature.right) alike (all d listed))
+        × IsOver letters x.signature.right) alike (all d listed))
       where
         hs : SameSyzygies state.syzygies r.run.syzygies
         hs = same_syzygies state r.run same
@@ -94,8 +95,8 @@ module _ (P : NamedProblem) (is : IsProblem P) (prime : IsPrime P.problem.settin
             × IsOver letters g.signature.right
         all = syzygies_are P.problem (λ σ. IsOver letters σ.left × IsOver letters σ.right)
             (λ k before since q. candidate_over P.problem field letters inputs before
-              (invariant P.problem field q).sound.nonzero
-              (run_over P.problem field letters inputs q)) r.runs
+            (invariant P.problem field q).sound.nonzero
+            (run_over P.problem field letters inputs q)) r.runs
 
     pub over_alphabet : IsOverAlphabet P state
     over_alphabet = record {
@@ -103,8 +104,8 @@ module _ (P : NamedProblem) (is : IsProblem P) (prime : IsPrime P.problem.settin
       syzygies = syzygy_in;
       candidates =
           λ τ c. monomial_in τ (candidate_over P.problem field letters inputs r.run
-            (invariant P.problem field r.runs).sound.nonzero over τ
-            (moved_candidate P.problem state r.run same τ c));
+          (invariant P.problem field r.runs).sound.nonzero over τ
+          (moved_candidate P.problem state r.run same τ c));
     }
 
   pub complete : length (monomials_within P.problem.setting P.problem.bound letters)

@@ -15,7 +15,7 @@ use Rattle.std.proofs.lemmas.List.Elements.{All-from_recursion}
 use Rattle.std.specs.List.{AllByRecursion}
 
 module _ (s : Setting) (field : IsField s.prime) (entries : List Entry) (nonzero : (e : Entry)
-      → Contains entries e → ¬ IsZeroPolynomial s e.polynomial) (set : Monomial → Type 0) where
+    → Contains entries e → ¬ IsZeroPolynomial s e.polynomial) (set : Monomial → Type 0) where
   -- in normal form, with the residues listed by recursion
   Kept : Polynomial → Type 0
   Kept f = IsDescending f × AllByRecursion (λ t. t.coefficient < s.prime) f
@@ -52,18 +52,27 @@ module _ (s : Setting) (field : IsField s.prime) (entries : List Entry) (nonzero
       positive (suc n) i = omega arith
 
       go : Kept kept → Kept (record { coefficient = c; key = w } ∷ kept)
-      go k = ((positive c e, all_less w kept k
+      go k = (
+        (
+          positive c e,
+          all_less w kept k
               (kept_up s field entries nonzero set (From w) (from_up w) rest
-                (take_off s field entries nonzero set f w d 1
-                  (record { coefficient = c; key = w } ∷ [])
-                  (single_over s field entries nonzero set c w)
-                  (keep_whole s field entries nonzero set f w c e))), k.0),
-            (subst (λ n. n < s.prime) (sym e)
-              (mod-lt (coefficient f w) (omega (arith, field.above_one))), k.1))
+              (take_off s field entries nonzero set f w d 1
+              (record { coefficient = c; key = w } ∷ [])
+              (single_over s field entries nonzero set c w)
+              (keep_whole s field entries nonzero set f w c e))),
+          k.0,
+        ),
+        (
+          subst (λ n. n < s.prime) (sym e)
+              (mod-lt (coefficient f w) (omega (arith, field.above_one))),
+          k.1,
+        ),
+      )
 
   pub kept_normal : {f kept : Polynomial} {steps : List Step} → Reduction s entries set f kept steps
       → IsNormal s.prime kept
   unfolding Kept
   kept_normal {kept = kept} r =
       let k : Kept kept =
-          kept_is r in (k.0, All-from_recursion (λ t. t.coefficient < s.prime) kept k.1)
+      kept_is r in (k.0, All-from_recursion (λ t. t.coefficient < s.prime) kept k.1)

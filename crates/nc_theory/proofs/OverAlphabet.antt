@@ -24,22 +24,25 @@ use Rattle.std.specs.List.{AllByRecursion}
 
 module _ (a : Alphabet) where
   letter_listed : (x : Letter) → IsLetterIn a x → Contains (alphabet_letters a) x
-  letter_listed x l =
-      (x.index, omega (arith, l.0, length-map-range_with_len (letter_at a) 0 (length a.names)),
-        get_or-map-range_with_len (letter_at a) 0 (length a.names) x.index x.index x l.0
-        (omega arith) ∙ sym l.1)
+  letter_listed x l = (
+    x.index,
+    omega (arith, l.0, length-map-range_with_len (letter_at a) 0 (length a.names)),
+    get_or-map-range_with_len (letter_at a) 0 (length a.names) x.index x.index x l.0
+        (omega arith) ∙ sym l.1,
+  )
 
   listed_letter : (x : Letter) → Contains (alphabet_letters a) x → IsLetterIn a x
-  listed_letter x c =
-      (omega (arith, within, ap (λ (y : Letter). y.index) is),
-        sym is ∙ ap (letter_at a) (ap (λ (y : Letter). y.index) is))
+  listed_letter x c = (
+    omega (arith, within, ap (λ (y : Letter). y.index) is),
+    sym is ∙ ap (letter_at a) (ap (λ (y : Letter). y.index) is),
+  )
     where
       within : c.0 < length a.names
       within = omega (arith, c.1, length-map-range_with_len (letter_at a) 0 (length a.names))
 
       is : letter_at a c.0 ≡ x
       is = sym (get_or-map-range_with_len (letter_at a) 0 (length a.names) c.0 c.0 x within
-            (omega arith)) ∙ c.2
+          (omega arith)) ∙ c.2
 
   -- each of them is a letter that a program can have
   pub letter_of : IsAlphabet a → (x : Letter) → Contains (alphabet_letters a) x
@@ -74,15 +77,16 @@ module _ (a : Alphabet) where
       → AllByRecursion (λ t. t.coefficient < s.prime) f → WordsAre s (IsOver (alphabet_letters a)) f
       → AllByRecursion (λ t. IsWordIn a t.key) f
   words_in s [] d small o = tt
-  words_in s (t ∷ f) d small o =
-      (word_in t.key (o t.key (normal_leads s.prime t f d small.0).nonzero),
-        words_in s f d.2 small.1 (λ w n. go w n (key_dec same_word IsWordLess word_laws w t.key)))
+  words_in s (t ∷ f) d small o = (
+    word_in t.key (o t.key (normal_leads s.prime t f d small.0).nonzero),
+    words_in s f d.2 small.1 (λ w n. go w n (key_dec same_word IsWordLess word_laws w t.key)),
+  )
     where
       go : (w : Word) → ¬ IsZero s.prime (coefficient f w) → (w ≡ t.key) ⊎ (w ≢ t.key)
           → IsOver (alphabet_letters a) w
       go w n (inl e) =
           absurd (n (subst (IsZero s.prime) (sym (nothing_above t.key f d.1 w (inl e)))
-              (zero_number s.prime)))
+          (zero_number s.prime)))
       go w n (inr m) = o w (λ z. n (subst (IsZero s.prime) (other_coefficient t f w m) z))
 
   pub polynomial_in : (s : Setting) (f : Polynomial) → IsNormal s.prime f
@@ -103,8 +107,8 @@ generator_over s setting (suc i) = go (nat_order i (length s.setting.generators)
     listed l =
         polynomial_over s.alphabet s.setting (get_or s.setting.generators i [])
         (All-weaker (λ t. IsTextWord s.alphabet t.key) (λ t. IsWordIn s.alphabet t.key)
-          (λ t is. is.letters) (get_or s.setting.generators i [])
-          (setting.each i [] l).polynomial.words)
+        (λ t is. is.letters) (get_or s.setting.generators i [])
+        (setting.each i [] l).polynomial.words)
 
     past : length s.setting.generators ≤ i
         → WordsAre s.setting (IsOver (alphabet_letters s.alphabet))

@@ -25,5 +25,5 @@ pub lead_coefficient : (p : ℕ) (f : Polynomial) (t : Term Word) (g : Polynomia
 lead_coefficient p f t g e n =
     let normal : IsNormal p (t ∷ g) = subst (IsNormal p) e n in
     ap (λ h. coefficient h (leading p h)) e
-        ∙ (ap (coefficient (t ∷ g)) (leading-normal p t g normal)
-          ∙ first_coefficient t g normal.0.1)
+    ∙ (ap (coefficient (t ∷ g)) (leading-normal p t g normal)
+    ∙ first_coefficient t g normal.0.1)

@@ -23,8 +23,8 @@ module _ (s : Setting) (property : Word → Type 0) where
       go (inl z) (inr m) = k w m
       go (inl z) (inl y) =
           absurd (n (subst (IsZero s.prime) (sym (coefficient_polynomial_minus s f c g w))
-              (zero_add s.prime (coefficient f w) ((s.prime - 1) * c * coefficient g w) z
-                (zero_mul_left s.prime ((s.prime - 1) * c) (coefficient g w) y))))
+          (zero_add s.prime (coefficient f w) ((s.prime - 1) * c * coefficient g w) z
+          (zero_mul_left s.prime ((s.prime - 1) * c) (coefficient g w) y))))
 
   -- with one term more
   pub more_are : (c : ℕ) (w : Word) (f : Polynomial) → property w → WordsAre s property f
@@ -35,8 +35,8 @@ module _ (s : Setting) (property : Word → Type 0) where
       go (inl e) = subst property (sym e) l
       go (inr m) =
           h x (λ z. n (subst (IsZero s.prime)
-              (sym (omega (arith, ap (λ k. c * k) (at_other same_word IsWordLess word_laws x w m))))
-              z))
+          (sym (omega (arith, ap (λ k. c * k) (at_other same_word IsWordLess word_laws x w m))))
+          z))
 
   -- a multiple, where the property can be decided
   pub times_are : ((w : Word) → Decided (property w)) → (u : Word) (f : Polynomial) (v : Word)
@@ -47,15 +47,18 @@ module _ (s : Setting) (property : Word → Type 0) where
       each : ¬ property x → (w : Word) → IsZero s.prime (coefficient f w)
           ⊎ IsZero s.prime (is_at same_word x (u ++ (w ++ v)))
       each m w =
-          elim (zero_dec s.prime (coefficient f w))
-          [ inl z ↦ inl z | inr nz ↦ inr
-            (subst (IsZero s.prime) (sym (at_other same_word IsWordLess word_laws x (u ++ (w ++ v))
-                  (λ e. m (subst property (sym e) (h w nz))))) (zero_number s.prime)) ]
+          elim (zero_dec s.prime (coefficient f w)) [
+            | inl z ↦ inl z
+            | inr nz ↦ inr
+                (subst (IsZero s.prime) (sym (at_other same_word IsWordLess word_laws x
+                (u ++ (w ++ v))
+                (λ e. m (subst property (sym e) (h w nz))))) (zero_number s.prime))
+          ]
 
       go : Decided (property x) → property x
       go (inl p) = p
       go (inr m) =
           absurd (n (subst (IsZero s.prime)
-              (sym (linear_sum-map_keys (is_at same_word x) (λ w. u ++ (w ++ v)) f))
-              (linear_sum_zero same_word IsWordLess word_laws s.prime
-                (λ w. is_at same_word x (u ++ (w ++ v))) f (each m))))
+          (sym (linear_sum-map_keys (is_at same_word x) (λ w. u ++ (w ++ v)) f))
+          (linear_sum_zero same_word IsWordLess word_laws s.prime
+          (λ w. is_at same_word x (u ++ (w ++ v))) f (each m))))

@@ -60,18 +60,18 @@ module _ (s : NamedSetting) (setting : IsSetting s) (prime_field : IsField s.set
           → IsNormal P.setting.prime e.polynomial
       go r = kept_normal P.setting field r.first
           (λ d c. alive d (subst (λ (es : List Entry). Contains es d) (sym r.splits)
-              (Contains-append_left r.first r.rest d c))) (λ σ. IsLess P.setting σ e.signature)
+          (Contains-append_left r.first r.rest d c))) (λ σ. IsLess P.setting σ e.signature)
           r.reduces
 
   entry_usable : (e : Entry) → Contains state.entries e → IsUsable P.setting e
   entry_usable e k = record {
     normal = entry_normal e k;
     some = λ i. alive e k (subst (IsZeroPolynomial P.setting) (sym i)
-          (λ w. zero_number P.setting.prime));
+        (λ w. zero_number P.setting.prime));
     letters = λ w m. letters w (over.words e k w m);
     light = (let l : (α : Element)
-          × IsLabelled P.setting e.signature e.polynomial α = (invariant P field run).sound.entries
-          e k in labelled_limited P.setting e.signature e.polynomial l.0 l.1);
+        × IsLabelled P.setting e.signature e.polynomial α = (invariant P field run).sound.entries
+        e k in labelled_limited P.setting e.signature e.polynomial l.0 l.1);
   }
 
   listed : (k : ℕ) (e : Entry) → k < length state.entries
@@ -84,19 +84,24 @@ module _ (s : NamedSetting) (setting : IsSetting s) (prime_field : IsField s.set
   pub signature_usable : (σ : Monomial) → IsWithin P σ → IsOver (alphabet_letters s.alphabet) σ.left
       × IsOver (alphabet_letters s.alphabet) σ.right → IsUsableSignature P.setting σ
   signature_usable σ within o =
-      record { limited = omega (arith, limit, degree_within P.setting P.bound σ within.1);
-        left = letters σ.left o.0; right = letters σ.right o.1 }
+      record {
+        limited = omega (arith, limit, degree_within P.setting P.bound σ within.1);
+        left = letters σ.left o.0;
+        right = letters σ.right o.1;
+      }
 
   pub candidate_usable : (σ : Monomial) → IsCandidate P state σ → IsUsableSignature P.setting σ
   candidate_usable σ c =
       signature_usable σ c.0 (candidate_over P field (alphabet_letters s.alphabet) inputs state
-        alive over σ c)
+      alive over σ c)
 
   pub entry_signed : (e : Entry) → Contains state.entries e
       → IsUsableSignature P.setting e.signature
   entry_signed e k =
-      signature_usable e.signature ((invariant P field run).within e k) (over.left e k,
-        over.right e k)
+      signature_usable e.signature ((invariant P field run).within e k) (
+        over.left e k,
+        over.right e k,
+      )
 
   pub syzygy_signed : (h : Syzygy) → Contains state.syzygies h → IsWithin P h.signature
       × IsUsableSignature P.setting h.signature
@@ -104,8 +109,8 @@ module _ (s : NamedSetting) (setting : IsSetting s) (prime_field : IsField s.set
     syzygies_are P (IsWithin P) (λ k before since r σ d. d.0) run h k,
     signature_usable h.signature (syzygies_are P (IsWithin P) (λ k before since r σ d. d.0) run h k)
         (syzygies_are P (λ σ. IsOver (alphabet_letters s.alphabet) σ.left
-                × IsOver (alphabet_letters s.alphabet) σ.right)
-              (λ k before since r. candidate_over P field (alphabet_letters s.alphabet) inputs
-                before (invariant P field r).sound.nonzero
-                (run_over P field (alphabet_letters s.alphabet) inputs r)) run h k),
+        × IsOver (alphabet_letters s.alphabet) σ.right)
+        (λ k before since r. candidate_over P field (alphabet_letters s.alphabet) inputs
+        before (invariant P field r).sound.nonzero
+        (run_over P field (alphabet_letters s.alphabet) inputs r)) run h k),
   )

@@ -45,12 +45,17 @@ from_not_below s τ e u v f l = go (at_most_multiple s u v e.signature) f
         ((monomial_laws (generator_weight s)).trans τ e.signature τ m (under o))
 
 module _ (s : Setting) (first rest : List Entry) (τ : Monomial) (others : (e : Entry)
-      → Contains rest e → IsAtLeast s τ e) where
+    → Contains rest e → IsAtLeast s τ e) where
   -- a place of one of the first entries is one among all
   abbrev in_all : (w : Word) → Divisor s first w → Divisor s (first ++ rest) w
   in_all w d =
-      record { entry = d.entry; listed = in_front first rest d.entry d.listed;
-        left = d.left; right = d.right; spells = d.spells }
+      record {
+        entry = d.entry;
+        listed = in_front first rest d.entry d.listed;
+        left = d.left;
+        right = d.right;
+        spells = d.spells;
+      }
 
   first_at : (w : Word) (d : Divisor s (first ++ rest) w)
       → IsLess s (signature_at s (first ++ rest) w d) τ → (d.listed.0 < length first)
@@ -68,13 +73,23 @@ module _ (s : Setting) (first rest : List Entry) (τ : Monomial) (others : (e : 
   abbrev in_first : (w : Word) (d : Divisor s (first ++ rest) w)
       → IsLess s (signature_at s (first ++ rest) w d) τ → Divisor s first w
   in_first w d below =
-      record { entry = d.entry; listed = (d.listed.0, (first_at w d below).0,
-          (first_at w d below).1); left = d.left; right = d.right; spells = d.spells }
+      record {
+        entry = d.entry;
+        listed = (
+          d.listed.0,
+          (first_at w d below).0,
+          (first_at w d below).1,
+        );
+        left = d.left;
+        right = d.right;
+        spells = d.spells;
+      }
 
   pub regular_front : (w : Word) → RegularDivisor s (first ++ rest) τ w ↔ RegularDivisor s first τ w
-  regular_front w =
-      (λ r. record { divisor = in_first w r.divisor r.below; below = r.below },
-        λ r. record { divisor = in_all w r.divisor; below = r.below })
+  regular_front w = (
+    λ r. record { divisor = in_first w r.divisor r.below; below = r.below },
+    λ r. record { divisor = in_all w r.divisor; below = r.below },
+  )
 
   chosen_in_all : (w : Word) (d : Divisor s first w)
       → IsChosenDivisor s first (λ σ. IsLess s σ τ) w d
@@ -133,23 +148,23 @@ module _ (s : Setting) (σ : Monomial) where
   split_once [] rest [] rest' e low high low' high' = refl
   split_once [] rest (x ∷ first') rest' e low high low' high' =
       absurd (lesser_or_not x (low' x (0, omega arith, refl))
-        (high x (subst (λ l. Contains l x) (sym e) (0, omega arith, refl))))
+      (high x (subst (λ l. Contains l x) (sym e) (0, omega arith, refl))))
   split_once (x ∷ first) rest [] rest' e low high low' high' =
       absurd (lesser_or_not x (low x (0, omega arith, refl))
-        (high' x (subst (λ l. Contains l x) e (0, omega arith, refl))))
+      (high' x (subst (λ l. Contains l x) e (0, omega arith, refl))))
   split_once (x ∷ first) rest (y ∷ first') rest' e low high low' high' =
       ap₂ (λ z l. z ∷ l) (ap (λ l. get_or l 0 x) e)
       (split_once first rest first' rest' (ap behind e)
-        (λ z c. low z (suc c.0, omega (arith, c.1), c.2)) high
-        (λ z c. low' z (suc c.0, omega (arith, c.1), c.2)) high')
+      (λ z c. low z (suc c.0, omega (arith, c.1), c.2)) high
+      (λ z c. low' z (suc c.0, omega (arith, c.1), c.2)) high')
 
 module _ (s : Setting) (field : IsField s.prime) (entries : List Entry) (alive : (e : Entry)
-      → Contains entries e → ¬ IsZeroPolynomial s e.polynomial) (σ : Monomial) where
+    → Contains entries e → ¬ IsZeroPolynomial s e.polynomial) (σ : Monomial) where
   pub rebuilds_once : (t t' : Trace) (f f' : Polynomial) → Rebuilds s entries σ t f
       → Rebuilds s entries σ t' f' → (t ≡ t') × (f ≡ f')
   rebuilds_once t t' f f' r r' =
       reduced (starts_unique s field r.first σ r.starts
-        (subst (λ l. Starts s l σ r'.start t'.start) (sym same) r'.starts))
+      (subst (λ l. Starts s l σ r'.start t'.start) (sym same) r'.starts))
     where
       same : r.first ≡ r'.first
       same = split_once s σ r.first r.rest r'.first r'.rest (sym r.splits ∙ r'.splits) r.lesser
@@ -162,8 +177,8 @@ module _ (s : Setting) (field : IsField s.prime) (entries : List Entry) (alive :
       reduced : (r.start ≡ r'.start) × (t.start ≡ t'.start) → (t ≡ t') × (f ≡ f')
       reduced (a, b) =
           join (reduction_unique s field r.first first_alive (λ κ. IsLess s κ σ) r.reduces
-            (subst (λ l. ReductionAt s l σ r'.start f' t'.steps) (sym same) r'.reduces)
-            (record { at = λ w. ap (λ h. coefficient h w % s.prime) a }))
+          (subst (λ l. ReductionAt s l σ r'.start f' t'.steps) (sym same) r'.reduces)
+          (record { at = λ w. ap (λ h. coefficient h w % s.prime) a }))
         where
           join : (f ≡ f') × (t.steps ≡ t'.steps) → (t ≡ t') × (f ≡ f')
           join (k, l) = (λ i. record { start = b i; steps = l i }, k)
@@ -175,10 +190,16 @@ more : (s : Setting) (entries : List Entry) (σ : Monomial) (trace : Trace) (res
     → Rebuilds s entries σ trace result → (new : Entry) → IsAtLeast s σ new
     → Rebuilds s (entries ++ (new ∷ [])) σ trace result
 more s entries σ trace result r new f =
-    record { first = r.first; rest = r.rest ++ (new ∷ []);
+    record {
+      first = r.first;
+      rest = r.rest ++ (new ∷ []);
       splits = ap (λ l. l ++ (new ∷ [])) r.splits ∙ append_assoc r.first r.rest (new ∷ []);
-      lesser = r.lesser; others = λ e c. go e (Contains-push_cases r.rest new e c);
-      start = r.start; starts = r.starts; reduces = r.reduces }
+      lesser = r.lesser;
+      others = λ e c. go e (Contains-push_cases r.rest new e c);
+      start = r.start;
+      starts = r.starts;
+      reduces = r.reduces;
+    }
   where
     go : (e : Entry) → Contains r.rest e ⊎ (new ≡ e) → IsAtLeast s σ e
     go e (inl c) = r.others e c
@@ -229,21 +250,35 @@ module _ (P : Problem) (field : IsField P.setting.prime) (state : State) (last :
       → ReductionAt P.setting state.entries τ f result steps
       → Rebuilds P.setting state.entries τ (record { start = start; steps = steps }) result
   now {f} starts reduction =
-      record { first = state.entries;
-        rest = []; splits = sym (append-nil state.entries);
-        lesser = below; others = λ e c. absurd (omega (arith, c.1));
-        start = f; starts = starts; reduces = reduction }
+      record {
+        first = state.entries;
+        rest = [];
+        splits = sym (append-nil state.entries);
+        lesser = below;
+        others = λ e c. absurd (omega (arith, c.1));
+        start = f;
+        starts = starts;
+        reduces = reduction;
+      }
 
   rebuilt_step : {o : Outcome} → Handles P.setting state τ o
       → Rebuilt P (state_after state τ o) (Some τ)
   rebuilt_step (Handles.is_covered k) =
-      record { entries = old.entries;
-        syzygies = old.syzygies; reached = still;
-        entries_ascend = old.entries_ascend; syzygies_ascend = old.syzygies_ascend }
+      record {
+        entries = old.entries;
+        syzygies = old.syzygies;
+        reached = still;
+        entries_ascend = old.entries_ascend;
+        syzygies_ascend = old.syzygies_ascend;
+      }
   rebuilt_step (Handles.is_settled n u w d b m) =
-      record { entries = old.entries;
-        syzygies = old.syzygies; reached = still;
-        entries_ascend = old.entries_ascend; syzygies_ascend = old.syzygies_ascend }
+      record {
+        entries = old.entries;
+        syzygies = old.syzygies;
+        reached = still;
+        entries_ascend = old.entries_ascend;
+        syzygies_ascend = old.syzygies_ascend;
+      }
   rebuilt_step (Handles.is_syzygy n {start = start} {steps = steps} starts reduction) = record {
     entries = old.entries;
     syzygies = λ h c. each h (Contains-push_cases state.syzygies new h c);
@@ -268,52 +303,78 @@ module _ (P : Problem) (field : IsField P.setting.prime) (state : State) (last :
       reach h (inl c) = still h c
       reach h (inr i) = inl (ap (λ g. g.signature) (sym i))
   rebuilt_step (Handles.is_entry n {kept = kept} {t = t} {start = start} {steps = steps} starts
-        reduction) = record {
-    entries =
-        λ e c. each e (Contains-push_cases state.entries
-          (record { signature = τ; polynomial = t ∷ kept;
-              trace = record { start = start; steps = steps } }) e c);
-    syzygies =
-        λ h c. more P.setting state.entries h.signature h.trace [] (old.syzygies h c)
-        (record { signature = τ; polynomial = t ∷ kept;
-            trace = record { start = start; steps = steps } }) (inr (below' h c));
-    reached = still;
-    entries_ascend =
-        ascend_push P.setting (λ e. e.signature) state.entries
-        (record { signature = τ; polynomial = t ∷ kept;
-            trace = record { start = start; steps = steps } }) old.entries_ascend below;
-    syzygies_ascend = old.syzygies_ascend;
-  }
+      reduction) = record {
+        entries =
+            λ e c. each e (Contains-push_cases state.entries
+            (record {
+              signature = τ;
+              polynomial = t ∷ kept;
+              trace = record { start = start; steps = steps };
+            }) e c);
+        syzygies =
+            λ h c. more P.setting state.entries h.signature h.trace [] (old.syzygies h c)
+            (record {
+              signature = τ;
+              polynomial = t ∷ kept;
+              trace = record { start = start; steps = steps };
+            }) (inr (below' h c));
+        reached = still;
+        entries_ascend =
+            ascend_push P.setting (λ e. e.signature) state.entries
+            (record {
+              signature = τ;
+              polynomial = t ∷ kept;
+              trace = record { start = start; steps = steps };
+            }) old.entries_ascend below;
+        syzygies_ascend = old.syzygies_ascend;
+      }
     where
       each : (e : Entry) → Contains state.entries e
-          ⊎ (record { signature = τ; polynomial = t ∷ kept;
-              trace = record { start = start; steps = steps } } ≡ e)
+          ⊎ (record {
+            signature = τ;
+            polynomial = t ∷ kept;
+            trace = record { start = start; steps = steps };
+          } ≡ e)
           → Rebuilds P.setting (state.entries
-            ++ (record { signature = τ; polynomial = t ∷ kept;
-                trace = record { start = start; steps = steps } } ∷ [])) e.signature e.trace
+          ++ (record {
+            signature = τ;
+            polynomial = t ∷ kept;
+            trace = record { start = start; steps = steps };
+          } ∷ [])) e.signature e.trace
           e.polynomial
       each e (inl c) =
           more P.setting state.entries e.signature e.trace e.polynomial (old.entries e c)
-          (record { signature = τ; polynomial = t ∷ kept;
-              trace = record { start = start; steps = steps } }) (inr (below e c))
+          (record {
+            signature = τ;
+            polynomial = t ∷ kept;
+            trace = record { start = start; steps = steps };
+          }) (inr (below e c))
       each e (inr i) =
           subst (λ g. Rebuilds P.setting
-            (state.entries ++ (record { signature = τ;
-                  polynomial = t ∷ kept; trace = record { start = start; steps = steps } } ∷ []))
-            g.signature g.trace g.polynomial) i
+          (state.entries ++ (record {
+            signature = τ;
+            polynomial = t ∷ kept;
+            trace = record { start = start; steps = steps };
+          } ∷ []))
+          g.signature g.trace g.polynomial) i
           (more P.setting state.entries τ (record { start = start; steps = steps }) (t ∷ kept)
-            (now starts reduction) (record { signature = τ;
-                polynomial = t ∷ kept; trace = record { start = start; steps = steps } })
-            (inl refl))
+          (now starts reduction) (record {
+            signature = τ;
+            polynomial = t ∷ kept;
+            trace = record { start = start; steps = steps };
+          })
+          (inl refl))
 
 pub rebuilt : (P : Problem) → IsField P.setting.prime
     → {n : ℕ} {state : State} {last : Option Monomial} → SequentialRun P n state last
     → Rebuilt P state last
 rebuilt P field SequentialRun.opened =
-    record { entries = λ e c. absurd (omega (arith, c.1));
+    record {
+      entries = λ e c. absurd (omega (arith, c.1));
       syzygies = λ h c. absurd (omega (arith, c.1));
       reached = λ h c. absurd (omega (arith, c.1));
       entries_ascend = λ e e' k k' l. absurd (omega (arith, k.1));
-      syzygies_ascend = λ e e' k k' l. absurd (omega (arith, k.1)) }
+      syzygies_ascend = λ e e' k k' l. absurd (omega (arith, k.1));
+    }
 rebuilt P field (SequentialRun.handled {state = state} {last = last} run τ next o h) =
     rebuilt_step P field state last (invariant P field run) (rebuilt P field run) τ next h

@@ -31,14 +31,14 @@ from_up w x y (inl e) l = inr (subst (λ z. IsWordLess z y) e l)
 from_up w x y (inr h) l = inr (word_trans w x y h l)
 
 module _ (s : Setting) (field : IsField s.prime) (entries : List Entry) (nonzero : (e : Entry)
-      → Contains entries e → ¬ IsZeroPolynomial s e.polynomial) (set : Monomial → Type 0) where
+    → Contains entries e → ¬ IsZeroPolynomial s e.polynomial) (set : Monomial → Type 0) where
   pub multiple_leads_at : (w : Word) (d : Divisor s entries w)
       → IsLeadingWord s (multiple_at s entries w d) w
   multiple_leads_at w d =
       subst (IsLeadingWord s (multiple_at s entries w d)) d.spells
       (polynomial_times_leads s d.left d.entry.polynomial d.right
-        (leading s.prime d.entry.polynomial)
-        (lead_leads s.prime d.entry.polynomial (nonzero d.entry d.listed)))
+      (leading s.prime d.entry.polynomial)
+      (lead_leads s.prime d.entry.polynomial (nonzero d.entry d.listed)))
 
   positive : 0 < s.prime
   positive = omega (arith, field.above_one)
@@ -71,11 +71,11 @@ module _ (s : Setting) (field : IsField s.prime) (entries : List Entry) (nonzero
   take_off f w d k g over q x (inl i) =
       subst (λ y. IsZero s.prime (coefficient (minus s.prime f k g) y)) (sym i)
       (subst (IsZero s.prime) (sym (coefficient_polynomial_minus s f k g w ∙ omega arith))
-        (zero_from_same s.prime (coefficient f w) (k * coefficient g w) positive (sym q)))
+      (zero_from_same s.prime (coefficient f w) (k * coefficient g w) positive (sym q)))
   take_off f w d k g over q x (inr l) =
       subst (IsZero s.prime) (sym (coefficient_polynomial_minus s f k g x))
       (zero_add s.prime (coefficient f x) ((s.prime - 1) * k * coefficient g x) (d.above x l)
-        (zero_mul_left s.prime ((s.prime - 1) * k) (coefficient g x) (over x l)))
+      (zero_mul_left s.prime ((s.prime - 1) * k) (coefficient g x) (over x l)))
 
   pub subtract_whole : (f : Polynomial) (w : Word) (v : Divisor s entries w) (c : ℕ)
       → c * coefficient v.entry.polynomial (leading s.prime v.entry.polynomial) % s.prime
@@ -85,9 +85,9 @@ module _ (s : Setting) (field : IsField s.prime) (entries : List Entry) (nonzero
       times_mod s.prime c (coefficient (multiple_at s entries w v) w)
       (coefficient v.entry.polynomial (leading s.prime v.entry.polynomial))
       (subst (λ x. coefficient (multiple_at s entries w v) x % s.prime ≡ coefficient
-          v.entry.polynomial (leading s.prime v.entry.polynomial) % s.prime) v.spells
-        (polynomial_times_coefficient s v.left v.entry.polynomial v.right
-          (leading s.prime v.entry.polynomial))) ∙ q
+      v.entry.polynomial (leading s.prime v.entry.polynomial) % s.prime) v.spells
+      (polynomial_times_coefficient s v.left v.entry.polynomial v.right
+      (leading s.prime v.entry.polynomial))) ∙ q
 
   pub keep_whole : (f : Polynomial) (w : Word) (c : ℕ) → c ≡ coefficient f w % s.prime
       → 1 * coefficient (record { coefficient = c; key = w } ∷ []) w % s.prime ≡ coefficient f w
@@ -109,7 +109,7 @@ module _ (s : Setting) (field : IsField s.prime) (entries : List Entry) (nonzero
       go (inr (inr l)) =
           subst (IsZero s.prime) (sym (coefficient_polynomial_minus s f k g x))
           (zero_add s.prime (coefficient f x) ((s.prime - 1) * k * coefficient g x) (h x u)
-            (zero_mul_left s.prime ((s.prime - 1) * k) (coefficient g x) (over x l)))
+          (zero_mul_left s.prime ((s.prime - 1) * k) (coefficient g x) (over x l)))
 
   -- where f has nothing on a set of words closed upwards, nothing is kept there
   pub kept_up : (U : Word → Type 0) → OnUp U → {f kept : Polynomial} {steps : List Step}
@@ -118,11 +118,11 @@ module _ (s : Setting) (field : IsField s.prime) (entries : List Entry) (nonzero
   kept_up U up (Reduction.finished n) h x u = zero_number s.prime
   kept_up U up (Reduction.subtract {f = f} w d v chosen c small q rest) h x u =
       kept_up U up rest (off_up U up f w d c (multiple_at s entries w v)
-        (multiple_leads_at w v).above h) x u
+      (multiple_leads_at w v).above h) x u
   kept_up U up (Reduction.keep {f = f} {kept = kept} w d not_any c e rest) h x u =
       subst (IsZero s.prime) (sym (omega (arith, single_other c w x other)))
       (kept_up U up rest (off_up U up f w d 1 (record { coefficient = c; key = w } ∷ [])
-          (single_over c w) h) x u)
+      (single_over c w) h) x u)
     where
       other : x ≢ w
       other i = d.nonzero (h w (subst U i u))
@@ -137,10 +137,15 @@ module _ (s : Setting) (field : IsField s.prime) (entries : List Entry) (nonzero
       go (key_dec same_word IsWordLess word_laws x w) (kept_clear rest x)
     where
       go : (x ≡ w) ⊎ (x ≢ w) → (¬ IsZero s.prime (coefficient kept x) → (d : Divisor s entries x)
-            → ¬ set (signature_at s entries x d)) → ⊥
+          → ¬ set (signature_at s entries x d)) → ⊥
       go (inl i) f =
-          not_any (record { entry = v.entry;
-              listed = v.listed; left = v.left; right = v.right; spells = v.spells ∙ i }) a
+          not_any (record {
+            entry = v.entry;
+            listed = v.listed;
+            left = v.left;
+            right = v.right;
+            spells = v.spells ∙ i;
+          }) a
       go (inr n) f =
           f (λ z. nz (subst (IsZero s.prime) (sym (omega (arith, single_other c w x n))) z)) v a
 
@@ -152,19 +157,19 @@ module _ (s : Setting) (field : IsField s.prime) (entries : List Entry) (nonzero
   kept_leads (Reduction.keep {f = f} {kept = kept} w d not_any c e rest) t tail i =
       subst (λ g. IsLeadingWord s g t.key) i
       (subst (IsLeadingWord s (record { coefficient = c; key = w } ∷ kept)) (cc) (record {
-    nonzero =
-        λ z. d.nonzero (sym (mod-mod (coefficient f w) s.prime)
-          ∙ (ap (λ n. n % s.prime) (sym e) ∙ subst (IsZero s.prime) (single_whole c w)
+        nonzero =
+            λ z. d.nonzero (sym (mod-mod (coefficient f w) s.prime)
+            ∙ (ap (λ n. n % s.prime) (sym e) ∙ subst (IsZero s.prime) (single_whole c w)
             (zero_rest s.prime (coefficient kept w) (c * is_at same_word w w)
-              (subst (IsZero s.prime) (omega arith) z) (low w (inl refl)))));
-    above = λ x l. subst (IsZero s.prime)
-        (sym (omega (arith, single_other c w x (above_other w x l)))) (low x (inr l));
-  }))
+            (subst (IsZero s.prime) (omega arith) z) (low w (inl refl)))));
+        above = λ x l. subst (IsZero s.prime)
+            (sym (omega (arith, single_other c w x (above_other w x l)))) (low x (inr l));
+      }))
     where
       low : (x : Word) → From w x → IsZero s.prime (coefficient kept x)
       low = kept_up (From w) (from_up w) rest
           (take_off f w d 1 (record { coefficient = c; key = w } ∷ []) (single_over c w)
-            (keep_whole f w c e))
+          (keep_whole f w c e))
 
   -- where the greatest word has a divisor in the set, all that is kept is less
   pub kept_less : {f kept : Polynomial} {steps : List Step} → Reduction s entries set f kept steps
@@ -175,14 +180,18 @@ module _ (s : Setting) (field : IsField s.prime) (entries : List Entry) (nonzero
   kept_less (Reduction.subtract {f = f} w' d' v' chosen c small q rest) w d v a x u =
       kept_up (From w) (from_up w) rest
       (λ y k. take_off f w' d' c (multiple_at s entries w' v') (multiple_leads_at w' v').above
-        (subtract_whole f w' v' c q) y
-        (subst (λ z. From z y) (lead_unique same_word IsWordLess word_laws s.prime f w w' d d') k))
+      (subtract_whole f w' v' c q) y
+      (subst (λ z. From z y) (lead_unique same_word IsWordLess word_laws s.prime f w w' d d') k))
       x u
   kept_less (Reduction.keep {f = f} w' d' not_any c e rest) w d v a x u =
-      absurd (not_any (record { entry = v.entry;
-            listed = v.listed; left = v.left;
-            right = v.right; spells = v.spells ∙ lead_unique same_word IsWordLess word_laws s.prime
-            f w w' d d' }) a)
+      absurd (not_any (record {
+        entry = v.entry;
+        listed = v.listed;
+        left = v.left;
+        right = v.right;
+        spells = v.spells ∙ lead_unique same_word IsWordLess word_laws s.prime
+            f w w' d d';
+      }) a)
 
   -- a word kept after w is a word of the whole
   pub kept_tail : (f kept : Polynomial) (steps : List Step) (w : Word) → IsLeadingWord s f w
@@ -195,6 +204,6 @@ module _ (s : Setting) (field : IsField s.prime) (entries : List Entry) (nonzero
       go : (x ≡ w) ⊎ (x ≢ w) → ⊥
       go (inl i) =
           nz (kept_up (From w) (from_up w) rest
-            (take_off f w d 1 (record { coefficient = c; key = w } ∷ []) (single_over c w)
-              (keep_whole f w c e)) x (inl i))
+          (take_off f w d 1 (record { coefficient = c; key = w } ∷ []) (single_over c w)
+          (keep_whole f w c e)) x (inl i))
       go (inr n) = nz (subst (IsZero s.prime) (omega (arith, single_other c w x n)) z)

@@ -23,7 +23,7 @@ module _ (s : Setting) (field : IsField s.prime) (entries : List Entry)
   ended : Reduction s entries set f kept steps
   ended = reduced_end s entries set f kept steps h reached
       (subst (λ g. (w : Word) → IsZero s.prime (coefficient g w)) (sym nothing)
-        (λ w. zero_number s.prime))
+      (λ w. zero_number s.prime))
 
   pub whole_normal : IsNormal s.prime kept
   whole_normal = kept_normal s field entries (usable_nonzero s entries usable) set ended

@@ -96,14 +96,20 @@ multiple_small s u v w f small lead spells h = times_are s IsSmall small_dec u f
 
     each : (x : Word) → ¬ IsZero s.prime (coefficient f x) → IsSmall (u ++ (x ++ v))
     each x n = (
-      omega (arith, whole.0, weight-append u (leading s.prime f ++ v),
-            weight-append (leading s.prime f) v, weight-append u (x ++ v), weight-append x v,
-            lighter x (below_lead same_word IsWordLess word_laws s.prime f (leading s.prime f) x
-              lead n)),
+      omega (
+        arith,
+        whole.0,
+        weight-append u (leading s.prime f ++ v),
+        weight-append (leading s.prime f) v,
+        weight-append u (x ++ v),
+        weight-append x v,
+        lighter x (below_lead same_word IsWordLess word_laws s.prime f (leading s.prime f) x
+            lead n),
+      ),
       letters-append 64 100 u (x ++ v) (letters_front 64 100 u (leading s.prime f ++ v) whole.1)
           (letters-append 64 100 x v (small x n)
-            (letters_back 64 100 (leading s.prime f) v
-              (letters_back 64 100 u (leading s.prime f ++ v) whole.1))),
+          (letters_back 64 100 (leading s.prime f) v
+          (letters_back 64 100 u (leading s.prime f ++ v) whole.1))),
     )
 
 -- so has the difference
@@ -123,9 +129,17 @@ few_letters u v t f n less h =
     rest : (g : Polynomial) → AllLess t.key g
         → AllByRecursion (λ x. length u + length x.key + length v ≤ n) g
     rest [] a = tt
-    rest (x ∷ g) a =
-        (omega (arith, h, length_at_most u, length_at_most v, length_at_most x.key,
-            less_weighs x.key t.key a.0), rest g a.1)
+    rest (x ∷ g) a = (
+      omega (
+        arith,
+        h,
+        length_at_most u,
+        length_at_most v,
+        length_at_most x.key,
+        less_weighs x.key t.key a.0,
+      ),
+      rest g a.1,
+    )
 
 -- the first term of a normal form leads, and its coefficient is the whole one
 pub first_leads : (s : Setting) (t : Term Word) (f : Polynomial) → IsNormal s.prime (t ∷ f)
@@ -161,5 +175,8 @@ pub usable_lead : (s : Setting) (e : Entry) → IsUsable s e
     → IsLeadingWord s e.polynomial (leading s.prime e.polynomial)
 usable_lead s e u =
     lead_leads s.prime e.polynomial
-    (usable_nonzero s (e ∷ []) (All-from_recursion (IsUsable s) (e ∷ []) (u, tt)) e (0, omega arith,
-        refl))
+    (usable_nonzero s (e ∷ []) (All-from_recursion (IsUsable s) (e ∷ []) (u, tt)) e (
+      0,
+      omega arith,
+      refl,
+    ))

@@ -69,8 +69,8 @@ module _ (P : NamedProblem) (is : IsProblem P) (prime : IsPrime P.problem.settin
   all_usable k e l =
       usable_like P.problem.setting (entry x listed) x (entry_alike x listed)
       (subst (IsUsable P.problem.setting) (entry_listed x listed).2
-        (run_usable (setting_of P) is.setting field P.problem refl limit r.runs k (entry x listed)
-          (entry_listed x listed).1))
+      (run_usable (setting_of P) is.setting field P.problem refl limit r.runs k (entry x listed)
+      (entry_listed x listed).1))
     where
       x : Entry
       x = get_or state.entries k e
@@ -82,27 +82,28 @@ module _ (P : NamedProblem) (is : IsProblem P) (prime : IsPrime P.problem.settin
       × IsUsableSignature P.problem.setting e.signature
   entry_within e k =
       subst (λ (x : Entry). IsWithin P.problem x.signature
-        × IsUsableSignature P.problem.setting x.signature) (entry_alike e k)
-      ((invariant P.problem field r.runs).within (entry e k) (entry_listed e k),
+      × IsUsableSignature P.problem.setting x.signature) (entry_alike e k) (
+        (invariant P.problem field r.runs).within (entry e k) (entry_listed e k),
         entry_signed (setting_of P) is.setting field P.problem refl limit r.runs (entry e k)
-        (entry_listed e k))
+            (entry_listed e k),
+      )
 
   syzygy_within : (h : Syzygy) → Contains state.syzygies h → IsWithin P.problem h.signature
       × IsUsableSignature P.problem.setting h.signature
   syzygy_within h k =
       subst (λ (x : Syzygy). IsWithin P.problem x.signature
-        × IsUsableSignature P.problem.setting x.signature) (syzygy_alike h k)
+      × IsUsableSignature P.problem.setting x.signature) (syzygy_alike h k)
       (syzygy_signed (setting_of P) is.setting field P.problem refl limit r.runs (syzygy h k)
-        (syzygy_listed h k))
+      (syzygy_listed h k))
 
   entries_ascend : (e e' : Entry) (k : Contains state.entries e) (k' : Contains state.entries e')
       → k.0 < k'.0 → IsLess P.problem.setting e.signature e'.signature
   entries_ascend e e' k k' l =
       subst (λ (x : Entry). IsLess P.problem.setting e.signature x.signature) (entry_alike e' k')
       (subst (λ (x : Entry). IsLess P.problem.setting x.signature (entry e' k').signature)
-        (entry_alike e k)
+      (entry_alike e k)
       ((rebuilt P.problem field r.runs).entries_ascend (entry e k) (entry e' k') (entry_listed e k)
-            (entry_listed e' k') l))
+      (entry_listed e' k') l))
 
   syzygies_ascend : (h h' : Syzygy) (k : Contains state.syzygies h)
       (k' : Contains state.syzygies h') → k.0 < k'.0
@@ -110,19 +111,27 @@ module _ (P : NamedProblem) (is : IsProblem P) (prime : IsPrime P.problem.settin
   syzygies_ascend h h' k k' l =
       subst (λ (x : Syzygy). IsLess P.problem.setting h.signature x.signature) (syzygy_alike h' k')
       (subst (λ (x : Syzygy). IsLess P.problem.setting x.signature (syzygy h' k').signature)
-        (syzygy_alike h k)
+      (syzygy_alike h k)
       ((rebuilt P.problem field r.runs).syzygies_ascend (syzygy h k) (syzygy h' k')
-            (syzygy_listed h k) (syzygy_listed h' k') l))
+      (syzygy_listed h k) (syzygy_listed h' k') l))
 
   counted : n ≡ state.covered + state.settled + length state.entries + length state.syzygies
   counted =
-      omega (arith, counts P.problem r.runs, ap (λ (t : State). t.covered) r.stands,
+      omega (
+        arith,
+        counts P.problem r.runs,
+        ap (λ (t : State). t.covered) r.stands,
         ap (λ (t : State). t.settled) r.stands,
         same_length untraced_entry state.entries r.run.entries es,
-        same_length untraced_syzygy state.syzygies r.run.syzygies hs)
+        same_length untraced_syzygy state.syzygies r.run.syzygies hs,
+      )
 
   pub facts : SnapshotFacts P.problem n state
-  facts = record { usable = all_usable;
-        entries_within = entry_within;
-        syzygies_within = syzygy_within;
-        entries_ascend = entries_ascend; syzygies_ascend = syzygies_ascend; counted = counted }
+  facts = record {
+    usable = all_usable;
+    entries_within = entry_within;
+    syzygies_within = syzygy_within;
+    entries_ascend = entries_ascend;
+    syzygies_ascend = syzygies_ascend;
+    counted = counted;
+  }

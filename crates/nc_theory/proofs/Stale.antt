@@ -36,9 +36,14 @@ pub front_or_later : {X : Type 0} → (xs ys : List X) (x : X) → (k : Contains
 front_or_later xs ys x k = go (nat_order k.0 (length xs))
   where
     later : length xs ≤ k.0 → Contains ys x × (length xs ≤ k.0)
-    later l =
-        ((k.0 - length xs, omega (arith, k.1, length-append xs ys),
-            sym (get_or-append_right xs ys (length xs) k.0 x refl l) ∙ k.2), l)
+    later l = (
+      (
+        k.0 - length xs,
+        omega (arith, k.1, length-append xs ys),
+        sym (get_or-append_right xs ys (length xs) k.0 x refl l) ∙ k.2,
+      ),
+      l,
+    )
 
     go : (k.0 < length xs) ⊎ ((k.0 ≡ length xs) ⊎ (length xs < k.0))
         → ((l : Contains xs x) × (l.0 ≡ k.0)) ⊎ (Contains ys x × (length xs ≤ k.0))
@@ -47,7 +52,7 @@ front_or_later xs ys x k = go (nat_order k.0 (length xs))
     go (inr (inr l)) = inr (later (omega arith))
 
 module _ (s : Setting) (field : IsField s.prime) (old : State) (nonzero : (e : Entry)
-      → Contains old.entries e → ¬ IsZeroPolynomial s e.polynomial) (es : List Entry)
+    → Contains old.entries e → ¬ IsZeroPolynomial s e.polynomial) (es : List Entry)
     (hs : List Syzygy) (covered settled : ℕ) where
   abbrev pub now : State
   now = extended old es hs covered settled
@@ -55,23 +60,39 @@ module _ (s : Setting) (field : IsField s.prime) (old : State) (nonzero : (e : E
   -- the divisor in the longer list, under its number
   abbrev on : (w : Word) → Divisor s old.entries w → Divisor s (old.entries ++ es) w
   on w d =
-      record { entry = d.entry; listed = in_front old.entries es d.entry d.listed;
-        left = d.left; right = d.right; spells = d.spells }
+      record {
+        entry = d.entry;
+        listed = in_front old.entries es d.entry d.listed;
+        left = d.left;
+        right = d.right;
+        spells = d.spells;
+      }
 
   back : (w : Word) (d : Divisor s (old.entries ++ es) w)
       → ((e : Divisor s old.entries w) × (e.entry ≡ d.entry) × (e.listed.0 ≡ d.listed.0)
-        × (e.left ≡ d.left) × (e.right ≡ d.right))
+      × (e.left ≡ d.left) × (e.right ≡ d.right))
       ⊎ (Contains es d.entry × (length old.entries ≤ d.listed.0))
   back w d = go (front_or_later old.entries es d.entry d.listed)
     where
       go : ((l : Contains old.entries d.entry) × (l.0 ≡ d.listed.0))
           ⊎ (Contains es d.entry × (length old.entries ≤ d.listed.0))
           → ((e : Divisor s old.entries w) × (e.entry ≡ d.entry) × (e.listed.0 ≡ d.listed.0)
-            × (e.left ≡ d.left) × (e.right ≡ d.right))
+          × (e.left ≡ d.left) × (e.right ≡ d.right))
           ⊎ (Contains es d.entry × (length old.entries ≤ d.listed.0))
       go (inl (l, e)) =
-          inl (record { entry = d.entry;
-              listed = l; left = d.left; right = d.right; spells = d.spells }, refl, e, refl, refl)
+          inl (
+            record {
+              entry = d.entry;
+              listed = l;
+              left = d.left;
+              right = d.right;
+              spells = d.spells;
+            },
+            refl,
+            e,
+            refl,
+            refl,
+          )
       go (inr r) = inr r
 
   covered_or_newly : (τ : Monomial) → Covered s now τ → Covered s old τ ⊎ NewlyCovered s old es hs τ
@@ -95,18 +116,29 @@ module _ (s : Setting) (field : IsField s.prime) (old : State) (nonzero : (e : E
           both (inl d) (inr c) =
               inr (record { by = k.by; divides = k.divides; newer = inr (t, inr c) })
           both (inl d) (inl c) =
-              inl (record { by = k.by; is_syzygy = inr
-                  (record { first = t.first; first_listed = d;
-                      second = t.second; second_listed = c; m = t.m; greater = t.greater });
-                  divides = k.divides })
+              inl (record {
+                by = k.by;
+                is_syzygy = inr
+                    (record {
+                      first = t.first;
+                      first_listed = d;
+                      second = t.second;
+                      second_listed = c;
+                      m = t.m;
+                      greater = t.greater;
+                    });
+                divides = k.divides;
+              })
 
   module _ (τ : Monomial) where
     chosen_on : (w : Word) (d : Divisor s old.entries w)
         → IsChosenDivisor s old.entries (λ σ. IsLess s σ τ) w d
         → IsChosenDivisor s (old.entries ++ es) (λ σ. IsLess s σ τ) w (on w d)
     chosen_on w d chosen =
-        record { allowed = chosen.allowed;
-          least = λ e a. go e a (front_or_later old.entries es e.entry e.listed) }
+        record {
+          allowed = chosen.allowed;
+          least = λ e a. go e a (front_or_later old.entries es e.entry e.listed);
+        }
       where
         go : (e : Divisor s (old.entries ++ es) w)
             → IsLess s (signature_at s (old.entries ++ es) w e) τ
@@ -116,17 +148,24 @@ module _ (s : Setting) (field : IsField s.prime) (old : State) (nonzero : (e : E
             ⊎ ((d.listed.0 + 1 ≡ e.listed.0 + 1) × (length d.left ≤ length e.left))
         go e a (inl (l, i)) =
             subst (λ n. (d.listed.0 + 1 < n + 1)
-              ⊎ ((d.listed.0 + 1 ≡ n + 1) × (length d.left ≤ length e.left))) i
-            (chosen.least (record { entry = e.entry;
-                  listed = l; left = e.left; right = e.right; spells = e.spells }) a)
+            ⊎ ((d.listed.0 + 1 ≡ n + 1) × (length d.left ≤ length e.left))) i
+            (chosen.least (record {
+              entry = e.entry;
+              listed = l;
+              left = e.left;
+              right = e.right;
+              spells = e.spells;
+            }) a)
         go e a (inr (c, b)) = inl (omega (arith, b, d.listed.1))
 
     best_on : (w : Word) (d : Divisor s old.entries w) → IsBestMultiple s old.entries τ w d
         → ((v : Word) → NewMultiple s old es hs τ v → ¬ IsWordLess v w)
         → IsBestMultiple s (old.entries ++ es) τ w (on w d)
     best_on w d best none =
-        record { signed = best.signed;
-          least = λ v e i. go v e i (front_or_later old.entries es e.entry e.listed) }
+        record {
+          signed = best.signed;
+          least = λ v e i. go v e i (front_or_later old.entries es e.entry e.listed);
+        }
       where
         go : (v : Word) (e : Divisor s (old.entries ++ es) v)
             → signature_at s (old.entries ++ es) v e ≡ τ
@@ -135,8 +174,13 @@ module _ (s : Setting) (field : IsField s.prime) (old : State) (nonzero : (e : E
             ⊎ ((w ≡ v) × (d.listed.0 + 1 ≤ e.listed.0 + 1))
         go v e i (inl (l, j)) =
             subst (λ n. IsWordLess w v ⊎ ((w ≡ v) × (d.listed.0 + 1 ≤ n + 1))) j
-            (best.least v (record { entry = e.entry;
-                  listed = l; left = e.left; right = e.right; spells = e.spells }) i)
+            (best.least v (record {
+              entry = e.entry;
+              listed = l;
+              left = e.left;
+              right = e.right;
+              spells = e.spells;
+            }) i)
         go v e i (inr (c, b)) = place (word_total w v)
           where
             place : IsWordLess w v ⊎ ((w ≡ v) ⊎ IsWordLess v w) → IsWordLess w v
@@ -156,20 +200,25 @@ module _ (s : Setting) (field : IsField s.prime) (old : State) (nonzero : (e : E
     reduction_on (Reduction.keep {f = f} {kept = kept} {steps = steps} w d not_any c e rest) none =
         Reduction.keep w d (λ v a. go v a (front_or_later old.entries es v.entry v.listed)) c e
         (reduction_on rest (λ x nz. none x
-            (kept_tail s field old.entries nonzero (λ σ. IsLess s σ τ) f kept steps w d c e rest x
-              nz)))
+        (kept_tail s field old.entries nonzero (λ σ. IsLess s σ τ) f kept steps w d c e rest x
+        nz)))
       where
         go : (v : Divisor s (old.entries ++ es) w)
             → IsLess s (signature_at s (old.entries ++ es) w v) τ
             → ((l : Contains old.entries v.entry) × (l.0 ≡ v.listed.0))
             ⊎ (Contains es v.entry × (length old.entries ≤ v.listed.0)) → ⊥
         go v a (inl (l, i)) =
-            not_any (record { entry = v.entry;
-                listed = l; left = v.left; right = v.right; spells = v.spells }) a
+            not_any (record {
+              entry = v.entry;
+              listed = l;
+              left = v.left;
+              right = v.right;
+              spells = v.spells;
+            }) a
         go v a (inr (k, b)) =
             none w (kept_leads s field old.entries nonzero (λ σ. IsLess s σ τ)
-              (Reduction.keep w d not_any c e rest) (record { coefficient = c; key = w }) kept
-              refl).nonzero (record { divisor = v; below = a }, k)
+            (Reduction.keep w d not_any c e rest) (record { coefficient = c; key = w }) kept
+            refl).nonzero (record { divisor = v; below = a }, k)
 
     regular_on : (w : Word) → RegularDivisor s old.entries τ w
         → RegularDivisor s (old.entries ++ es) τ w
@@ -177,7 +226,7 @@ module _ (s : Setting) (field : IsField s.prime) (old : State) (nonzero : (e : E
 
     starts_on : {f : Polynomial} {start : Start} → Starts s old.entries τ f start
         → ((w : Word) → StartedFrom s old τ start w → (v : Word) → NewMultiple s old es hs τ v
-          → ¬ IsWordLess v w) → Starts s (old.entries ++ es) τ f start
+        → ¬ IsWordLess v w) → Starts s (old.entries ++ es) τ f start
     starts_on (Starts.at_generator i e) none = Starts.at_generator i e
     starts_on (Starts.at_multiple not_unit w d best regular) none =
         Starts.at_multiple not_unit w (on w d)
@@ -193,17 +242,21 @@ module _ (s : Setting) (field : IsField s.prime) (old : State) (nonzero : (e : E
         go : IsSyzygySignature s old k.by → IsSyzygySignature s now k.by
         go (inl (h, c, e)) = inl (h, in_front old.syzygies hs h c, e)
         go (inr t) =
-            inr (record { first = t.first;
-                first_listed = in_front old.entries es t.first t.first_listed;
-                second = t.second; second_listed = in_front old.entries es t.second t.second_listed;
-                m = t.m; greater = t.greater })
+            inr (record {
+              first = t.first;
+              first_listed = in_front old.entries es t.first t.first_listed;
+              second = t.second;
+              second_listed = in_front old.entries es t.second t.second_listed;
+              m = t.m;
+              greater = t.greater;
+            })
 
     newly_covers : NewlyCovered s old es hs τ → Covered s now τ
     newly_covers k = record { by = k.by; is_syzygy = go k.newer; divides = k.divides }
       where
         go : ((h : Syzygy) × Contains hs h × (h.signature ≡ k.by))
             ⊎ ((t : TrivialSyzygy s (old.entries ++ es) k.by)
-              × (Contains es t.first ⊎ Contains es t.second)) → IsSyzygySignature s now k.by
+            × (Contains es t.first ⊎ Contains es t.second)) → IsSyzygySignature s now k.by
         go (inl (h, c, e)) = inl (h, Contains-append_right old.syzygies hs h c, e)
         go (inr (t, c)) = inr t
 
@@ -214,9 +267,16 @@ module _ (s : Setting) (field : IsField s.prime) (old : State) (nonzero : (e : E
         go : ((l : Contains old.entries r.divisor.entry) × (l.0 ≡ r.divisor.listed.0))
             ⊎ (Contains es r.divisor.entry × (length old.entries ≤ r.divisor.listed.0)) → ⊥
         go (inl (l, e)) =
-            n (record { divisor = record { entry = r.divisor.entry;
-                  listed = l; left = r.divisor.left;
-                  right = r.divisor.right; spells = r.divisor.spells }; below = r.below })
+            n (record {
+              divisor = record {
+                entry = r.divisor.entry;
+                listed = l;
+                left = r.divisor.left;
+                right = r.divisor.right;
+                spells = r.divisor.spells;
+              };
+              below = r.below;
+            })
         go (inr (c, b)) = m (r, c)
 
     -- where nothing newer bears on it, the outcome stands
@@ -249,8 +309,8 @@ module _ (s : Setting) (field : IsField s.prime) (old : State) (nonzero : (e : E
         entry : d.entry ≡ e.entry
         entry = sym ((in_front old.entries es d.entry d.listed).2)
             ∙ (ap (λ n. get_or (old.entries ++ es) n d.entry) k
-              ∙ (get_or_default (old.entries ++ es) e.listed.0 d.entry e.entry e.listed.1
-                ∙ e.listed.2))
+            ∙ (get_or_default (old.entries ++ es) e.listed.0 d.entry e.entry e.listed.1
+            ∙ e.listed.2))
 
         left : d.left ≡ e.left
         left = append_cancel_right d.left e.left d.entry.signature.left
@@ -296,12 +356,15 @@ module _ (s : Setting) (field : IsField s.prime) (old : State) (nonzero : (e : E
 
     -- an outcome that stands over the newer state was covered, or nothing newer bears on it
     pub stood : {o : Outcome} → ((e : Entry) → Contains (old.entries ++ es) e
-          → ¬ IsZeroPolynomial s e.polynomial) → Handles s now τ o → (o ≡ Outcome.covered)
+        → ¬ IsZeroPolynomial s e.polynomial) → Handles s now τ o → (o ≡ Outcome.covered)
         ⊎ Unaffected s old es hs τ o
     stood alive (Handles.is_covered k) = inl refl
     stood alive (Handles.is_settled n not_unit w e best not_regular) =
-        inr (record { uncovered = λ k. n (newly_covers k);
-            start = λ v g. start v g; kept = λ v g. kept v g })
+        inr (record {
+          uncovered = λ k. n (newly_covers k);
+          start = λ v g. start v g;
+          kept = λ v g. kept v g;
+        })
       where
         start : (v : Word) → CameFrom s old τ (Outcome.settled (e.listed.0 + 1)) v → (x : Word)
             → NewMultiple s old es hs τ x → ¬ IsWordLess x v
@@ -312,10 +375,13 @@ module _ (s : Setting) (field : IsField s.prime) (old : State) (nonzero : (e : E
             → ¬ NewRegular s old es hs τ v
         kept v (Keeps.keeps_settled w' d best' i) r =
             not_regular (subst (RegularDivisor s (old.entries ++ es) τ)
-              (same_word_at w' d best'.signed w e best.signed (omega (arith, i))) r.0)
+            (same_word_at w' d best'.signed w e best.signed (omega (arith, i))) r.0)
     stood alive (Handles.is_syzygy n {start = start} {steps = steps} starts reduction) =
-        inr (record { uncovered = λ k. n (newly_covers k);
-            start = λ w g. begun w g; kept = λ w g. none w g })
+        inr (record {
+          uncovered = λ k. n (newly_covers k);
+          start = λ w g. begun w g;
+          kept = λ w g. none w g;
+        })
       where
         begun : (w : Word) → CameFrom s old τ
             (Outcome.a_syzygy (record { start = start; steps = steps })) w → (v : Word)
@@ -327,9 +393,12 @@ module _ (s : Setting) (field : IsField s.prime) (old : State) (nonzero : (e : E
             → ¬ NewRegular s old es hs τ w
         none w g r = elim g [ ]
     stood alive (Handles.is_entry n {kept = tail} {t = t} {start = start} {steps = steps} starts
-          reduction) =
-        inr (record { uncovered = λ k. n (newly_covers k);
-            start = λ w g. begun w g; kept = λ w g. none w g })
+        reduction) =
+        inr (record {
+          uncovered = λ k. n (newly_covers k);
+          start = λ w g. begun w g;
+          kept = λ w g. none w g;
+        })
       where
         begun : (w : Word) → CameFrom s old τ
             (Outcome.an_entry (t ∷ tail) (record { start = start; steps = steps })) w → (v : Word)

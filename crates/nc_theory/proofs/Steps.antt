@@ -31,101 +31,105 @@ use Rattle.std.proofs.lemmas.List.Elements.{Contains-push_cases}
 use Rattle.std.specs.Ordering.{MatchOrdering, is_le}
 
 module _ (s : Setting) (letters : List Letter) (inputs : (i : ℕ)
-      → WordsAre s (IsOver letters) (generator s i)) (entries : List Entry) (alive : (e : Entry)
-      → Contains entries e → ¬ IsZeroPolynomial s e.polynomial) (over : AreOver s letters entries)
-    where
-  lead_over : (e : Entry) → Contains entries e → IsOver letters (leading s.prime e.polynomial)
-  lead_over e k =
-      over.words e k (leading s.prime e.polynomial)
-      (lead_leads s.prime e.polynomial (alive e k)).nonzero
+    → WordsAre s (IsOver letters) (generator s i)) (entries : List Entry) (alive : (e : Entry)
+    → Contains entries e → ¬ IsZeroPolynomial s e.polynomial) (over : AreOver s letters entries)
+  where
+    lead_over : (e : Entry) → Contains entries e → IsOver letters (leading s.prime e.polynomial)
+    lead_over e k =
+        over.words e k (leading s.prime e.polynomial)
+        (lead_leads s.prime e.polynomial (alive e k)).nonzero
 
-  -- the front of the word before one place that meets the other, which has nothing before it
-  ambiguity_left : (ρ : Monomial) (w : Word) (amb : Ambiguity s entries ρ w)
-      → IsOver letters amb.high.left
-  ambiguity_left ρ w amb = go amb.spans_front
-    where
-      first : amb.low.left ≡ [] → (r : Word) × (leading_at s entries w amb.low ≡ amb.high.left ++ r)
-          × (leading_at s entries w amb.high ++ amb.high.right ≡ r ++ amb.low.right)
-          → IsOver letters amb.high.left
-      first e (r, f, _) =
-          over_front letters amb.high.left r
-          (subst (IsOver letters) f (lead_over amb.low.entry amb.low.listed))
+    -- the front of the word before one place that meets the other, which has nothing before it
+    ambiguity_left : (ρ : Monomial) (w : Word) (amb : Ambiguity s entries ρ w)
+        → IsOver letters amb.high.left
+    ambiguity_left ρ w amb = go amb.spans_front
+      where
+        first : amb.low.left ≡ [] → (r : Word)
+            × (leading_at s entries w amb.low ≡ amb.high.left ++ r)
+            × (leading_at s entries w amb.high ++ amb.high.right ≡ r ++ amb.low.right)
+            → IsOver letters amb.high.left
+        first e (r, f, _) =
+            over_front letters amb.high.left r
+            (subst (IsOver letters) f (lead_over amb.low.entry amb.low.listed))
 
-      go : (amb.high.left ≡ []) ⊎ (amb.low.left ≡ []) → IsOver letters amb.high.left
-      go (inl e) = subst (IsOver letters) (sym e) tt
-      go (inr e) =
-          first e (cut amb.high.left (leading_at s entries w amb.high ++ amb.high.right)
+        go : (amb.high.left ≡ []) ⊎ (amb.low.left ≡ []) → IsOver letters amb.high.left
+        go (inl e) = subst (IsOver letters) (sym e) tt
+        go (inr e) =
+            first e (cut amb.high.left (leading_at s entries w amb.high ++ amb.high.right)
             (leading_at s entries w amb.low) amb.low.right
             (amb.high.spells ∙ (sym amb.low.spells
-                ∙ ap (λ u. u ++ (leading_at s entries w amb.low ++ amb.low.right)) e))
+            ∙ ap (λ u. u ++ (leading_at s entries w amb.low ++ amb.low.right)) e))
             (let n : length amb.low.left ≡ 0 = ap length e in omega (arith, amb.high_begins, n)))
 
-  ambiguity_right : (ρ : Monomial) (w : Word) (amb : Ambiguity s entries ρ w)
-      → IsOver letters amb.high.right
-  ambiguity_right ρ w amb = go amb.spans_back
-    where
-      last : (r : Word) × (amb.high.left ++ leading_at s entries w amb.high ≡ amb.low.left ++ r)
-          × (leading_at s entries w amb.low ≡ r ++ amb.high.right) → IsOver letters amb.high.right
-      last (r, _, f) =
-          over_back letters r amb.high.right
-          (subst (IsOver letters) f (lead_over amb.low.entry amb.low.listed))
+    ambiguity_right : (ρ : Monomial) (w : Word) (amb : Ambiguity s entries ρ w)
+        → IsOver letters amb.high.right
+    ambiguity_right ρ w amb = go amb.spans_back
+      where
+        last : (r : Word) × (amb.high.left ++ leading_at s entries w amb.high ≡ amb.low.left ++ r)
+            × (leading_at s entries w amb.low ≡ r ++ amb.high.right) → IsOver letters amb.high.right
+        last (r, _, f) =
+            over_back letters r amb.high.right
+            (subst (IsOver letters) f (lead_over amb.low.entry amb.low.listed))
 
-      go : (amb.high.right ≡ []) ⊎ (amb.low.right ≡ []) → IsOver letters amb.high.right
-      go (inl e) = subst (IsOver letters) (sym e) tt
-      go (inr e) =
-          last (cut amb.low.left (leading_at s entries w amb.low)
+        go : (amb.high.right ≡ []) ⊎ (amb.low.right ≡ []) → IsOver letters amb.high.right
+        go (inl e) = subst (IsOver letters) (sym e) tt
+        go (inr e) =
+            last (cut amb.low.left (leading_at s entries w amb.low)
             (amb.high.left ++ leading_at s entries w amb.high) amb.high.right
             (sym (ap (λ u. amb.low.left ++ u) (ap (λ u. leading_at s entries w amb.low ++ u) e
-                  ∙ append-nil (leading_at s entries w amb.low)))
-              ∙ (amb.low.spells ∙ (sym amb.high.spells
-                  ∙ sym (append_assoc amb.high.left (leading_at s entries w amb.high)
-                  amb.high.right)))) (omega (arith, amb.low_begins,
-                length-append amb.high.left (leading_at s entries w amb.high))))
+            ∙ append-nil (leading_at s entries w amb.low)))
+            ∙ (amb.low.spells ∙ (sym amb.high.spells
+            ∙ sym (append_assoc amb.high.left (leading_at s entries w amb.high)
+            amb.high.right)))) (omega (
+              arith,
+              amb.low_begins,
+              length-append amb.high.left (leading_at s entries w amb.high),
+            )))
 
-  multiple_over : (w : Word) (d : Divisor s entries w) → IsOver letters d.left
-      → IsOver letters d.right → WordsAre s (IsOver letters) (multiple_at s entries w d)
-  multiple_over w d l r =
-      times_are s (IsOver letters) (over_dec letters) d.left d.entry.polynomial d.right
-      (λ x n. over-append letters d.left (x ++ d.right) l
+    multiple_over : (w : Word) (d : Divisor s entries w) → IsOver letters d.left
+        → IsOver letters d.right → WordsAre s (IsOver letters) (multiple_at s entries w d)
+    multiple_over w d l r =
+        times_are s (IsOver letters) (over_dec letters) d.left d.entry.polynomial d.right
+        (λ x n. over-append letters d.left (x ++ d.right) l
         (over-append letters x d.right (over.words d.entry d.listed x n) r))
 
-  pub divisor_over : (w : Word) (d : Divisor s entries w) → IsOver letters w
-      → WordsAre s (IsOver letters) (multiple_at s entries w d)
-  divisor_over w d o =
-      let whole : IsOver letters (d.left ++ (leading s.prime d.entry.polynomial ++ d.right)) =
-          subst (IsOver letters) (sym d.spells) o in
-      multiple_over w d (over_front letters d.left (leading s.prime d.entry.polynomial ++ d.right)
-            whole) (over_back letters (leading s.prime d.entry.polynomial) d.right
-            (over_back letters d.left (leading s.prime d.entry.polynomial ++ d.right) whole))
+    pub divisor_over : (w : Word) (d : Divisor s entries w) → IsOver letters w
+        → WordsAre s (IsOver letters) (multiple_at s entries w d)
+    divisor_over w d o =
+        let whole : IsOver letters (d.left ++ (leading s.prime d.entry.polynomial ++ d.right)) =
+        subst (IsOver letters) (sym d.spells) o in
+        multiple_over w d (over_front letters d.left (leading s.prime d.entry.polynomial ++ d.right)
+        whole) (over_back letters (leading s.prime d.entry.polynomial) d.right
+        (over_back letters d.left (leading s.prime d.entry.polynomial ++ d.right) whole))
 
-  pub starts_over : (τ : Monomial) → IsOver letters τ.left → IsOver letters τ.right
-      → {f : Polynomial} {start : Start} → Starts s entries τ f start
-      → WordsAre s (IsOver letters) f
-  starts_over τ l r (Starts.at_generator i e) x n = inputs i x n
-  starts_over τ l r (Starts.at_multiple not_unit w d best regular) x n =
-      multiple_over w d (over_front letters d.left d.entry.signature.left
+    pub starts_over : (τ : Monomial) → IsOver letters τ.left → IsOver letters τ.right
+        → {f : Polynomial} {start : Start} → Starts s entries τ f start
+        → WordsAre s (IsOver letters) f
+    starts_over τ l r (Starts.at_generator i e) x n = inputs i x n
+    starts_over τ l r (Starts.at_multiple not_unit w d best regular) x n =
+        multiple_over w d (over_front letters d.left d.entry.signature.left
         (subst (λ σ. IsOver letters σ.left) (sym best.signed) l))
-      (over_back letters d.entry.signature.right d.right
+        (over_back letters d.entry.signature.right d.right
         (subst (λ σ. IsOver letters σ.right) (sym best.signed) r)) x n
 
-  pub reduction_over : (set : Monomial → Type 0) → {f kept : Polynomial} {steps : List Step}
-      → Reduction s entries set f kept steps → WordsAre s (IsOver letters) f
-      → WordsAre s (IsOver letters) kept
-  reduction_over set (Reduction.finished z) o x n = absurd (n (zero_number s.prime))
-  reduction_over set (Reduction.subtract {f = f} w l d chosen c small q rest) o x n =
-      reduction_over set rest (minus_are s (IsOver letters) f c (multiple_at s entries w d) o
+    pub reduction_over : (set : Monomial → Type 0) → {f kept : Polynomial} {steps : List Step}
+        → Reduction s entries set f kept steps → WordsAre s (IsOver letters) f
+        → WordsAre s (IsOver letters) kept
+    reduction_over set (Reduction.finished z) o x n = absurd (n (zero_number s.prime))
+    reduction_over set (Reduction.subtract {f = f} w l d chosen c small q rest) o x n =
+        reduction_over set rest (minus_are s (IsOver letters) f c (multiple_at s entries w d) o
         (divisor_over w d (o w l.nonzero))) x n
-  reduction_over set (Reduction.keep {f = f} {kept = kept} w l none c e rest) o x n =
-      more_are s (IsOver letters) c w kept (o w l.nonzero)
-      (reduction_over set rest (minus_are s (IsOver letters) f 1
-          (record { coefficient = c; key = w } ∷ []) o
-          (more_are s (IsOver letters) c w [] (o w l.nonzero)
-            (λ y m. absurd (m (zero_number s.prime)))))) x n
+    reduction_over set (Reduction.keep {f = f} {kept = kept} w l none c e rest) o x n =
+        more_are s (IsOver letters) c w kept (o w l.nonzero)
+        (reduction_over set rest (minus_are s (IsOver letters) f 1
+        (record { coefficient = c; key = w } ∷ []) o
+        (more_are s (IsOver letters) c w [] (o w l.nonzero)
+        (λ y m. absurd (m (zero_number s.prime)))))) x n
 
 -- what holds of each candidate of a run holds of the signature of each listed syzygy
 module _ (P : Problem) (A : Monomial → Type 0)
     (each : (n : ℕ) (state : State) (last : Option Monomial) → SequentialRun P n state last
-      → (σ : Monomial) → IsCandidate P state σ → A σ) where
+    → (σ : Monomial) → IsCandidate P state σ → A σ) where
   pub syzygies_are : {n : ℕ} {state : State} {last : Option Monomial} → SequentialRun P n state last
       → (h : Syzygy) → Contains state.syzygies h → A h.signature
   syzygies_are SequentialRun.opened h c = absurd (omega (arith, c.1))
@@ -147,27 +151,28 @@ module _ (P : Problem) (A : Monomial → Type 0)
           (Contains-push_cases state.syzygies (record { signature = τ; trace = t }) h d)
 
 module _ (P : Problem) (field : IsField P.setting.prime) (letters : List Letter) (inputs : (i : ℕ)
-      → WordsAre P.setting (IsOver letters) (generator P.setting i)) where
+    → WordsAre P.setting (IsOver letters) (generator P.setting i)) where
   pub candidate_over : (state : State)
       → ((e : Entry) → Contains state.entries e → ¬ IsZeroPolynomial P.setting e.polynomial)
       → AreOver P.setting letters state.entries → (σ : Monomial) → IsCandidate P state σ
       → IsOver letters σ.left × IsOver letters σ.right
-  candidate_over state alive over σ (within, inl (i, e)) =
-      (subst (λ ρ. IsOver letters ρ.left) (sym e) tt,
-        subst (λ ρ. IsOver letters ρ.right) (sym e) tt)
+  candidate_over state alive over σ (within, inl (i, e)) = (
+    subst (λ ρ. IsOver letters ρ.left) (sym e) tt,
+    subst (λ ρ. IsOver letters ρ.right) (sym e) tt,
+  )
   candidate_over state alive over σ (within, inr (w, amb)) = (
     subst (λ ρ. IsOver letters ρ.left) amb.signed
         (over-append letters amb.high.left amb.high.entry.signature.left
-          (ambiguity_left P.setting letters inputs state.entries alive over σ w amb)
-          (over.left amb.high.entry amb.high.listed)),
+        (ambiguity_left P.setting letters inputs state.entries alive over σ w amb)
+        (over.left amb.high.entry amb.high.listed)),
     subst (λ ρ. IsOver letters ρ.right) amb.signed
         (over-append letters amb.high.entry.signature.right amb.high.right
-          (over.right amb.high.entry amb.high.listed)
-          (ambiguity_right P.setting letters inputs state.entries alive over σ w amb)),
+        (over.right amb.high.entry amb.high.listed)
+        (ambiguity_right P.setting letters inputs state.entries alive over σ w amb)),
   )
 
   over_step : (state : State) → ((e : Entry) → Contains state.entries e
-        → ¬ IsZeroPolynomial P.setting e.polynomial) → AreOver P.setting letters state.entries
+      → ¬ IsZeroPolynomial P.setting e.polynomial) → AreOver P.setting letters state.entries
       → (τ : Monomial) → IsCandidate P state τ → {o : Outcome} → Handles P.setting state τ o
       → AreOver P.setting letters (state_after state τ o).entries
   over_step state alive over τ c (Handles.is_covered k) = over
@@ -176,52 +181,73 @@ module _ (P : Problem) (field : IsField P.setting.prime) (letters : List Letter)
   over_step state alive over τ c
       (Handles.is_entry n {kept = kept} {t = t} {start = start} {steps = steps} starts reduction) =
       record {
-    left = λ e k. left e (Contains-push_cases state.entries
-          (record { signature = τ; polynomial = t ∷ kept;
-              trace = record { start = start; steps = steps } }) e k);
-    right = λ e k. right e (Contains-push_cases state.entries
-          (record { signature = τ; polynomial = t ∷ kept;
-              trace = record { start = start; steps = steps } }) e k);
-    words = λ e k. words e (Contains-push_cases state.entries
-          (record { signature = τ; polynomial = t ∷ kept;
-              trace = record { start = start; steps = steps } }) e k);
-  }
+        left = λ e k. left e (Contains-push_cases state.entries
+            (record {
+              signature = τ;
+              polynomial = t ∷ kept;
+              trace = record { start = start; steps = steps };
+            }) e k);
+        right = λ e k. right e (Contains-push_cases state.entries
+            (record {
+              signature = τ;
+              polynomial = t ∷ kept;
+              trace = record { start = start; steps = steps };
+            }) e k);
+        words = λ e k. words e (Contains-push_cases state.entries
+            (record {
+              signature = τ;
+              polynomial = t ∷ kept;
+              trace = record { start = start; steps = steps };
+            }) e k);
+      }
     where
       left : (e : Entry) → Contains state.entries e
-          ⊎ (record { signature = τ; polynomial = t ∷ kept;
-              trace = record { start = start; steps = steps } } ≡ e)
+          ⊎ (record {
+            signature = τ;
+            polynomial = t ∷ kept;
+            trace = record { start = start; steps = steps };
+          } ≡ e)
           → IsOver letters e.signature.left
       left e (inl k) = over.left e k
       left e (inr i) =
           subst (λ g. IsOver letters g.signature.left) i (candidate_over state alive over τ c).0
 
       right : (e : Entry) → Contains state.entries e
-          ⊎ (record { signature = τ; polynomial = t ∷ kept;
-              trace = record { start = start; steps = steps } } ≡ e)
+          ⊎ (record {
+            signature = τ;
+            polynomial = t ∷ kept;
+            trace = record { start = start; steps = steps };
+          } ≡ e)
           → IsOver letters e.signature.right
       right e (inl k) = over.right e k
       right e (inr i) =
           subst (λ g. IsOver letters g.signature.right) i (candidate_over state alive over τ c).1
 
       words : (e : Entry) → Contains state.entries e
-          ⊎ (record { signature = τ; polynomial = t ∷ kept;
-              trace = record { start = start; steps = steps } } ≡ e)
+          ⊎ (record {
+            signature = τ;
+            polynomial = t ∷ kept;
+            trace = record { start = start; steps = steps };
+          } ≡ e)
           → WordsAre P.setting (IsOver letters) e.polynomial
       words e (inl k) = over.words e k
       words e (inr i) =
           subst (λ g. WordsAre P.setting (IsOver letters) g.polynomial) i
           (reduction_over P.setting letters inputs state.entries alive over
-            (λ σ. IsLess P.setting σ τ) reduction
-            (starts_over P.setting letters inputs state.entries alive over τ
-              (candidate_over state alive over τ c).0 (candidate_over state alive over τ c).1
-              starts))
+          (λ σ. IsLess P.setting σ τ) reduction
+          (starts_over P.setting letters inputs state.entries alive over τ
+          (candidate_over state alive over τ c).0 (candidate_over state alive over τ c).1
+          starts))
 
   -- so all of a run is over the letters of the generators
   pub run_over : {n : ℕ} {state : State} {last : Option Monomial} → SequentialRun P n state last
       → AreOver P.setting letters state.entries
   run_over SequentialRun.opened =
-      record { left = λ e k. absurd (omega (arith, k.1));
-        right = λ e k. absurd (omega (arith, k.1)); words = λ e k. absurd (omega (arith, k.1)) }
+      record {
+        left = λ e k. absurd (omega (arith, k.1));
+        right = λ e k. absurd (omega (arith, k.1));
+        words = λ e k. absurd (omega (arith, k.1));
+      }
   run_over (SequentialRun.handled {state = state} {last = last} run τ next o h) =
       over_step state (invariant P field run).sound.nonzero (run_over run) τ next.candidate h
 
@@ -239,27 +265,27 @@ module _ (P : Problem) (field : IsField P.setting.prime) (letters : List Letter)
       → is_le (compare_monomials (generator_weight P.setting) σ τ) ≡ false
   not_less σ τ l =
       ap is_le (compare_greater (compare_monomials (generator_weight P.setting))
-        (IsMonomialLess (generator_weight P.setting))
-        (monomials_compare (generator_weight P.setting))
-        (monomial_irrefl (generator_weight P.setting)) (monomial_trans (generator_weight P.setting))
-        σ τ l)
+      (IsMonomialLess (generator_weight P.setting))
+      (monomials_compare (generator_weight P.setting))
+      (monomial_irrefl (generator_weight P.setting)) (monomial_trans (generator_weight P.setting))
+      σ τ l)
 
   less_is : (σ τ : Monomial) → IsLess P.setting σ τ
       → is_le (compare_monomials (generator_weight P.setting) σ τ) ≡ true
   less_is σ τ l =
       ap is_le (compare_less (compare_monomials (generator_weight P.setting))
-        (IsMonomialLess (generator_weight P.setting))
-        (monomials_compare (generator_weight P.setting))
-        (monomial_irrefl (generator_weight P.setting)) (monomial_trans (generator_weight P.setting))
-        σ τ l)
+      (IsMonomialLess (generator_weight P.setting))
+      (monomials_compare (generator_weight P.setting))
+      (monomial_irrefl (generator_weight P.setting)) (monomial_trans (generator_weight P.setting))
+      σ τ l)
 
   itself : (τ : Monomial) → is_le (compare_monomials (generator_weight P.setting) τ τ) ≡ true
   itself τ =
       ap is_le (compare_same (compare_monomials (generator_weight P.setting))
-        (IsMonomialLess (generator_weight P.setting))
-        (monomials_compare (generator_weight P.setting))
-        (monomial_irrefl (generator_weight P.setting)) (monomial_trans (generator_weight P.setting))
-        τ)
+      (IsMonomialLess (generator_weight P.setting))
+      (monomials_compare (generator_weight P.setting))
+      (monomial_irrefl (generator_weight P.setting)) (monomial_trans (generator_weight P.setting))
+      τ)
 
   at_most : (σ τ : Monomial) → is_le (compare_monomials (generator_weight P.setting) σ τ) ≡ true
       → (σ ≡ τ) ⊎ IsLess P.setting σ τ
@@ -303,15 +329,18 @@ module _ (P : Problem) (field : IsField P.setting.prime) (letters : List Letter)
       → (σ : Monomial) → IsCandidate P state σ → Among σ listed
   candidate_listed {state = state} run σ c =
       let o : IsOver letters σ.left × IsOver letters σ.right =
-          candidate_over state (invariant P field run).sound.nonzero (run_over run) σ c in
+      candidate_over state (invariant P field run).sound.nonzero (run_over run) σ c in
       in_within P.setting P.bound letters σ c.0 o.0 o.1
 
   steps_reached : {n : ℕ} {state : State} {last : Option Monomial} → SequentialRun P n state last
       → n ≤ how_many (reached last) listed
   steps_reached SequentialRun.opened = omega arith
   steps_reached (SequentialRun.handled {last = last} run τ next o h) =
-      omega (arith, steps_reached run,
-        one_more last τ next.left (candidate_listed run τ next.candidate))
+      omega (
+        arith,
+        steps_reached run,
+        one_more last τ next.left (candidate_listed run τ next.candidate),
+      )
 
   pub steps_limited : {n : ℕ} {state : State} {last : Option Monomial}
       → SequentialRun P n state last → n ≤ length listed
@@ -322,9 +351,12 @@ module _ (P : Problem) (field : IsField P.setting.prime) (letters : List Letter)
   pub fewer_steps : {n : ℕ} {state : State} {last : Option Monomial} → SequentialRun P n state last
       → (τ : Monomial) → IsNext P state last τ → n < length listed
   fewer_steps {last = last} run τ next =
-      omega (arith, steps_reached run,
+      omega (
+        arith,
+        steps_reached run,
         one_more last τ next.left (candidate_listed run τ next.candidate),
-        at_most_length (reached (Some τ)) listed)
+        at_most_length (reached (Some τ)) listed,
+      )
 
   pub enough_steps : length listed ≤ P.steps → {n : ℕ} {state : State} {end : End}
       → IsEnd P n state end → end ≡ End.complete

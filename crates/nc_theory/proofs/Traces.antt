@@ -36,8 +36,11 @@ labels_length : (p : ℕ) (ls : List Element) (es : List Entry)
     → length (labels_onto p ls es) ≡ length ls + length es
 labels_length p ls [] = omega arith
 labels_length p ls (x ∷ es) =
-    omega (arith, labels_length p (ls ++ (trace_label p ls x.trace ∷ [])) es,
-      length-append ls (trace_label p ls x.trace ∷ []))
+    omega (
+      arith,
+      labels_length p (ls ++ (trace_label p ls x.trace ∷ [])) es,
+      length-append ls (trace_label p ls x.trace ∷ []),
+    )
 
 label_kept : (ls : List Element) (x : Element) (j : ℕ) → 0 < j → j ≤ length ls
     → label_at (ls ++ (x ∷ [])) j ≡ label_at ls j
@@ -57,10 +60,10 @@ steps_kept : (p : ℕ) (ls : List Element) (x : Element) (α : Element) (steps :
 steps_kept p ls x α [] h = refl
 steps_kept p ls x α (t ∷ steps) h =
     ap (λ l. less_steps p (ls ++ (x ∷ []))
-      (minus p α t.coefficient (element_times t.left l t.right)) steps)
+    (minus p α t.coefficient (element_times t.left l t.right)) steps)
     (label_kept ls x t.number h.0.0 h.0.1)
     ∙ steps_kept p ls x (minus p α t.coefficient
-      (element_times t.left (label_at ls t.number) t.right)) steps h.1
+    (element_times t.left (label_at ls t.number) t.right)) steps h.1
 
 start_kept : (ls : List Element) (x : Element) (start : Start) → StartUpTo (length ls) start
     → start_label (ls ++ (x ∷ [])) start ≡ start_label ls start
@@ -87,60 +90,71 @@ start_more m n l (Start.a_multiple u j v) h = (h.0, omega (arith, l, h.1))
 
 module _ (s : Setting) (field : IsField s.prime) (entries : List Entry) (ls : List Element)
     (labelled : (e : Entry) (k : Contains entries e)
-      → IsLabelled s e.signature e.polynomial (label_at ls (k.0 + 1))) (τ : Monomial) where
+    → IsLabelled s e.signature e.polynomial (label_at ls (k.0 + 1))) (τ : Monomial) where
   carry_steps : {f kept : Polynomial} {steps : List Step} → ReductionAt s entries τ f kept steps
       → (old : Word → ℕ) (α : Element) → Carries s τ f old α
       → Carries s τ kept old (less_steps s.prime ls α steps)
   carry_steps (Reduction.finished {f = f} n) old α carries =
-      record { lies = carries.lies; leads = carries.leads;
-        one = carries.one; value = λ y. carries.value y
-        ∙ sum_mod s.prime (coefficient f y) 0 (old y) (old y) (n y ∙ sym (zero_number s.prime)) refl
-        }
+      record {
+        lies = carries.lies;
+        leads = carries.leads;
+        one = carries.one;
+        value = λ y. carries.value y
+            ∙ sum_mod s.prime (coefficient f y) 0 (old y) (old y) (n y ∙ sym (zero_number s.prime))
+            refl;
+      }
   carry_steps (Reduction.subtract {f = f} w d v chosen c small q rest) old α carries =
       carry_steps rest old (minus s.prime α c
-        (element_times v.left (label_at ls (v.listed.0 + 1)) v.right))
+      (element_times v.left (label_at ls (v.listed.0 + 1)) v.right))
       (subtracted s field entries (λ e k. (label_at ls (k.0 + 1), labelled e k)) τ f old α w v c
-        chosen.allowed carries (label_at ls (v.listed.0 + 1)) (labelled v.entry v.listed))
+      chosen.allowed carries (label_at ls (v.listed.0 + 1)) (labelled v.entry v.listed))
   carry_steps (Reduction.keep {f = f} {kept = kept} {steps = steps} w d not_any c e rest) old α
       carries =
       join (carry_steps rest (λ y. coefficient (record { coefficient = c; key = w } ∷ []) y + old y)
-        α (record { lies = carries.lies;
-            leads = carries.leads; one = carries.one;
-            value = λ y. carries.value y ∙
+      α (record {
+        lies = carries.lies;
+        leads = carries.leads;
+        one = carries.one;
+        value = λ y. carries.value y ∙
             (sym (back_and_forth s field entries (λ e k. (label_at ls (k.0 + 1), labelled e k)) τ
-              s.prime (coefficient f y) (old y)
-              (coefficient (record { coefficient = c; key = w } ∷ []) y)
-              (omega (arith, field.above_one)))
-              ∙ ap (λ n. (n + (coefficient (record { coefficient = c; key = w } ∷ []) y + old y))
-              % s.prime) (sym (coefficient_polynomial_minus s f 1
-              (record { coefficient = c; key = w } ∷ []) y))) }))
+            s.prime (coefficient f y) (old y)
+            (coefficient (record { coefficient = c; key = w } ∷ []) y)
+            (omega (arith, field.above_one)))
+            ∙ ap (λ n. (n + (coefficient (record { coefficient = c; key = w } ∷ []) y + old y))
+            % s.prime) (sym (coefficient_polynomial_minus s f 1
+            (record { coefficient = c; key = w } ∷ []) y)));
+      }))
     where
       join : Carries s τ kept (λ y. coefficient (record { coefficient = c; key = w } ∷ []) y
-            + old y) (less_steps s.prime ls α steps)
+          + old y) (less_steps s.prime ls α steps)
           → Carries s τ (record { coefficient = c; key = w } ∷ kept) old
           (less_steps s.prime ls α steps)
       join k =
-          record { lies = k.lies; leads = k.leads;
-            one = k.one; value = λ y. k.value y ∙ ap (λ n. n % s.prime) (omega arith) }
+          record {
+            lies = k.lies;
+            leads = k.leads;
+            one = k.one;
+            value = λ y. k.value y ∙ ap (λ n. n % s.prime) (omega arith);
+          }
 
   carry_start : HasGenerator s τ → {f : Polynomial} {start : Start} → Starts s entries τ f start
       → Carries s τ f (λ y. 0) (start_label ls start)
   carry_start inside (Starts.at_generator i e) =
       subst (λ ρ. Carries s ρ (generator s i) (λ y. 0)
-        (record { coefficient = 1; key = unit_monomial i } ∷ [])) (sym e)
+      (record { coefficient = 1; key = unit_monomial i } ∷ [])) (sym e)
       (unit_carries s field i (subst (HasGenerator s) e inside))
   carry_start inside (Starts.at_multiple not_unit w d best regular) = record {
     lies = in_times s d.left (label_at ls (d.listed.0 + 1)) d.right
         (labelled d.entry d.listed).lies;
     leads = subst (IsSignatureOf s (element_times d.left (label_at ls (d.listed.0 + 1)) d.right))
         best.signed (element_times_leads s d.left (label_at ls (d.listed.0 + 1)) d.right
-          d.entry.signature (labelled d.entry d.listed).leads);
+        d.entry.signature (labelled d.entry d.listed).leads);
     one = subst (λ ρ. coefficient_by same_monomial
-          (element_times d.left (label_at ls (d.listed.0 + 1)) d.right) ρ % s.prime ≡ 1) best.signed
+        (element_times d.left (label_at ls (d.listed.0 + 1)) d.right) ρ % s.prime ≡ 1) best.signed
         (element_times_coefficient s d.left (label_at ls (d.listed.0 + 1)) d.right d.entry.signature
-          ∙ (labelled d.entry d.listed).one);
+        ∙ (labelled d.entry d.listed).one);
     value = λ y. (evaluation_times s d.left (label_at ls (d.listed.0 + 1)) d.entry.polynomial
-          d.right (omega (arith, field.above_one)) (labelled d.entry d.listed).evaluates).at y
+        d.right (omega (arith, field.above_one)) (labelled d.entry d.listed).evaluates).at y
         ∙ ap (λ n. n % s.prime) (omega arith);
   }
 
@@ -186,26 +200,26 @@ module _ (s : Setting) (field : IsField s.prime) (state : State) (old : LabelInv
   syzygy_labels : {f : Polynomial} {start : Start} {steps : List Step}
       → Starts s state.entries τ f start → ReductionAt s state.entries τ f [] steps
       → LabelInvariant s (state_after state τ
-        (Outcome.a_syzygy (record { start = start; steps = steps })))
+      (Outcome.a_syzygy (record { start = start; steps = steps })))
   syzygy_labels {start = start} {steps = steps} starts reduction = record {
     entries = old.entries;
     syzygies =
         λ h k. label h (Contains-push_cases state.syzygies
-          (record { signature = τ; trace = record { start = start; steps = steps } }) h k);
+        (record { signature = τ; trace = record { start = start; steps = steps } }) h k);
     names = λ h k. names h (Contains-push_cases state.syzygies
-          (record { signature = τ; trace = record { start = start; steps = steps } }) h k);
+        (record { signature = τ; trace = record { start = start; steps = steps } }) h k);
   }
     where
       label : (h : Syzygy) → Contains state.syzygies h
           ⊎ (record { signature = τ; trace = record { start = start; steps = steps } } ≡ h)
           → IsLabelled s h.signature [] (trace_label s.prime (labels_of s.prime state.entries)
-            h.trace)
+          h.trace)
       label h (inl k) = old.syzygies h k
       label h (inr e) =
           subst (λ g. IsLabelled s g.signature []
-            (trace_label s.prime (labels_of s.prime state.entries) g.trace)) e
+          (trace_label s.prime (labels_of s.prime state.entries) g.trace)) e
           (trace_labelled s field state.entries (labels_of s.prime state.entries) old.entries τ
-            inside starts reduction)
+          inside starts reduction)
 
       names : (h : Syzygy) → Contains state.syzygies h
           ⊎ (record { signature = τ; trace = record { start = start; steps = steps } } ≡ h)
@@ -214,92 +228,137 @@ module _ (s : Setting) (field : IsField s.prime) (state : State) (old : LabelInv
       names h (inl k) = old.names h k
       names h (inr e) =
           subst (λ g. StartUpTo (length state.entries) g.trace.start
-            × NamesUpTo (length state.entries) g.trace.steps) e
-          (start_names s field state.entries (labels_of s.prime state.entries) old.entries τ starts,
+          × NamesUpTo (length state.entries) g.trace.steps) e (
+            start_names s field state.entries (labels_of s.prime state.entries) old.entries τ
+                starts,
             reduction_names s field state.entries (labels_of s.prime state.entries) old.entries τ
-            reduction)
+                reduction,
+          )
 
   entry_labels : {f g : Polynomial} {start : Start} {steps : List Step}
       → Starts s state.entries τ f start → ReductionAt s state.entries τ f g steps
       → LabelInvariant s (state_after state τ
-        (Outcome.an_entry g (record { start = start; steps = steps })))
+      (Outcome.an_entry g (record { start = start; steps = steps })))
   entry_labels {g = g} {start = start} {steps = steps} starts reduction = record {
     entries =
         λ e k. label e k (front_or_later state.entries
-          (record { signature = τ; polynomial = g; trace = record { start = start; steps = steps } }
-            ∷ []) e k);
+        (record { signature = τ; polynomial = g; trace = record { start = start; steps = steps } }
+        ∷ []) e k);
     syzygies =
         λ h k. subst (IsLabelled s h.signature [])
         (sym (ap (λ l. trace_label s.prime l h.trace) pushed
-            ∙ trace_kept s.prime (labels_of s.prime state.entries)
-            (less_steps s.prime (labels_of s.prime state.entries)
-              (start_label (labels_of s.prime state.entries) start) steps) h.trace
-            (subst (λ n. StartUpTo n h.trace.start) (sym labels_are) (old.names h k).0)
-            (subst (λ n. NamesUpTo n h.trace.steps) (sym labels_are) (old.names h k).1)))
+        ∙ trace_kept s.prime (labels_of s.prime state.entries)
+        (less_steps s.prime (labels_of s.prime state.entries)
+        (start_label (labels_of s.prime state.entries) start) steps) h.trace
+        (subst (λ n. StartUpTo n h.trace.start) (sym labels_are) (old.names h k).0)
+        (subst (λ n. NamesUpTo n h.trace.steps) (sym labels_are) (old.names h k).1)))
         (old.syzygies h k);
-    names = λ h k. (start_more (length state.entries)
-          (length (state.entries ++ (record { signature = τ;
-                polynomial = g; trace = record { start = start; steps = steps } } ∷ []))) longer
+    names = λ h k. (
+      start_more (length state.entries)
+          (length (state.entries ++ (record {
+            signature = τ;
+            polynomial = g;
+            trace = record { start = start; steps = steps };
+          } ∷ []))) longer
           h.trace.start (old.names h k).0,
-          names_more (length state.entries)
-          (length (state.entries ++ (record { signature = τ;
-                polynomial = g; trace = record { start = start; steps = steps } } ∷ []))) longer
-          h.trace.steps (old.names h k).1);
+      names_more (length state.entries)
+          (length (state.entries ++ (record {
+            signature = τ;
+            polynomial = g;
+            trace = record { start = start; steps = steps };
+          } ∷ []))) longer
+          h.trace.steps (old.names h k).1,
+    );
   }
     where
       longer : length state.entries ≤ length (state.entries
-            ++ (record { signature = τ; polynomial = g;
-                trace = record { start = start; steps = steps } } ∷ []))
+          ++ (record {
+            signature = τ;
+            polynomial = g;
+            trace = record { start = start; steps = steps };
+          } ∷ []))
       longer =
-          omega (arith, length-append state.entries
-            (record { signature = τ; polynomial = g;
-                trace = record { start = start; steps = steps } } ∷ []))
+          omega (
+            arith,
+            length-append state.entries
+                (record {
+                  signature = τ;
+                  polynomial = g;
+                  trace = record { start = start; steps = steps };
+                } ∷ []),
+          )
 
       pushed : labels_of s.prime (state.entries
-            ++ (record { signature = τ; polynomial = g;
-                trace = record { start = start; steps = steps } } ∷ [])) ≡ labels_of s.prime
+          ++ (record {
+            signature = τ;
+            polynomial = g;
+            trace = record { start = start; steps = steps };
+          } ∷ [])) ≡ labels_of s.prime
           state.entries ++ (less_steps s.prime (labels_of s.prime state.entries)
-            (start_label (labels_of s.prime state.entries) start) steps ∷ [])
+          (start_label (labels_of s.prime state.entries) start) steps ∷ [])
       pushed =
           labels_push s.prime [] state.entries
-          (record { signature = τ; polynomial = g;
-              trace = record { start = start; steps = steps } })
+          (record {
+            signature = τ;
+            polynomial = g;
+            trace = record { start = start; steps = steps };
+          })
 
       label : (e : Entry) (k : Contains
-            (state.entries ++ (record { signature = τ;
-                  polynomial = g; trace = record { start = start; steps = steps } } ∷ [])) e)
+          (state.entries ++ (record {
+            signature = τ;
+            polynomial = g;
+            trace = record { start = start; steps = steps };
+          } ∷ [])) e)
           → ((l : Contains state.entries e) × (l.0 ≡ k.0))
-          ⊎ (Contains (record { signature = τ;
-                polynomial = g; trace = record { start = start; steps = steps } } ∷ []) e
-            × (length state.entries ≤ k.0))
+          ⊎ (Contains (record {
+            signature = τ;
+            polynomial = g;
+            trace = record { start = start; steps = steps };
+          } ∷ []) e
+          × (length state.entries ≤ k.0))
           → IsLabelled s e.signature e.polynomial
           (label_at (labels_of s.prime (state.entries
-                ++ (record { signature = τ; polynomial = g;
-                  trace = record { start = start; steps = steps } } ∷ []))) (k.0 + 1))
+          ++ (record {
+            signature = τ;
+            polynomial = g;
+            trace = record { start = start; steps = steps };
+          } ∷ []))) (k.0 + 1))
       label e k (inl (l, i)) =
           subst (IsLabelled s e.signature e.polynomial)
           (sym (ap (λ z. label_at z (k.0 + 1)) pushed
-              ∙ (label_kept (labels_of s.prime state.entries)
-                (less_steps s.prime (labels_of s.prime state.entries)
-                  (start_label (labels_of s.prime state.entries) start) steps) (k.0 + 1)
-                (omega arith) (omega (arith, l.1, i, labels_are))
-                ∙ ap (λ n. label_at (labels_of s.prime state.entries) (n + 1)) (sym i))))
+          ∙ (label_kept (labels_of s.prime state.entries)
+          (less_steps s.prime (labels_of s.prime state.entries)
+          (start_label (labels_of s.prime state.entries) start) steps) (k.0 + 1)
+          (omega arith) (omega (arith, l.1, i, labels_are))
+          ∙ ap (λ n. label_at (labels_of s.prime state.entries) (n + 1)) (sym i))))
           (old.entries e l)
       label e k (inr (c, b)) =
           subst (IsLabelled s e.signature e.polynomial)
           (sym (ap (λ z. label_at z (k.0 + 1)) pushed ∙ get_or_at (labels_of s.prime state.entries)
-              (less_steps s.prime (labels_of s.prime state.entries)
-                (start_label (labels_of s.prime state.entries) start) steps) [] [] (k.0 + 1 - 1)
-              (omega (arith, labels_are, b, k.1,
-                  length-append state.entries (record { signature = τ;
-                  polynomial = g; trace = record { start = start; steps = steps } } ∷ [])))))
+          (less_steps s.prime (labels_of s.prime state.entries)
+          (start_label (labels_of s.prime state.entries) start) steps) [] [] (k.0 + 1 - 1)
+          (omega (
+            arith,
+            labels_are,
+            b,
+            k.1,
+            length-append state.entries (record {
+              signature = τ;
+              polynomial = g;
+              trace = record { start = start; steps = steps };
+            } ∷ []),
+          ))))
           (subst (λ x. IsLabelled s x.signature x.polynomial
-              (less_steps s.prime (labels_of s.prime state.entries)
-                (start_label (labels_of s.prime state.entries) start) steps))
-            (only_one (record { signature = τ;
-                  polynomial = g; trace = record { start = start; steps = steps } }) e c)
-            (trace_labelled s field state.entries (labels_of s.prime state.entries) old.entries τ
-              inside starts reduction))
+          (less_steps s.prime (labels_of s.prime state.entries)
+          (start_label (labels_of s.prime state.entries) start) steps))
+          (only_one (record {
+            signature = τ;
+            polynomial = g;
+            trace = record { start = start; steps = steps };
+          }) e c)
+          (trace_labelled s field state.entries (labels_of s.prime state.entries) old.entries τ
+          inside starts reduction))
 
   handled_labels : {o : Outcome} → Handles s state τ o → LabelInvariant s (state_after state τ o)
   handled_labels (Handles.is_covered k) =
@@ -313,7 +372,10 @@ pub labels_hold : (P : Problem) → IsField P.setting.prime
     → {n : ℕ} {state : State} {last : Option Monomial} → SequentialRun P n state last
     → LabelInvariant P.setting state
 labels_hold P field SequentialRun.opened =
-    record { entries = λ e k. absurd (omega (arith, k.1));
-      syzygies = λ h k. absurd (omega (arith, k.1)); names = λ h k. absurd (omega (arith, k.1)) }
+    record {
+      entries = λ e k. absurd (omega (arith, k.1));
+      syzygies = λ h k. absurd (omega (arith, k.1));
+      names = λ h k. absurd (omega (arith, k.1));
+    }
 labels_hold P field (SequentialRun.handled {state = state} run τ next o h) =
     handled_labels P.setting field state (labels_hold P field run) τ next.candidate.0.0 h

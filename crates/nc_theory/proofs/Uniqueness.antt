@@ -19,8 +19,8 @@ use Rattle.nc_theory.specs.States.{Entry, State}
 use Rattle.std.proofs.Common.{◌≡◌, ℕ, ◌-◌, ◌*◌, ◌%◌, ◌<◌, ◌⊎◌, sym, ap, ◌∙◌, subst, inl, inr, arith, Contains, Option}
 
 module _ (s : Setting) (field : IsField s.prime) (state : State) (τ : Monomial) (bound : Monomial
-      → Type 0) (basis : IsBasisBelow s state bound) (down : (σ : Monomial) → IsLess s σ τ
-      → HasGenerator s σ → bound σ) where
+    → Type 0) (basis : IsBasisBelow s state bound) (down : (σ : Monomial) → IsLess s σ τ
+    → HasGenerator s σ → bound σ) where
   positive : 0 < s.prime
   positive = omega (arith, field.above_one)
 
@@ -29,7 +29,7 @@ module _ (s : Setting) (field : IsField s.prime) (state : State) (τ : Monomial)
       → (w : Word) → IsLeadingWord s (minus s.prime f 1 f') w → ⊥
   no_lead f f' c c' w d =
       go (strike_top s c.label 1 c'.label τ positive c.labelled.leads c'.labelled.leads
-        (c.labelled.one ∙ sym (ap (λ n. n % s.prime) (omega arith) ∙ c'.labelled.one)))
+      (c.labelled.one ∙ sym (ap (λ n. n % s.prime) (omega arith) ∙ c'.labelled.one)))
     where
       difference : Element
       difference = minus s.prime c.label 1 c'.label
@@ -39,11 +39,11 @@ module _ (s : Setting) (field : IsField s.prime) (state : State) (τ : Monomial)
       value y =
           ap (λ n. n % s.prime) (evaluation-minus s c.label 1 c'.label y)
           ∙ (sum_mod s.prime (coefficient (evaluation s c.label) y) (coefficient f y)
-            ((s.prime - 1) * 1 * coefficient (evaluation s c'.label) y)
-            ((s.prime - 1) * 1 * coefficient f' y) (c.labelled.evaluates.at y)
-            (times_mod s.prime ((s.prime - 1) * 1) (coefficient (evaluation s c'.label) y)
-              (coefficient f' y) (c'.labelled.evaluates.at y))
-            ∙ ap (λ n. n % s.prime) (sym (coefficient_polynomial_minus s f 1 f' y)))
+          ((s.prime - 1) * 1 * coefficient (evaluation s c'.label) y)
+          ((s.prime - 1) * 1 * coefficient f' y) (c.labelled.evaluates.at y)
+          (times_mod s.prime ((s.prime - 1) * 1) (coefficient (evaluation s c'.label) y)
+          (coefficient f' y) (c'.labelled.evaluates.at y))
+          ∙ ap (λ n. n % s.prime) (sym (coefficient_polynomial_minus s f 1 f' y)))
 
       clash : RegularDivisor s state.entries τ w → ⊥
       clash r = both (zero_dec s.prime (coefficient f w)) (zero_dec s.prime (coefficient f' w))
@@ -54,19 +54,26 @@ module _ (s : Setting) (field : IsField s.prime) (state : State) (τ : Monomial)
           both (inl z) (inr n) = c'.clear w n r
           both (inl z) (inl y) =
               d.nonzero (subst (IsZero s.prime) (sym (coefficient_polynomial_minus s f 1 f' w))
-                (zero_add s.prime (coefficient f w) ((s.prime - 1) * 1 * coefficient f' w) z
-                  (zero_mul_left s.prime ((s.prime - 1) * 1) (coefficient f' w) y)))
+              (zero_add s.prime (coefficient f w) ((s.prime - 1) * 1 * coefficient f' w) z
+              (zero_mul_left s.prime ((s.prime - 1) * 1) (coefficient f' w) y)))
 
       -- a chain for the difference begins with a regular divisor
       begins : (σ : Monomial) → IsLess s σ τ → {h : Polynomial} → ReducesToZero s state.entries σ h
           → SamePolynomial s h (minus s.prime f 1 f') → ⊥
       begins σ l (ReducesToZero.done z) e = d.nonzero (sym (e.at w) ∙ z w)
       begins σ l (ReducesToZero.step {f = h} x hl v le k q rest) e =
-          clash (record { divisor = record { entry = v.entry;
-                listed = v.listed; left = v.left;
-                right = v.right; spells = v.spells ∙ lead_unique same_word IsWordLess word_laws
-                s.prime (minus s.prime f 1 f') x w (leads_same s h (minus s.prime f 1 f') x e hl) d
-                }; below = under le })
+          clash (record {
+            divisor = record {
+              entry = v.entry;
+              listed = v.listed;
+              left = v.left;
+              right = v.right;
+              spells = v.spells ∙ lead_unique same_word IsWordLess word_laws
+                  s.prime (minus s.prime f 1 f') x w (leads_same s h (minus s.prime f 1 f') x e hl)
+                  d;
+            };
+            below = under le;
+          })
         where
           under : (signature_at s state.entries x v ≡ σ)
               ⊎ IsLess s (signature_at s state.entries x v) σ
@@ -80,15 +87,15 @@ module _ (s : Setting) (field : IsField s.prime) (state : State) (τ : Monomial)
       under σ ρ l (inr m) = (monomial_laws (generator_weight s)).trans ρ σ τ m l
 
       go : ((σ : Monomial) → IsZero s.prime
-            (coefficient_by same_monomial (minus s.prime c.label 1 c'.label) σ))
+          (coefficient_by same_monomial (minus s.prime c.label 1 c'.label) σ))
           ⊎ ((σ : Monomial) × IsLess s σ τ × IsSignatureOf s (minus s.prime c.label 1 c'.label) σ)
           → ⊥
       go (inl z) = d.nonzero (sym (value w) ∙ evaluation_zero s difference z w)
       go (inr (σ, l, e)) =
           begins σ l (basis difference σ
-            (λ ρ n. down ρ (under σ ρ l (below_lead same_monomial (IsLess s)
-                  (monomial_laws (generator_weight s)) s.prime difference σ ρ e n))
-              (in_minus s c.label 1 c'.label c.labelled.lies c'.labelled.lies ρ n)) e)
+          (λ ρ n. down ρ (under σ ρ l (below_lead same_monomial (IsLess s)
+          (monomial_laws (generator_weight s)) s.prime difference σ ρ e n))
+          (in_minus s c.label 1 c'.label c.labelled.lies c'.labelled.lies ρ n)) e)
           (record { at = value })
 
   pub canonical_unique : (f f' : Polynomial) → IsCanonical s state.entries τ f
@@ -122,6 +129,7 @@ module _ (P : Problem) (field : IsField P.setting.prime) {n : ℕ} {state : Stat
     where
       down : (σ : Monomial) → IsLess P.setting σ e.signature → HasGenerator P.setting σ
           → IsWithinReached P last σ
-      down σ l m =
-          (within_down P σ e.signature ((invariant P field run).within e k) l m,
-            reached_down P last σ e.signature l ((invariant P field run).below_last e k))
+      down σ l m = (
+        within_down P σ e.signature ((invariant P field run).within e k) l m,
+        reached_down P last σ e.signature l ((invariant P field run).below_last e k),
+      )

@@ -40,7 +40,7 @@ module _ {X Y : Type 0} (f : X → Y) (xs xs' : List X) (same : map f xs ≡ map
   pub in_place_alike : (x : X) (c : Contains xs x) → f x ≡ f (in_place x c)
   in_place_alike x c =
       sym (ap f c.2) ∙ (sym (get_or-map f xs c.0 x (f x) c.1)
-        ∙ (ap (λ ys. get_or ys c.0 (f x)) same ∙ get_or-map f xs' c.0 x (f x) (in_bounds x c)))
+      ∙ (ap (λ ys. get_or ys c.0 (f x)) same ∙ get_or-map f xs' c.0 x (f x) (in_bounds x c)))
 
 -- ---- divisors
 
@@ -54,16 +54,25 @@ module _ (s : Setting) (es es' : List Entry) (same : SameEntries es es') where
 
   abbrev pub moved : (w : Word) → Divisor s es w → Divisor s es' w
   moved w d =
-      record { entry = other w d; listed = in_place_listed untraced_entry es es' same d.entry
-        d.listed; left = d.left; right = d.right;
+      record {
+        entry = other w d;
+        listed = in_place_listed untraced_entry es es' same d.entry
+            d.listed;
+        left = d.left;
+        right = d.right;
         spells = subst (λ (e : Entry). d.left ++ (leading s.prime e.polynomial ++ d.right) ≡ w)
-        (other_alike w d) d.spells }
+            (other_alike w d) d.spells;
+      }
 
   pub moved_same : (w : Word) (d : Divisor s es w) → IsSameDivisor s es es' w d (moved w d)
   moved_same w d =
-      record { number = refl; left = refl;
-        right = refl; signature = ap (λ (e : Entry). e.signature) (other_alike w d);
-        polynomial = ap (λ (e : Entry). e.polynomial) (other_alike w d) }
+      record {
+        number = refl;
+        left = refl;
+        right = refl;
+        signature = ap (λ (e : Entry). e.signature) (other_alike w d);
+        polynomial = ap (λ (e : Entry). e.polynomial) (other_alike w d);
+      }
 
 module _ (s : Setting) (es es' : List Entry) (w : Word) (d : Divisor s es w) (d' : Divisor s es' w)
     (same : IsSameDivisor s es es' w d d') where
@@ -75,9 +84,13 @@ module _ (s : Setting) (es es' : List Entry) (w : Word) (d : Divisor s es w) (d'
 
   pub other_side : IsSameDivisor s es' es w d' d
   other_side =
-      record { number = sym same.number;
-        left = sym same.left; right = sym same.right;
-        signature = sym same.signature; polynomial = sym same.polynomial }
+      record {
+        number = sym same.number;
+        left = sym same.left;
+        right = sym same.right;
+        signature = sym same.signature;
+        polynomial = sym same.polynomial;
+      }
 
 module _ (s : Setting) (es es' : List Entry) (same : SameEntries es es') where
   abbrev pub back : (w : Word) → Divisor s es' w → Divisor s es w
@@ -102,7 +115,7 @@ module _ (s : Setting) (es es' : List Entry) (same : SameEntries es es') where
     where
       least : (e : Divisor s es' w) → (number_of s es w d < number_of s es w (back w e))
           ⊎ ((number_of s es w d ≡ number_of s es w (back w e))
-            × (length d.left ≤ length (back w e).left))
+          × (length d.left ≤ length (back w e).left))
           → (number_of s es' w d' < number_of s es' w e)
           ⊎ ((number_of s es' w d' ≡ number_of s es' w e) × (length d'.left ≤ length e.left))
       least e (inl l) = inl (omega (arith, l, k.number))
@@ -124,13 +137,17 @@ module _ (s : Setting) (es es' : List Entry) (same : SameEntries es es') where
   abbrev pub moved_regular : (τ : Monomial) (w : Word) → RegularDivisor s es τ w
       → RegularDivisor s es' τ w
   moved_regular τ w r =
-      record { divisor = moved s es es' same w r.divisor;
-        below = subst (λ σ. IsLess s σ τ) (moved_signature w r.divisor) r.below }
+      record {
+        divisor = moved s es es' same w r.divisor;
+        below = subst (λ σ. IsLess s σ τ) (moved_signature w r.divisor) r.below;
+      }
 
   abbrev pub moved_multiple : (τ : Monomial) (w : Word) → Multiple s es τ w → Multiple s es' τ w
   moved_multiple τ w m =
-      record { divisor = moved s es es' same w m.divisor;
-        signed = sym (moved_signature w m.divisor) ∙ m.signed }
+      record {
+        divisor = moved s es es' same w m.divisor;
+        signed = sym (moved_signature w m.divisor) ∙ m.signed;
+      }
 
   -- ---- reductions
 
@@ -138,15 +155,15 @@ module _ (s : Setting) (es es' : List Entry) (same : SameEntries es es') where
       → Reduction s es set f kept steps → Reduction s es' set f kept steps
   moved_reduction set (Reduction.finished z) = Reduction.finished z
   moved_reduction set (Reduction.subtract {f = f} {kept = kept} {steps = steps} w l d chosen c small
-        q rest) =
+      q rest) =
       Reduction.subtract w l (moved s es es' same w d)
-          (moved_chosen set w d chosen (moved s es es' same w d) (moved_same s es es' same w d)) c
-          small
+      (moved_chosen set w d chosen (moved s es es' same w d) (moved_same s es es' same w d)) c
+      small
       (subst (λ (e : Entry). c * coefficient e.polynomial (leading s.prime e.polynomial) % s.prime
-              ≡ coefficient f w % s.prime) (other_alike s es es' same w d) q)
+      ≡ coefficient f w % s.prime) (other_alike s es es' same w d) q)
       (subst (λ g. Reduction s es' set (minus s.prime f c g) kept steps)
-            (same_multiple s es es' w d (moved s es es' same w d) (moved_same s es es' same w d))
-            (moved_reduction set rest))
+      (same_multiple s es es' w d (moved s es es' same w d) (moved_same s es es' same w d))
+      (moved_reduction set rest))
   moved_reduction set (Reduction.keep w l none c q rest) =
       Reduction.keep w l (λ d m. none (back w d) (subst set (back_signature w d) m)) c q
       (moved_reduction set rest)
@@ -156,11 +173,11 @@ module _ (s : Setting) (es es' : List Entry) (same : SameEntries es es') where
   moved_start τ (Starts.at_generator i e) = Starts.at_generator i e
   moved_start τ (Starts.at_multiple n w d best r) =
       subst (λ g. Starts s es' τ g (Start.a_multiple d.left (number_of s es w d) d.right))
-          (sym (same_multiple s es es' w d (moved s es es' same w d)
-              (moved_same s es es' same w d)))
+      (sym (same_multiple s es es' w d (moved s es es' same w d)
+      (moved_same s es es' same w d)))
       (Starts.at_multiple n w (moved s es es' same w d)
-            (moved_best τ w d best (moved s es es' same w d) (moved_same s es es' same w d))
-            (moved_regular τ w r))
+      (moved_best τ w d best (moved s es es' same w d) (moved_same s es es' same w d))
+      (moved_regular τ w r))
 
   -- ---- what covers
 
@@ -178,10 +195,10 @@ module _ (s : Setting) (es es' : List Entry) (same : SameEntries es es') where
     m = t.m;
     greater =
         subst (λ (j : Entry). Greater ρ t.m
-          (in_place untraced_entry es es' same t.first t.first_listed) j)
+        (in_place untraced_entry es es' same t.first t.first_listed) j)
         (in_place_alike untraced_entry es es' same t.second t.second_listed)
         (subst (λ (i : Entry). Greater ρ t.m i t.second)
-              (in_place_alike untraced_entry es es' same t.first t.first_listed) t.greater);
+        (in_place_alike untraced_entry es es' same t.first t.first_listed) t.greater);
   }
 
 -- ---- ambiguities
@@ -238,17 +255,21 @@ pub more_same : (es es' : List Entry) (e e' : Entry) → SameEntries es es'
     → untraced_entry e ≡ untraced_entry e' → SameEntries (es ++ (e ∷ [])) (es' ++ (e' ∷ []))
 more_same es es' e e' same alike =
     map-append untraced_entry es (e ∷ [])
-        ∙ (ap₂ (λ xs x. xs ++ (x ∷ [])) same alike ∙ sym (map-append untraced_entry es' (e' ∷ [])))
+    ∙ (ap₂ (λ xs x. xs ++ (x ∷ [])) same alike ∙ sym (map-append untraced_entry es' (e' ∷ [])))
 
 module _ (s : Setting) (es es' : List Entry) (e e' : Entry) (same : SameEntries es es')
     (alike : untraced_entry e ≡ untraced_entry e') where
   abbrev placed : (w : Word) (d : Divisor s (es ++ (e ∷ [])) w) → d.entry ≡ e
       → Divisor s (es' ++ (e' ∷ [])) w
   placed w d i =
-      record { entry = e'; listed = Contains-push es' e';
-        left = d.left; right = d.right;
+      record {
+        entry = e';
+        listed = Contains-push es' e';
+        left = d.left;
+        right = d.right;
         spells = subst (λ (x : Entry). d.left ++ (leading s.prime x.polynomial ++ d.right) ≡ w)
-        (ap untraced_entry i ∙ alike) d.spells }
+            (ap untraced_entry i ∙ alike) d.spells;
+      }
 
   pub moved_new : (ρ : Monomial) → NewAmbiguity s es e ρ → NewAmbiguity s es' e' ρ
   moved_new ρ n = go n.newest
@@ -264,9 +285,12 @@ module _ (s : Setting) (es es' : List Entry) (e e' : Entry) (same : SameEntries 
             (placed n.word n.ambiguity.high i)
             (moved s (es ++ (e ∷ [])) (es' ++ (e' ∷ [])) more n.word n.ambiguity.low)
             (record { left = refl; right = refl; entry = ap untraced_entry i ∙ alike })
-                (record { left = refl; right = refl;
-                    entry = other_alike s (es ++ (e ∷ [])) (es' ++ (e' ∷ [])) more n.word
-                    n.ambiguity.low });
+            (record {
+              left = refl;
+              right = refl;
+              entry = other_alike s (es ++ (e ∷ [])) (es' ++ (e' ∷ [])) more n.word
+                  n.ambiguity.low;
+            });
         newest = inl refl;
       }
       go (inr i) = record {
@@ -275,9 +299,15 @@ module _ (s : Setting) (es es' : List Entry) (e e' : Entry) (same : SameEntries 
             like_ambiguity s (es ++ (e ∷ [])) (es' ++ (e' ∷ [])) ρ n.word n.ambiguity
             (moved s (es ++ (e ∷ [])) (es' ++ (e' ∷ [])) more n.word n.ambiguity.high)
             (placed n.word n.ambiguity.low i)
-            (record { left = refl; right = refl;
-                    entry = other_alike s (es ++ (e ∷ [])) (es' ++ (e' ∷ [])) more n.word
-                    n.ambiguity.high }) (record { left = refl;
-                    right = refl; entry = ap untraced_entry i ∙ alike });
+            (record {
+              left = refl;
+              right = refl;
+              entry = other_alike s (es ++ (e ∷ [])) (es' ++ (e' ∷ [])) more n.word
+                  n.ambiguity.high;
+            }) (record {
+              left = refl;
+              right = refl;
+              entry = ap untraced_entry i ∙ alike;
+            });
         newest = inr refl;
       }

@@ -23,17 +23,20 @@ module _ (s : Setting) (es es' : List Entry) (same : SameEntries es es') where
   moved_chain τ (ReducesToZero.done z) = ReducesToZero.done z
   moved_chain τ (ReducesToZero.step {f = f} w l d below c q rest) =
       ReducesToZero.step w l (moved s es es' same w d)
-          (subst (λ σ. (σ ≡ τ) ⊎ IsLess s σ τ) (moved_signature s es es' same w d) below) c
+      (subst (λ σ. (σ ≡ τ) ⊎ IsLess s σ τ) (moved_signature s es es' same w d) below) c
       (subst (λ (e : Entry). c * coefficient e.polynomial (leading s.prime e.polynomial) % s.prime
-              ≡ coefficient f w % s.prime) (other_alike s es es' same w d) q)
+      ≡ coefficient f w % s.prime) (other_alike s es es' same w d) q)
       (subst (λ g. ReducesToZero s es' τ (minus s.prime f c g))
-            (same_multiple s es es' w d (moved s es es' same w d) (moved_same s es es' same w d))
-            (moved_chain τ rest))
+      (same_multiple s es es' w d (moved s es es' same w d) (moved_same s es es' same w d))
+      (moved_chain τ rest))
 
   moved_one : (τ : Monomial) (f : Polynomial) → IsCanonical s es τ f → IsCanonical s es' τ f
   moved_one τ f c =
-      record { label = c.label; labelled = c.labelled;
-        clear = λ w n r. c.clear w n (moved_regular s es' es (sym same) τ w r) }
+      record {
+        label = c.label;
+        labelled = c.labelled;
+        clear = λ w n r. c.clear w n (moved_regular s es' es (sym same) τ w r);
+      }
 
 module _ (s : Setting) (state state' : State) (same : SameStates state state') where
   es : SameEntries state.entries state'.entries
@@ -44,7 +47,7 @@ module _ (s : Setting) (state state' : State) (same : SameStates state state') w
     generators = λ i m. unit i (c.generators i m);
     ambiguities =
         λ ρ w a m. settled ρ w (c.ambiguities ρ w
-          (moved_ambiguity s state'.entries state.entries (sym es) ρ w a) m);
+        (moved_ambiguity s state'.entries state.entries (sym es) ρ w a) m);
   }
     where
       unit : (i : ℕ) → ((e : Entry) × Contains state.entries e × (e.signature ≡ unit_monomial i))
@@ -52,10 +55,12 @@ module _ (s : Setting) (state state' : State) (same : SameStates state state') w
           → ((e : Entry) × Contains state'.entries e × (e.signature ≡ unit_monomial i))
           ⊎ Covered s state' (unit_monomial i)
       unit i (inl (e, k, u)) =
-          inl (in_place untraced_entry state.entries state'.entries es e k,
+          inl (
+            in_place untraced_entry state.entries state'.entries es e k,
             in_place_listed untraced_entry state.entries state'.entries es e k,
             sym (ap (λ (x : Entry). x.signature)
-              (in_place_alike untraced_entry state.entries state'.entries es e k)) ∙ u)
+                (in_place_alike untraced_entry state.entries state'.entries es e k)) ∙ u,
+          )
       unit i (inr k) = inr (moved_covered s state state' same (unit_monomial i) k)
 
       settled : (ρ : Monomial) (w : Word) → Covered s state ρ
@@ -77,12 +82,12 @@ module _ (s : Setting) (state state' : State) (same : SameStates state state') w
   pub moved_canonical : AreCanonical s state → AreCanonical s state'
   moved_canonical h e k =
       subst (λ (x : Entry). Is x) (sym (in_place_alike untraced_entry state'.entries state.entries
-          (sym es) e k)) (here (h d listed))
+      (sym es) e k)) (here (h d listed))
     where
       Is : Entry → Type 0
       Is x = IsCanonical s state'.entries x.signature x.polynomial
           × ((f : Polynomial) → IsCanonical s state'.entries x.signature f
-            → SamePolynomial s f x.polynomial)
+          → SamePolynomial s f x.polynomial)
 
       d : Entry
       d = in_place untraced_entry state'.entries state.entries (sym es) e k
@@ -92,10 +97,11 @@ module _ (s : Setting) (state state' : State) (same : SameStates state state') w
 
       here : IsCanonical s state.entries d.signature d.polynomial
           × ((f : Polynomial) → IsCanonical s state.entries d.signature f
-            → SamePolynomial s f d.polynomial) → Is d
-      here (c, one) =
-          (moved_one s state.entries state'.entries es d.signature d.polynomial c,
-            λ f g. one f (moved_one s state'.entries state.entries (sym es) d.signature f g))
+          → SamePolynomial s f d.polynomial) → Is d
+      here (c, one) = (
+        moved_one s state.entries state'.entries es d.signature d.polynomial c,
+        λ f g. one f (moved_one s state'.entries state.entries (sym es) d.signature f g),
+      )
 
 pub moved_bases_at : (P : Problem) (state state' : State) → SameStates state state' → (ending : End)
     → HasBasesAt P state ending → HasBasesAt P state' ending

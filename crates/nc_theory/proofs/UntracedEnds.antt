@@ -19,13 +19,17 @@ module _ (P : Problem) (prime : IsPrime P.setting.prime) where
 
   has_bases : {n : ℕ} {run : State} {ending : End} → IsEnd P n run ending → HasBasesAt P run ending
   has_bases (IsEnd.is_complete l runs none) =
-      record { closed = closed_at_end P field runs none;
+      record {
+        closed = closed_at_end P field runs none;
         basis = (enough_at_end P field runs none).0;
-        syzygies = (enough_at_end P field runs none).1 }
+        syzygies = (enough_at_end P field runs none).1;
+      }
   has_bases (IsEnd.is_budget e runs τ next) =
-      record { closed = closed_below_next P field runs τ next;
+      record {
+        closed = closed_below_next P field runs τ next;
         basis = (enough_below_next P field runs τ next).0;
-        syzygies = (enough_below_next P field runs τ next).1 }
+        syzygies = (enough_below_next P field runs τ next).1;
+      }
 
   pub end_facts : (n : ℕ) (state : State) (ending : End) → IsEndOf P n state ending
       → HasBasesAt P state ending

@@ -28,7 +28,7 @@ module _ (P : Problem) where
     last = Some τ;
     runs = subst (λ m. SequentialRun P m (state_after r.run τ o) (Some τ)) (sym (add-one n))
         (SequentialRun.handled r.runs τ r.next o
-          (moved_handles P.setting state r.run (same_run state r.run r.stands) τ o h));
+        (moved_handles P.setting state r.run (same_run state r.run r.stands) τ o h));
     stands = same_after state r.run (same_run state r.run r.stands) τ o;
   }
 
@@ -36,7 +36,7 @@ module _ (P : Problem) where
       → IsRunOf P n state' → state ≡ state'
   one prime n state state' a b =
       a.stands ∙ (ap untraced (run_unique P (field_from_prime P.setting.prime prime) a.runs
-          b.runs).0 ∙ sym b.stands)
+      b.runs).0 ∙ sym b.stands)
 
   one_next : IsPrime P.setting.prime → (n : ℕ) (state state' : State) (τ τ' : Monomial)
       → IsNextOfRun P n state τ → IsNextOfRun P n state' τ' → τ ≡ τ'

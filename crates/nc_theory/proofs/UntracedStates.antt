@@ -36,10 +36,12 @@ moved_covered s state state' same τ c =
 
     go : IsSyzygySignature s state c.by → IsSyzygySignature s state' c.by
     go (inl (h, k, e)) =
-        inl (in_place untraced_syzygy state.syzygies state'.syzygies hs h k,
+        inl (
+          in_place untraced_syzygy state.syzygies state'.syzygies hs h k,
           in_place_listed untraced_syzygy state.syzygies state'.syzygies hs h k,
           sym (ap (λ (g : Syzygy). g.signature)
-            (in_place_alike untraced_syzygy state.syzygies state'.syzygies hs h k)) ∙ e)
+              (in_place_alike untraced_syzygy state.syzygies state'.syzygies hs h k)) ∙ e,
+        )
     go (inr t) =
         inr (moved_trivial s state.entries state'.entries (same_entries state state' same) c.by t)
 
@@ -49,22 +51,22 @@ moved_handles s state state' same τ o (Handles.is_covered c) =
     Handles.is_covered (moved_covered s state state' same τ c)
 moved_handles s state state' same τ o (Handles.is_settled n u w d best r) =
     Handles.is_settled (λ c. n (moved_covered s state' state (sym same) τ c)) u w
-        (moved s state.entries state'.entries (same_entries state state' same) w d)
+    (moved s state.entries state'.entries (same_entries state state' same) w d)
     (moved_best s state.entries state'.entries (same_entries state state' same) τ w d best
-          (moved s state.entries state'.entries (same_entries state state' same) w d)
-          (moved_same s state.entries state'.entries (same_entries state state' same) w d))
+    (moved s state.entries state'.entries (same_entries state state' same) w d)
+    (moved_same s state.entries state'.entries (same_entries state state' same) w d))
     (λ q. r (moved_regular s state'.entries state.entries (sym (same_entries state state' same)) τ w
-            q))
+    q))
 moved_handles s state state' same τ o (Handles.is_syzygy n starts reduces) =
     Handles.is_syzygy (λ c. n (moved_covered s state' state (sym same) τ c))
-        (moved_start s state.entries state'.entries (same_entries state state' same) τ starts)
+    (moved_start s state.entries state'.entries (same_entries state state' same) τ starts)
     (moved_reduction s state.entries state'.entries (same_entries state state' same)
-          (λ σ. IsLess s σ τ) reduces)
+    (λ σ. IsLess s σ τ) reduces)
 moved_handles s state state' same τ o (Handles.is_entry n starts reduces) =
     Handles.is_entry (λ c. n (moved_covered s state' state (sym same) τ c))
-        (moved_start s state.entries state'.entries (same_entries state state' same) τ starts)
+    (moved_start s state.entries state'.entries (same_entries state state' same) τ starts)
     (moved_reduction s state.entries state'.entries (same_entries state state' same)
-          (λ σ. IsLess s σ τ) reduces)
+    (λ σ. IsLess s σ τ) reduces)
 
 pub moved_brings : (s : Setting) (state state' : State) → SameStates state state'
     → (τ : Monomial) (o : Outcome) (ρ : Monomial) → BringsAmbiguity s state τ o ρ
@@ -84,8 +86,11 @@ moved_candidate P state state' same τ c = (c.0, go c.1)
         → ((i : ℕ) × (τ ≡ unit_monomial i)) ⊎ ((w : Word) × Ambiguity P.setting state'.entries τ w)
     go (inl u) = inl u
     go (inr (w, a)) =
-        inr (w, moved_ambiguity P.setting state.entries state'.entries
-          (same_entries state state' same) τ w a)
+        inr (
+          w,
+          moved_ambiguity P.setting state.entries state'.entries
+              (same_entries state state' same) τ w a,
+        )
 
 pub moved_none : (P : Problem) (state state' : State) → SameStates state state'
     → (last : Option Monomial) → NoneWaits P state last → NoneWaits P state' last
@@ -94,22 +99,37 @@ moved_none P state state' same last n τ c = n τ (moved_candidate P state' stat
 pub moved_next : (P : Problem) (state state' : State) → SameStates state state'
     → (last : Option Monomial) (τ : Monomial) → IsNext P state last τ → IsNext P state' last τ
 moved_next P state state' same last τ n =
-    record { candidate = moved_candidate P state state' same τ n.candidate;
-      left = n.left; least = λ σ c a. n.least σ (moved_candidate P state' state (sym same) σ c) a }
+    record {
+      candidate = moved_candidate P state state' same τ n.candidate;
+      left = n.left;
+      least = λ σ c a. n.least σ (moved_candidate P state' state (sym same) σ c) a;
+    }
 
 -- ---- the state with an outcome
 
 pub same_after : (state state' : State) → SameStates state state' → (τ : Monomial) (o : Outcome)
     → SameStates (state_after state τ o) (state_after state' τ o)
 same_after state state' same τ Outcome.covered =
-    λ i. record { entries = (same i).entries;
-      syzygies = (same i).syzygies; covered = (same i).covered + 1; settled = (same i).settled }
+    λ i. record {
+      entries = (same i).entries;
+      syzygies = (same i).syzygies;
+      covered = (same i).covered + 1;
+      settled = (same i).settled;
+    }
 same_after state state' same τ (Outcome.settled j) =
-    λ i. record { entries = (same i).entries;
-      syzygies = (same i).syzygies; covered = (same i).covered; settled = (same i).settled + 1 }
+    λ i. record {
+      entries = (same i).entries;
+      syzygies = (same i).syzygies;
+      covered = (same i).covered;
+      settled = (same i).settled + 1;
+    }
 same_after state state' same τ (Outcome.an_entry f t) =
-    λ i. record { entries = more i;
-      syzygies = (same i).syzygies; covered = (same i).covered; settled = (same i).settled }
+    λ i. record {
+      entries = more i;
+      syzygies = (same i).syzygies;
+      covered = (same i).covered;
+      settled = (same i).settled;
+    }
   where
     more : SameEntries (state.entries ++ (record { signature = τ; polynomial = f; trace = t } ∷ []))
         (state'.entries ++ (record { signature = τ; polynomial = f; trace = t } ∷ []))
@@ -117,17 +137,21 @@ same_after state state' same τ (Outcome.an_entry f t) =
         (record { signature = τ; polynomial = f; trace = t })
         (record { signature = τ; polynomial = f; trace = t }) (same_entries state state' same) refl
 same_after state state' same τ (Outcome.a_syzygy t) =
-    λ i. record { entries = (same i).entries;
-      syzygies = more i; covered = (same i).covered; settled = (same i).settled }
+    λ i. record {
+      entries = (same i).entries;
+      syzygies = more i;
+      covered = (same i).covered;
+      settled = (same i).settled;
+    }
   where
     more : SameSyzygies (state.syzygies ++ (record { signature = τ; trace = t } ∷ []))
         (state'.syzygies ++ (record { signature = τ; trace = t } ∷ []))
     more =
         map-append untraced_syzygy state.syzygies (record { signature = τ; trace = t } ∷ [])
         ∙ (ap (λ hs. hs ++ (untraced_syzygy (record { signature = τ; trace = t }) ∷ []))
-              (same_syzygies state state' same)
-              ∙ sym (map-append untraced_syzygy state'.syzygies
-                (record { signature = τ; trace = t } ∷ [])))
+        (same_syzygies state state' same)
+        ∙ sym (map-append untraced_syzygy state'.syzygies
+        (record { signature = τ; trace = t } ∷ [])))
 
 -- ---- traces that are forgotten twice
 
@@ -138,6 +162,9 @@ map_twice f e (x ∷ xs) = ap₂ (λ y ys. y ∷ ys) (e x) (map_twice f e xs)
 
 pub untraced_twice : (state : State) → SameStates (untraced state) state
 untraced_twice state =
-    λ i. record { entries = map_twice untraced_entry (λ e. refl) state.entries i;
+    λ i. record {
+      entries = map_twice untraced_entry (λ e. refl) state.entries i;
       syzygies = map_twice untraced_syzygy (λ h. refl) state.syzygies i;
-      covered = state.covered; settled = state.settled }
+      covered = state.covered;
+      settled = state.settled;
+    }

@@ -40,7 +40,7 @@ module _ (P : Problem) (prime : IsPrime P.setting.prime) (n : ℕ) (state : Stat
   outcome : (τ : Monomial) → IsCandidate P state τ → (o : Outcome) × Handles P.setting state τ o
   outcome τ c =
       go (handles_exists P.setting field r.run (invariant P field r.runs).sound.nonzero τ
-        (source P field r.run τ (moved_candidate P state r.run same τ c)))
+      (source P field r.run τ (moved_candidate P state r.run same τ c)))
     where
       go : (o : Outcome) × Handles P.setting r.run τ o → (o : Outcome) × Handles P.setting state τ o
       go (o, h) = (o, moved_handles P.setting r.run state (sym same) τ o h)
@@ -57,10 +57,11 @@ module _ (P : Problem) (prime : IsPrime P.setting.prime) (n : ℕ) (state : Stat
   waits : (τ : Monomial) (o : Outcome) → IsNext P state last τ → Handles P.setting state τ o
       → (ρ : Monomial) → IsWaiting P (untraced (state_after state τ o)) (Some τ) ρ
       ↔ ((IsWaiting P state last ρ × (ρ ≢ τ))
-        ⊎ (IsWithin P ρ × BringsAmbiguity P.setting state τ o ρ))
-  waits τ o next h ρ =
-      (λ c. forth (law.0 (moved_candidate P after later alike ρ c.0, c.1)),
-        λ a. again (law.1 (back a)))
+      ⊎ (IsWithin P ρ × BringsAmbiguity P.setting state τ o ρ))
+  waits τ o next h ρ = (
+    λ c. forth (law.0 (moved_candidate P after later alike ρ c.0, c.1)),
+    λ a. again (law.1 (back a)),
+  )
     where
       after : State
       after = untraced (state_after state τ o)
@@ -73,14 +74,16 @@ module _ (P : Problem) (prime : IsPrime P.setting.prime) (n : ℕ) (state : Stat
 
       law : IsWaiting P (state_after r.run τ o) (Some τ) ρ
           ↔ ((IsWaiting P r.run last ρ × (ρ ≢ τ))
-            ⊎ (IsWithin P ρ × BringsAmbiguity P.setting r.run τ o ρ))
+          ⊎ (IsWithin P ρ × BringsAmbiguity P.setting r.run τ o ρ))
       law = waiting P field r.runs τ (there τ next) (handled τ o h) ρ
 
       again : IsWaiting P (state_after r.run τ o) (Some τ) ρ
           → IsWaiting P (untraced (state_after state τ o)) (Some τ) ρ
-      again c =
-          (moved_candidate P (state_after r.run τ o) (untraced (state_after state τ o)) (sym alike)
-            ρ c.0, c.1)
+      again c = (
+        moved_candidate P (state_after r.run τ o) (untraced (state_after state τ o)) (sym alike)
+            ρ c.0,
+        c.1,
+      )
 
       forth : (IsWaiting P r.run last ρ × (ρ ≢ τ))
           ⊎ (IsWithin P ρ × BringsAmbiguity P.setting r.run τ o ρ)
@@ -104,8 +107,13 @@ module _ (P : Problem) (prime : IsPrime P.setting.prime) (n : ℕ) (state : Stat
     one_outcome =
         λ τ o o' h h'. handles_unique P.setting field r.run (invariant P field r.runs).sound.nonzero
         τ (handled τ o h) (handled τ o' h');
-    next = λ τ x. record { run = r.run;
-          last = last; runs = r.runs; stands = r.stands; next = there τ x };
+    next = λ τ x. record {
+      run = r.run;
+      last = last;
+      runs = r.runs;
+      stands = r.stands;
+      next = there τ x;
+    };
     step = step;
     waits = waits;
     ascends =

@@ -42,8 +42,12 @@ differ x y n e = n (sym e)
 -- the node with a work laid into it
 abbrev pub laid : Node → Work → Node
 laid n w =
-    record { signature = n.signature;
-      index = n.index; generation = n.generation + 1; work = Some w }
+    record {
+      signature = n.signature;
+      index = n.index;
+      generation = n.generation + 1;
+      work = Some w;
+    }
 
 -- ---- what the operations on a window do to it
 
@@ -77,29 +81,36 @@ insert_ascends s n (m ∷ ns) other h =
         → IsLess s m.signature n.signature
     above e (inl l) =
         absurd (false≢true (sym e ∙ ap is_lt
-            (compare_less (compare_monomials (generator_weight s))
-              (IsMonomialLess (generator_weight s)) (monomials_compare (generator_weight s))
-              (monomial_laws (generator_weight s)).irrefl (monomial_laws (generator_weight s)).trans
-              n.signature m.signature l)))
+        (compare_less (compare_monomials (generator_weight s))
+        (IsMonomialLess (generator_weight s)) (monomials_compare (generator_weight s))
+        (monomial_laws (generator_weight s)).irrefl (monomial_laws (generator_weight s)).trans
+        n.signature m.signature l)))
     above e (inr (inl i)) = absurd (other.0 (sym i))
     above e (inr (inr l)) = l
 
     go : (b : Bool) → is_lt (compare_monomials (generator_weight s) n.signature m.signature) ≡ b
         → Pairs (IsLess s) (signatures (insert_node (generator_weight s) n ns))
         → Pairs (IsLess s) (signatures
-          (cond b (n ∷ m ∷ ns) (m ∷ insert_node (generator_weight s) n ns)))
+        (cond b (n ∷ m ∷ ns) (m ∷ insert_node (generator_weight s) n ns)))
     go true e k =
         let l : IsLess s n.signature m.signature =
-            less_from_compare (compare_monomials (generator_weight s))
-            (IsMonomialLess (generator_weight s)) (monomials_compare (generator_weight s))
-            n.signature m.signature (less_from_test
-              (compare_monomials (generator_weight s) n.signature m.signature) e) in
-        ((l, each_map (IsLess s m.signature) (IsLess s n.signature) (λ τ k. below τ l k)
-            (signatures ns) h.0), h)
-    go false e k =
-        (each_more (IsLess s m.signature)
+        less_from_compare (compare_monomials (generator_weight s))
+        (IsMonomialLess (generator_weight s)) (monomials_compare (generator_weight s))
+        n.signature m.signature (less_from_test
+        (compare_monomials (generator_weight s) n.signature m.signature) e) in (
+          (
+            l,
+            each_map (IsLess s m.signature) (IsLess s n.signature) (λ τ k. below τ l k)
+                (signatures ns) h.0,
+          ),
+          h,
+        )
+    go false e k = (
+      each_more (IsLess s m.signature)
           (adds_map (λ x. x.signature) (insert_adds (generator_weight s) n ns))
-          (above e ((monomial_laws (generator_weight s)).total n.signature m.signature)) h.0, k)
+          (above e ((monomial_laws (generator_weight s)).total n.signature m.signature)) h.0,
+      k,
+    )
 
 -- where the generation at an index is odd, a node has it, and is the one that is taken out or given
 -- a work
@@ -119,12 +130,12 @@ node_at_generation i c (n ∷ ns) e = go (nat_eq n.index i) refl e (node_at_gene
         → (2 * c + 1 ≡ generation_at ns i → At i c ns) → (m : Node) × (m.index ≡ i)
         × (m.generation ≡ 2 * c + 1) × Inserts m (cond b ns (n ∷ without_node i ns)) (n ∷ ns)
         × ((w : Work) → Inserts (laid m w) (cond b ns (n ∷ without_node i ns))
-          (cond b (laid n w ∷ ns) (n ∷ with_work i w ns)))
+        (cond b (laid n w ∷ ns) (n ∷ with_work i w ns)))
         × (cond b (Some n) (node_at ns i) ≡ Some m)
     go true d g f = (n, eqb-true n.index i d, sym g, Inserts.here, λ w. Inserts.here, refl)
     go false d g f =
         let t : At i c ns =
-            f g in (t.0, t.1, t.2, Inserts.later t.3, λ w. Inserts.later (t.4 w), t.5)
+        f g in (t.0, t.1, t.2, Inserts.later t.3, λ w. Inserts.later (t.4 w), t.5)
 
 work_signatures : (i : ℕ) (w : Work) (window : List Node)
     → signatures (with_work i w window) ≡ signatures window
@@ -163,7 +174,7 @@ found_out (m ∷ ns) τ n e h = go (same_monomial m.signature τ) refl e (λ k. 
         → Inserts n (cond b ns (m ∷ without_node n.index ns)) (m ∷ ns)
     behind a true d =
         absurd ((each_less (λ j. m.index ≢ j) (adds_map (λ x. x.index) a) h.0).0
-          (eqb-true m.index n.index d))
+        (eqb-true m.index n.index d))
     behind a false d = Inserts.later a
 
     go : (b : Bool) → same_monomial m.signature τ ≡ b → cond b (Some m) (node_of ns τ) ≡ Some n
@@ -171,12 +182,14 @@ found_out (m ∷ ns) τ n e h = go (same_monomial m.signature τ) refl e (λ k. 
         → (n.signature ≡ τ) × Inserts n (without_node n.index (m ∷ ns)) (m ∷ ns)
     go true d i f =
         let same : m ≡ n =
-            some_same m n i in (ap (λ x. x.signature) (sym same)
+        some_same m n i in (
+          ap (λ x. x.signature) (sym same)
               ∙ (monomial_laws (λ j. j)).same_eq m.signature τ d,
-              first n same (nat_eq m.index n.index) refl)
+          first n same (nat_eq m.index n.index) refl,
+        )
     go false d i f =
         let t : (n.signature ≡ τ) × Inserts n (without_node n.index ns) ns =
-            f i in (t.0, behind t.1 (nat_eq m.index n.index) refl)
+        f i in (t.0, behind t.1 (nat_eq m.index n.index) refl)
 
 -- ---- the indices of an open desk
 
@@ -186,9 +199,11 @@ from_least i n (suc m) l = (l, from_least i (n + 1) m (omega arith))
 
 counted_apart : (i n : ℕ) → Pairs (λ j k. j ≢ k) (count_from i n)
 counted_apart i zero = tt
-counted_apart i (suc n) =
-    (each_map (λ j. i + 1 ≤ j) (λ j. i ≢ j) (λ j l e. omega (arith, l, e)) (count_from (i + 1) n)
-      (from_least (i + 1) (i + 1) n (omega arith)), counted_apart (i + 1) n)
+counted_apart i (suc n) = (
+  each_map (λ j. i + 1 ≤ j) (λ j. i ≢ j) (λ j l e. omega (arith, l, e)) (count_from (i + 1) n)
+      (from_least (i + 1) (i + 1) n (omega arith)),
+  counted_apart (i + 1) n,
+)
 
 -- ---- claims
 
@@ -232,7 +247,7 @@ module _ (P : NamedProblem) (capacity : ℕ) where
   holds_later : (a b : ℕ) → a ≤ b → (n : Node) → HoldsLawful a n → HoldsLawful b n
   holds_later a b l n h w e =
       let t : IsLawful w × (w.problem ≡ P) × (w.number ≤ a) × (w.signature ≡ n.signature) =
-          h w e in (t.0, t.1, omega (arith, t.2, l), t.3)
+      h w e in (t.0, t.1, omega (arith, t.2, l), t.3)
 
   record Kept (d : Desk) : Type 0 where
     ascends : Pairs (IsLess P.problem.setting) (signatures d.window)
@@ -247,11 +262,18 @@ module _ (P : NamedProblem) (capacity : ℕ) where
 
   opened_kept : Kept (open_desk capacity)
   opened_kept =
-      record { ascends = tt; waits = tt;
+      record {
+        ascends = tt;
+        waits = tt;
         distinct = subst (Pairs (λ i j. i ≢ j)) (sym (append-nil (count_from 0 capacity)))
-        (counted_apart 0 capacity); indices_are = subst (IsPermutation (count_from 0 capacity))
-        (sym (append-nil (count_from 0 capacity))) (IsPermutation-refl (count_from 0 capacity));
-        claimed = tt; apart = tt; works = tt; full = λ l e τ next. absurd (some_free capacity l e) }
+            (counted_apart 0 capacity);
+        indices_are = subst (IsPermutation (count_from 0 capacity))
+            (sym (append-nil (count_from 0 capacity))) (IsPermutation-refl (count_from 0 capacity));
+        claimed = tt;
+        apart = tt;
+        works = tt;
+        full = λ l e τ next. absurd (some_free capacity l e);
+      }
     where
       some_free : (n : ℕ) → 1 ≤ n → count_from 0 n ≡ [] → ⊥
       some_free zero l e = omega (arith, l)
@@ -265,7 +287,7 @@ module _ (P : NamedProblem) (capacity : ℕ) where
   among_held : (d : Desk) (τ : Monomial) → Among τ (signatures d.window) → IsHeld d τ
   among_held d τ a =
       let t : (n : Node) × Among n d.window × (n.signature ≡ τ) =
-          among_mapped (λ m. m.signature) τ d.window a in
+      among_mapped (λ m. m.signature) τ d.window a in
       (t.0, among_contains t.0 d.window t.1, t.2)
 
   -- a node is freed: what is left of the window, in a state where what is left waits
@@ -273,22 +295,38 @@ module _ (P : NamedProblem) (capacity : ℕ) where
       → (handled : ℕ) → d.handled ≤ handled
       → (state : State) (last : Option Monomial) (committed dropped abandoned : ℕ)
       → AllByRecursion (IsWaiting P.problem state last) (signatures rest) → (i : ℕ) → n.index ≡ i
-      → Kept (record { handled = handled;
-          state = state; last = last; window = rest;
-          free = i ∷ d.free; claimed = d.claimed;
-          committed = committed; dropped = dropped; abandoned = abandoned; alone = d.alone })
+      → Kept (record {
+        handled = handled;
+        state = state;
+        last = last;
+        window = rest;
+        free = i ∷ d.free;
+        claimed = d.claimed;
+        committed = committed;
+        dropped = dropped;
+        abandoned = abandoned;
+        alone = d.alone;
+      })
   freed d k n rest a handled later state last committed dropped abandoned waits i e =
-      record { ascends = pairs_less (IsLess P.problem.setting) (adds_map (λ m. m.signature) a)
-        k.ascends; waits = waits; distinct = (pairs_around (λ i j. i ≢ j) differ added k.distinct,
-          pairs_less (λ i j. i ≢ j) added k.distinct);
+      record {
+        ascends = pairs_less (IsLess P.problem.setting) (adds_map (λ m. m.signature) a)
+            k.ascends;
+        waits = waits;
+        distinct = (
+          pairs_around (λ i j. i ≢ j) differ added k.distinct,
+          pairs_less (λ i j. i ≢ j) added k.distinct,
+        );
         indices_are = IsPermutation-trans (count_from 0 capacity) (d.free ++ indices d.window)
-        (i ∷ (d.free ++ indices rest)) k.indices_are
-        (IsPermutation-sym (i ∷ (d.free ++ indices rest)) (d.free ++ indices d.window)
-          (adds_permutes added)); claimed = (each_less (IsMade d.claimed) a k.claimed).1;
+            (i ∷ (d.free ++ indices rest)) k.indices_are
+            (IsPermutation-sym (i ∷ (d.free ++ indices rest)) (d.free ++ indices d.window)
+            (adds_permutes added));
+        claimed = (each_less (IsMade d.claimed) a k.claimed).1;
         apart = pairs_less (λ n m. ¬ AreFromOneClaim n m) a k.apart;
         works = each_map (HoldsLawful d.handled) (HoldsLawful handled)
-        (holds_later d.handled handled later) rest (each_less (HoldsLawful d.handled) a k.works).1;
-        full = λ l none τ next. let empty : ⊥ = cc in absurd empty }
+            (holds_later d.handled handled later) rest
+            (each_less (HoldsLawful d.handled) a k.works).1;
+        full = λ l none τ next. let empty : ⊥ = cc in absurd empty;
+      }
     where
       added : Inserts i (d.free ++ indices rest) (d.free ++ indices d.window)
       added = subst (λ j. Inserts j (d.free ++ indices rest) (d.free ++ indices d.window)) e
@@ -308,7 +346,7 @@ module _ (P : NamedProblem) (capacity : ℕ) where
   abandon_keeps d t given answer d' (Abandons.is_gone n) k = k
   abandon_keeps d t given answer d' (Abandons.is_freed g) k =
       let a : At t.index given.0 d.window =
-          node_at_generation t.index given.0 d.window (sym given.1 ∙ g) in
+      node_at_generation t.index given.0 d.window (sym given.1 ∙ g) in
       freed d k a.0 (without_node t.index d.window) a.3 d.handled (le_refl d.handled) d.state d.last
       d.committed d.dropped (d.abandoned + 1)
       (left_waits d k a.0 (without_node t.index d.window) a.3) t.index a.1
@@ -329,26 +367,35 @@ module _ (P : NamedProblem) (capacity : ℕ) where
       numbers = work_indices t.index w d.window
 
       go : At t.index given.0 d.window
-          → Kept (record { handled = d.handled;
-              state = d.state; last = d.last;
-              window = with_work t.index w d.window;
-              free = d.free; claimed = d.claimed;
-              committed = d.committed; dropped = d.dropped;
-              abandoned = d.abandoned; alone = d.alone })
+          → Kept (record {
+            handled = d.handled;
+            state = d.state;
+            last = d.last;
+            window = with_work t.index w d.window;
+            free = d.free;
+            claimed = d.claimed;
+            committed = d.committed;
+            dropped = d.dropped;
+            abandoned = d.abandoned;
+            alone = d.alone;
+          })
       go (n, at, odd, out, worked, found) =
-          record { ascends = subst (Pairs (IsLess P.problem.setting)) (sym same) k.ascends;
+          record {
+            ascends = subst (Pairs (IsLess P.problem.setting)) (sym same) k.ascends;
             waits = subst (AllByRecursion (IsWaiting P.problem d.state d.last)) (sym same) k.waits;
             distinct = subst (λ xs. Pairs (λ i j. i ≢ j) (d.free ++ xs)) (sym numbers) k.distinct;
             indices_are = subst (λ xs. IsPermutation (count_from 0 capacity) (d.free ++ xs))
-            (sym numbers) k.indices_are; claimed = each_more (IsMade d.claimed) (worked w)
-            (made.0.0, made.0.1, claim_laid n w given.0 odd made.0.0 made.0.2) made.1;
+                (sym numbers) k.indices_are;
+            claimed = each_more (IsMade d.claimed) (worked w)
+                (made.0.0, made.0.1, claim_laid n w given.0 odd made.0.0 made.0.2) made.1;
             apart = pairs_more (λ n m. ¬ AreFromOneClaim n m) one_claim_back (worked w)
-            (each_map (λ m. ¬ AreFromOneClaim n m) (λ m. ¬ AreFromOneClaim (laid n w) m) other
-              (without_node t.index d.window)
-              (pairs_around (λ n m. ¬ AreFromOneClaim n m) one_claim_back out k.apart))
-            (pairs_less (λ n m. ¬ AreFromOneClaim n m) out k.apart);
+                (each_map (λ m. ¬ AreFromOneClaim n m) (λ m. ¬ AreFromOneClaim (laid n w) m) other
+                (without_node t.index d.window)
+                (pairs_around (λ n m. ¬ AreFromOneClaim n m) one_claim_back out k.apart))
+                (pairs_less (λ n m. ¬ AreFromOneClaim n m) out k.apart);
             works = each_more (HoldsLawful d.handled) (worked w) held held_others;
-            full = λ l e τ next. subst (Among τ) (sym same) (k.full l e τ next) }
+            full = λ l e τ next. subst (Among τ) (sym same) (k.full l e τ next);
+          }
         where
           made : IsMade d.claimed n × AllByRecursion (IsMade d.claimed)
               (without_node t.index d.window)
@@ -360,8 +407,12 @@ module _ (P : NamedProblem) (capacity : ℕ) where
           held : HoldsLawful d.handled (laid n w)
           held v e =
               subst (λ x. IsLawful x × (x.problem ≡ P) × (x.number ≤ d.handled)
-                × (x.signature ≡ n.signature)) (some_same w v e) (lawful, p, l,
-                sym s ∙ ap (λ x. x.signature) (some_same node n (sym i ∙ found)))
+              × (x.signature ≡ n.signature)) (some_same w v e) (
+                lawful,
+                p,
+                l,
+                sym s ∙ ap (λ x. x.signature) (some_same node n (sym i ∙ found)),
+              )
 
           other : (m : Node) → ¬ AreFromOneClaim n m → ¬ AreFromOneClaim (laid n w) m
           other m h (c, i, j) = h (c, claim_kept n w given.0 odd made.0.0 made.0.2 c i, j)
@@ -369,26 +420,44 @@ module _ (P : NamedProblem) (capacity : ℕ) where
   -- a claim's node goes into the window
   claim_keeps : (d : Desk) → Kept d → (i : ℕ) (others : List ℕ) → d.free ≡ i ∷ others
       → (τ : Monomial) → IsFirstUnheld P.problem d τ
-      → Kept (record { handled = d.handled;
-          state = d.state; last = d.last;
-          window = insert_node (generator_weight P.problem.setting)
-          (record { signature = τ; index = i; generation = 2 * d.claimed + 1; work = None })
-          d.window; free = others; claimed = d.claimed + 1;
-          committed = d.committed; dropped = d.dropped; abandoned = d.abandoned; alone = d.alone })
+      → Kept (record {
+        handled = d.handled;
+        state = d.state;
+        last = d.last;
+        window = insert_node (generator_weight P.problem.setting)
+            (record { signature = τ; index = i; generation = 2 * d.claimed + 1; work = None })
+            d.window;
+        free = others;
+        claimed = d.claimed + 1;
+        committed = d.committed;
+        dropped = d.dropped;
+        abandoned = d.abandoned;
+        alone = d.alone;
+      })
   claim_keeps d k i others free τ first =
-      record { ascends = insert_ascends P.problem.setting n d.window unheld k.ascends;
+      record {
+        ascends = insert_ascends P.problem.setting n d.window unheld k.ascends;
         waits = each_more (IsWaiting P.problem d.state d.last) (adds_map (λ m. m.signature) added)
-        first.waits k.waits; distinct = pairs_more (λ i j. i ≢ j) differ moved apart.0 apart.1;
+            first.waits k.waits;
+        distinct = pairs_more (λ i j. i ≢ j) differ moved apart.0 apart.1;
         indices_are = IsPermutation-trans (count_from 0 capacity) (i ∷ (others ++ indices d.window))
-        (others ++ indices whole) (subst
-          (λ xs. IsPermutation (count_from 0 capacity) (xs ++ indices d.window)) free k.indices_are)
-        (adds_permutes moved); claimed = each_more (IsMade (d.claimed + 1)) added (d.claimed,
-          omega arith, refl) (each_map (IsMade d.claimed) (IsMade (d.claimed + 1))
-          (λ m t. (t.0, omega (arith, t.1), t.2)) d.window k.claimed);
+            (others ++ indices whole) (subst
+            (λ xs. IsPermutation (count_from 0 capacity) (xs ++ indices d.window)) free
+            k.indices_are)
+            (adds_permutes moved);
+        claimed = each_more (IsMade (d.claimed + 1)) added (
+          d.claimed,
+          omega arith,
+          refl,
+        ) (each_map (IsMade d.claimed) (IsMade (d.claimed + 1))
+            (λ m t. (t.0, omega (arith, t.1), t.2)) d.window k.claimed);
         apart = pairs_more (λ n m. ¬ AreFromOneClaim n m) one_claim_back added
-        (each_map (IsMade d.claimed) (λ m. ¬ AreFromOneClaim n m) newest d.window k.claimed)
-        k.apart; works = each_more (HoldsLawful d.handled) added (λ w e. let none : ⊥ = cc in
-          absurd none) k.works; full = λ l e σ next. held σ next (held_dec P.problem d σ) }
+            (each_map (IsMade d.claimed) (λ m. ¬ AreFromOneClaim n m) newest d.window k.claimed)
+            k.apart;
+        works = each_more (HoldsLawful d.handled) added (λ w e. let none : ⊥ = cc in
+            absurd none) k.works;
+        full = λ l e σ next. held σ next (held_dec P.problem d σ);
+      }
     where
       n : Node
       n = record { signature = τ; index = i; generation = 2 * d.claimed + 1; work = None }
@@ -419,7 +488,7 @@ module _ (P : NamedProblem) (capacity : ℕ) where
       held σ next (inr h) =
           subst (λ ρ. Among ρ (signatures whole))
           (sym (least (first.least σ (next.candidate, next.left) h)
-              (next.least τ first.waits.0 first.waits.1)))
+          (next.least τ first.waits.0 first.waits.1)))
           (among_here (adds_map (λ m. m.signature) added))
         where
           least : (σ ≡ τ) ⊎ IsLess P.problem.setting τ σ → (τ ≡ σ) ⊎ IsLess P.problem.setting σ τ
@@ -428,7 +497,7 @@ module _ (P : NamedProblem) (capacity : ℕ) where
           least (inr l) (inl e) = sym e
           least (inr l) (inr m) =
               absurd ((monomial_laws (generator_weight P.problem.setting)).irrefl τ
-                ((monomial_laws (generator_weight P.problem.setting)).trans τ σ τ l m))
+              ((monomial_laws (generator_weight P.problem.setting)).trans τ σ τ l m))
 
   module _ (field : IsField P.problem.setting.prime) where
     -- after a step what is left in the window still waits
@@ -440,16 +509,18 @@ module _ (P : NamedProblem) (capacity : ℕ) where
     still_waits d k run τ next n rest e a o h =
         each_from (IsWaiting P.problem (state_after d.state τ o) (Some τ)) (signatures rest)
         (λ σ m. (waiting P.problem field run τ next h σ).1
-          (inl (each_at (IsWaiting P.problem d.state d.last) (signatures rest)
+        (inl (
+          each_at (IsWaiting P.problem d.state d.last) (signatures rest)
               (left_waits d k n rest a) σ m,
-              λ i. each_at (λ ρ. n.signature ≢ ρ) (signatures rest) others σ m (e ∙ sym i))))
+          λ i. each_at (λ ρ. n.signature ≢ ρ) (signatures rest) others σ m (e ∙ sym i),
+        )))
       where
         others : AllByRecursion (λ ρ. n.signature ≢ ρ) (signatures rest)
         others =
             pairs_around (λ σ ρ. σ ≢ ρ) differ (adds_map (λ m. m.signature) a)
             (pairs_map (IsLess P.problem.setting) (λ σ ρ. σ ≢ ρ)
-              (λ σ ρ l i. (monomial_laws (generator_weight P.problem.setting)).irrefl ρ
-                (subst (λ x. IsLess P.problem.setting x ρ) i l)) (signatures d.window) k.ascends)
+            (λ σ ρ l i. (monomial_laws (generator_weight P.problem.setting)).irrefl ρ
+            (subst (λ x. IsLess P.problem.setting x ρ) i l)) (signatures d.window) k.ascends)
 
     advance_keeps : {d d' : Desk} → Advances P.problem d d'
         → SequentialRun P.problem d.handled d.state d.last → Kept d → Kept d'
@@ -457,18 +528,18 @@ module _ (P : NamedProblem) (capacity : ℕ) where
     advance_keeps (Advances.no_work f none) run k = k
     advance_keeps (Advances.drops {d = d} f τ n w ready not) run k =
         let t : (n.signature ≡ τ) × Inserts n (without_node n.index d.window) d.window =
-            found_out d.window τ n ready.held (own_apart d k) in
+        found_out d.window τ n ready.held (own_apart d k) in
         freed d k n (without_node n.index d.window) t.1 d.handled (le_refl d.handled) d.state d.last
         d.committed (d.dropped + 1) d.abandoned
         (left_waits d k n (without_node n.index d.window) t.1) n.index refl
     advance_keeps (Advances.commits {d = d} f τ n w ready handles more) run k =
         let t : (n.signature ≡ τ) × Inserts n (without_node n.index d.window) d.window =
-            found_out d.window τ n ready.held (own_apart d k) in
+        found_out d.window τ n ready.held (own_apart d k) in
         advance_keeps more (SequentialRun.handled run τ ready.next w.outcome handles)
         (freed d k n (without_node n.index d.window) t.1 (suc d.handled) (omega arith)
-          (state_after d.state τ w.outcome) (Some τ) (d.committed + 1) d.dropped d.abandoned
-          (still_waits d k run τ ready.next n (without_node n.index d.window) t.0 t.1 w.outcome
-            handles) n.index refl)
+        (state_after d.state τ w.outcome) (Some τ) (d.committed + 1) d.dropped d.abandoned
+        (still_waits d k run τ ready.next n (without_node n.index d.window) t.0 t.1 w.outcome
+        handles) n.index refl)
 
     event_keeps : {d d' : Desk} {e : Event} → Does P d e d'
         → SequentialRun P.problem d.handled d.state d.last → Kept d → Kept d'
@@ -497,19 +568,22 @@ module _ (P : NamedProblem) (capacity : ℕ) where
             each_at (HoldsLawful d.handled) d.window k.works n (contains_among n d.window c)
 
         go : Kept d → WindowLaw P capacity d
-        go k = record { ascends = pairs_all
+        go k = record {
+          ascends = pairs_all
               (λ n m. IsLess P.problem.setting n.signature m.signature) d.window
               (pairs_mapped (λ n. n.signature) (IsLess P.problem.setting) d.window k.ascends);
-              waits = λ n c. each_at (IsWaiting P.problem d.state d.last) (signatures d.window)
+          waits = λ n c. each_at (IsWaiting P.problem d.state d.last) (signatures d.window)
               k.waits n.signature (among_map (λ m. m.signature) n d.window
-                (contains_among n d.window c));
-              indices = k.indices_are; claimed = λ n c. each_at (IsMade d.claimed) d.window
+              (contains_among n d.window c));
+          indices = k.indices_are;
+          claimed = λ n c. each_at (IsMade d.claimed) d.window
               k.claimed n (contains_among n d.window c);
-              apart = pairs_all (λ n m. ¬ AreFromOneClaim n m) d.window k.apart;
-              lawful = λ n w c e. (works k n c w e).0;
-              own = λ n w c e. let t : IsLawful w × (w.problem ≡ P) × (w.number ≤ d.handled)
+          apart = pairs_all (λ n m. ¬ AreFromOneClaim n m) d.window k.apart;
+          lawful = λ n w c e. (works k n c w e).0;
+          own = λ n w c e. let t : IsLawful w × (w.problem ≡ P) × (w.number ≤ d.handled)
               × (w.signature ≡ n.signature) = works k n c w e in (t.1, t.2, t.3);
-              full = λ l e τ next. among_held d τ (k.full l e τ next) }
+          full = λ l e τ next. among_held d τ (k.full l e τ next);
+        }
 
     -- a work over the desk's own state is what handling gives there
     pub own_work : {events : List Event} {d : Desk} → Plays P events (open_desk capacity) d
@@ -523,7 +597,7 @@ module _ (P : NamedProblem) (capacity : ℕ) where
         go : Kept d → Handles P.problem.setting d.state τ w.outcome
         go k = at (found_out d.window τ n ready.held (own_apart d k))
             (each_at (HoldsLawful d.handled) d.window k.works n (found d.window τ n ready.held) w
-              ready.work)
+            ready.work)
           where
             at : (n.signature ≡ τ) × Inserts n (without_node n.index d.window) d.window → IsLawful w
                 × (w.problem ≡ P) × (w.number ≤ d.handled) × (w.signature ≡ n.signature)

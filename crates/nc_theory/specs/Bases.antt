@@ -30,9 +30,9 @@ pub data ReducesToZero (s : Setting) (entries : List Entry) (τ : Monomial) : Po
   step :
       {f : Polynomial} (w : Word) → IsLeadingWord s f w
       → (d : Divisor s entries w) → (signature_at s entries w d ≡ τ)
-          ⊎ IsLess s (signature_at s entries w d) τ
+      ⊎ IsLess s (signature_at s entries w d) τ
       → (c : ℕ) → c * coefficient d.entry.polynomial (leading s.prime d.entry.polynomial) % s.prime
-          ≡ coefficient f w % s.prime
+      ≡ coefficient f w % s.prime
       → ReducesToZero s entries τ (minus s.prime f c (multiple_at s entries w d))
       → ReducesToZero s entries τ f
 
@@ -69,10 +69,10 @@ pub record IsSound (s : Setting) (state : State) : Type 0 where
 
 -- f is a polynomial with signature τ, none of whose words has a regular divisor at τ
 pub record IsCanonical (s : Setting) (entries : List Entry) (τ : Monomial) (f : Polynomial) : Type 0
-    where
-  pub label : Element
-  pub labelled : IsLabelled s τ f label
-  pub clear : (w : Word) → ¬ IsZero s.prime (coefficient f w) → ¬ RegularDivisor s entries τ w
+  where
+    pub label : Element
+    pub labelled : IsLabelled s τ f label
+    pub clear : (w : Word) → ¬ IsZero s.prime (coefficient f w) → ¬ RegularDivisor s entries τ w
 
 -- some module element in the set evaluates to f
 abbrev pub HasRepresentation : Setting → (Monomial → Type 0) → Polynomial → Type 0

@@ -28,7 +28,7 @@ IsBestIn s entries set None = (w : Word) (d : Divisor s entries w) → ¬ set w 
 IsBestIn s entries set (Some b) =
     (d : Divisor s entries b.word) × set b.word d
     × ((v : Word) (e : Divisor s entries v) → set v e → IsWordLess b.word v
-          ⊎ ((b.word ≡ v) × (number_of s entries b.word d ≤ number_of s entries v e)))
+    ⊎ ((b.word ≡ v) × (number_of s entries b.word d ≤ number_of s entries v e)))
     × (d.left ≡ b.left) × (number_of s entries b.word d ≡ b.number) × (d.right ≡ b.right)
 
 -- the best multiple with signature τ, and None exactly where there is no multiple

@@ -23,19 +23,19 @@ StaleLaw =
     → (k n : ℕ) (state later : State) (before last : Option Monomial)
     → SequentialRun P k state before → SequentialRun P n later last → k ≤ n →
     (x : Extension state later) × ((τ : Monomial) (o : Outcome) → Handles P.setting state τ o
-          → Handles P.setting later τ o ↔ ((o ≡ Outcome.covered)
-            ⊎ Unaffected P.setting state x.es x.hs τ o))
+    → Handles P.setting later τ o ↔ ((o ≡ Outcome.covered)
+    ⊎ Unaffected P.setting state x.es x.hs τ o))
 
 -- a play leads from a desk at a state of the run, within the steps, to one that is so too; an open
 -- desk is one
 abbrev pub SnapshotLaw : Type 0
 SnapshotLaw = (P : NamedProblem) →
     ((events : List Event) (d d' : Desk) → Plays P events d d'
-          → (SequentialRun P.problem d.handled d.state d.last
-            → SequentialRun P.problem d'.handled d'.state d'.last)
-          × (d.handled ≤ P.problem.steps → d'.handled ≤ P.problem.steps))
+    → (SequentialRun P.problem d.handled d.state d.last
+    → SequentialRun P.problem d'.handled d'.state d'.last)
+    × (d.handled ≤ P.problem.steps → d'.handled ≤ P.problem.steps))
     × ((capacity : ℕ) (events : List Event) (d : Desk) → Plays P events (open_desk capacity) d
-          → SequentialRun P.problem d.handled d.state d.last × (d.handled ≤ P.problem.steps))
+    → SequentialRun P.problem d.handled d.state d.last × (d.handled ≤ P.problem.steps))
 
 -- a desk within the steps is finished exactly where its state is an end of the run
 abbrev pub FinishedLaw : Type 0
@@ -60,11 +60,11 @@ PlaysAreDetermined =
 abbrev pub AnswersAreDetermined : Type 0
 AnswersAreDetermined = (P : NamedProblem) (d : Desk) →
     ((a b : Claimed) (x y : Desk) → Claims P.problem d a x → Claims P.problem d b y → (a ≡ b)
-          × (x ≡ y))
+    × (x ≡ y))
     × ((t : Ticket) (w : Work) (a b : Submitted) (x y : Desk) → Submits P d t w a x
-          → Submits P d t w b y → (a ≡ b) × (x ≡ y))
+    → Submits P d t w b y → (a ≡ b) × (x ≡ y))
     × ((t : Ticket) (a b : Abandoned) (x y : Desk) → Abandons d t a x → Abandons d t b y → (a ≡ b)
-          × (x ≡ y))
+    × (x ≡ y))
 
 -- for every list of events the window is as it should be
 abbrev pub WindowsAreKept : Type 0
@@ -78,9 +78,9 @@ WindowsAreKept =
 abbrev pub DeskCounts : Type 0
 DeskCounts = (P : NamedProblem) →
     ((events : List Event) (d d' : Desk) → Plays P events d d' → (IsCounted d → IsCounted d')
-          × (d'.alone ≡ d.alone))
+    × (d'.alone ≡ d.alone))
     × ((capacity : ℕ) (events : List Event) (d : Desk) → Plays P events (open_desk capacity) d
-          → IsCounted d × (d.alone ≡ 0))
+    → IsCounted d × (d.alone ≡ 0))
 
 -- a work over the desk's own state that is ready is what handling gives there: each advance that is
 -- not at the end commits it, and none drops it
@@ -91,4 +91,4 @@ OwnWorkStands =
     → (τ : Monomial) (n : Node) (w : Work) → IsReadyWork P.problem d τ n w → w.number ≡ d.handled →
     Handles P.problem.setting d.state τ w.outcome
     × (¬ IsFinished P.problem d → (d' : Desk) → Advances P.problem d d'
-          → Advances P.problem (after_committed d τ n w.outcome) d')
+    → Advances P.problem (after_committed d τ n w.outcome) d')

@@ -27,4 +27,4 @@ abbrev pub AreCanonical : Setting → State → Type 0
 AreCanonical s state =
     (e : Entry) → Contains state.entries e → IsCanonical s state.entries e.signature e.polynomial
     × ((f : Polynomial) → IsCanonical s state.entries e.signature f
-      → SamePolynomial s f e.polynomial)
+    → SamePolynomial s f e.polynomial)

@@ -41,20 +41,20 @@ OfEachRun law =
 abbrev pub ClosureTheorem : Type 0
 ClosureTheorem = (s : Setting) → IsPrime s.prime → (state : State) → IsSound s state →
     ((b : Bound) → IsClosed s state (IsWithinBound s b) → IsBasisBelow s state (IsWithinBound s b)
-          × IsSyzygyBasisBelow s state (IsWithinBound s b))
+    × IsSyzygyBasisBelow s state (IsWithinBound s b))
     × ((β : Sig) → IsClosed s state (IsUnder s β) → IsBasisBelow s state (IsUnder s β)
-          × IsSyzygyBasisBelow s state (IsUnder s β))
+    × IsSyzygyBasisBelow s state (IsUnder s β))
 
 -- each entry and syzygy of a run has the label that its trace gives
 abbrev pub LabelLaw : Type 0
 LabelLaw =
     OfEachRun (λ P n state last.
     ((e : Entry) (k : Contains state.entries e)
-          → IsLabelled P.setting e.signature e.polynomial
-          (label_at (labels_of P.setting.prime state.entries) (k.0 + 1)))
+    → IsLabelled P.setting e.signature e.polynomial
+    (label_at (labels_of P.setting.prime state.entries) (k.0 + 1)))
     × ((h : Syzygy) → Contains state.syzygies h
-          → IsLabelled P.setting h.signature []
-          (trace_label P.setting.prime (labels_of P.setting.prime state.entries) h.trace)))
+    → IsLabelled P.setting h.signature []
+    (trace_label P.setting.prime (labels_of P.setting.prime state.entries) h.trace)))
 
 -- each entry and syzygy of a run has a label
 abbrev pub RunsAreSound : Type 0
@@ -66,27 +66,27 @@ abbrev pub RunsAreClosed : Type 0
 RunsAreClosed =
     OfEachRun (λ P n state last.
     ((τ : Monomial) → IsNext P state last τ → IsClosed P.setting state (IsWithinBelow P τ)
-          × IsBasisBelow P.setting state (IsWithinBelow P τ)
-          × IsSyzygyBasisBelow P.setting state (IsWithinBelow P τ))
+    × IsBasisBelow P.setting state (IsWithinBelow P τ)
+    × IsSyzygyBasisBelow P.setting state (IsWithinBelow P τ))
     × (NoneWaits P state last → IsClosed P.setting state (IsWithin P)
-          × IsBasisBelow P.setting state (IsWithin P)
-          × IsSyzygyBasisBelow P.setting state (IsWithin P)))
+    × IsBasisBelow P.setting state (IsWithin P)
+    × IsSyzygyBasisBelow P.setting state (IsWithin P)))
 
 -- a complete end has enough of both within the bound, and another end below the next signature
 abbrev pub CompletenessTheorem : Type 0
 CompletenessTheorem = (P : Problem) → IsPrime P.setting.prime → (n : ℕ) (state : State) →
     (IsEnd P n state End.complete → IsBasisBelow P.setting state (IsWithin P)
-          × IsSyzygyBasisBelow P.setting state (IsWithin P))
+    × IsSyzygyBasisBelow P.setting state (IsWithin P))
     × ((τ : Monomial) → IsEnd P n state (End.budget τ)
-          → IsBasisBelow P.setting state (IsWithinBelow P τ)
-          × IsSyzygyBasisBelow P.setting state (IsWithinBelow P τ))
+    → IsBasisBelow P.setting state (IsWithinBelow P τ)
+    × IsSyzygyBasisBelow P.setting state (IsWithinBelow P τ))
 
 -- each entry's polynomial is the one canonical polynomial at its signature
 abbrev pub UniquenessTheorem : Type 0
 UniquenessTheorem = OfEachRun (λ P n state last. (e : Entry) → Contains state.entries e →
     IsCanonical P.setting state.entries e.signature e.polynomial
-        × ((f : Polynomial) → IsCanonical P.setting state.entries e.signature f
-          → SamePolynomial P.setting f e.polynomial))
+    × ((f : Polynomial) → IsCanonical P.setting state.entries e.signature f
+    → SamePolynomial P.setting f e.polynomial))
 
 -- a run has one state and one last signature at each number, and a signature one outcome over the
 -- state
@@ -96,8 +96,8 @@ RunsAreDetermined =
     → (n : ℕ) (state state' : State) (last last' : Option Monomial) → SequentialRun P n state last
     → SequentialRun P n state' last' →
     (state ≡ state') × (last ≡ last')
-        × ((τ : Monomial) (o o' : Outcome) → Handles P.setting state τ o
-          → Handles P.setting state τ o' → o ≡ o')
+    × ((τ : Monomial) (o o' : Outcome) → Handles P.setting state τ o
+    → Handles P.setting state τ o' → o ≡ o')
 
 -- what is left of a claim is zero exactly where some module element within the bound evaluates to
 -- it, at a complete end
@@ -113,13 +113,13 @@ abbrev pub OneEnd : Type 0
 OneEnd = (P : Problem) → IsPrime P.setting.prime →
     ((n : ℕ) × (state : State) × (end : End) × IsEnd P n state end)
     × ((n m : ℕ) (state later : State) (end end' : End) → IsEnd P n state end → IsEnd P m later end'
-          → (n ≡ m) × (state ≡ later) × (end ≡ end'))
+    → (n ≡ m) × (state ≡ later) × (end ≡ end'))
 
 -- each ambiguity with an entry that is listed at τ has a signature greater than τ
 abbrev pub AscentLaw : Type 0
 AscentLaw =
     OfEachRun (λ P n state last. (τ : Monomial) → IsNext P state last τ → (o : Outcome)
-      → Handles P.setting state τ o →
+    → Handles P.setting state τ o →
     (ρ : Monomial) → BringsAmbiguity P.setting state τ o ρ → IsLess P.setting τ ρ)
 
 -- after a step those signatures wait that waited before, without τ, and those of the new
@@ -127,10 +127,10 @@ AscentLaw =
 abbrev pub WaitingLaw : Type 0
 WaitingLaw =
     OfEachRun (λ P n state last. (τ : Monomial) → IsNext P state last τ → (o : Outcome)
-      → Handles P.setting state τ o →
+    → Handles P.setting state τ o →
     (ρ : Monomial) → IsWaiting P (state_after state τ o) (Some τ) ρ
-        ↔ ((IsWaiting P state last ρ × (ρ ≢ τ))
-          ⊎ (IsWithin P ρ × BringsAmbiguity P.setting state τ o ρ)))
+    ↔ ((IsWaiting P state last ρ × (ρ ≢ τ))
+    ⊎ (IsWithin P ρ × BringsAmbiguity P.setting state τ o ρ)))
 
 -- what is reached at τ weighs at most the degree of τ: the loop's invariant, one clause a step
 pub record LimitedAt (s : Setting) (entries : List Entry) (τ : Monomial) : Type 0 where
@@ -153,7 +153,7 @@ abbrev pub DegreeLimit : Type 0
 DegreeLimit =
     OfEachRun (λ P n state last.
     ((e : Entry) → Contains state.entries e
-          → WeighsAtMost P.setting (degree P.setting e.signature) e.polynomial)
+    → WeighsAtMost P.setting (degree P.setting e.signature) e.polynomial)
     × ((τ : Monomial) → LimitedAt P.setting state.entries τ))
 
 -- an entry with a signature of at least τ gives no regular divisor at τ, so reduction over all
@@ -164,7 +164,7 @@ FrontLaw =
     → ((e : Entry) → Contains rest e → IsAtLeast s τ e) →
     ((w : Word) → RegularDivisor s (first ++ rest) τ w ↔ RegularDivisor s first τ w)
     × ((f kept : Polynomial) (steps : List Step) → ReductionAt s (first ++ rest) τ f kept steps
-          ↔ ReductionAt s first τ f kept steps)
+    ↔ ReductionAt s first τ f kept steps)
 
 -- each listed item of a run is rebuilt from its signature and the entries with lesser signatures,
 -- and what is rebuilt is one trace and one result
@@ -172,22 +172,22 @@ abbrev pub RebuildingLaw : Type 0
 RebuildingLaw =
     OfEachRun (λ P n state last.
     ((e : Entry) → Contains state.entries e
-          → Rebuilds P.setting state.entries e.signature e.trace e.polynomial)
+    → Rebuilds P.setting state.entries e.signature e.trace e.polynomial)
     × ((h : Syzygy) → Contains state.syzygies h
-          → Rebuilds P.setting state.entries h.signature h.trace [])
+    → Rebuilds P.setting state.entries h.signature h.trace [])
     × ((σ : Monomial) (t t' : Trace) (f f' : Polynomial) → Rebuilds P.setting state.entries σ t f
-          → Rebuilds P.setting state.entries σ t' f' → (t ≡ t') × (f ≡ f')))
+    → Rebuilds P.setting state.entries σ t' f' → (t ≡ t') × (f ≡ f')))
 
 -- entries ascend strictly, and so do syzygies; and no two entries have one leading word
 abbrev pub RunsAscend : Type 0
 RunsAscend =
     OfEachRun (λ P n state last.
     ((e e' : Entry) (k : Contains state.entries e) (k' : Contains state.entries e') → k.0 < k'.0
-          → IsLess P.setting e.signature e'.signature)
+    → IsLess P.setting e.signature e'.signature)
     × ((h h' : Syzygy) (k : Contains state.syzygies h) (k' : Contains state.syzygies h')
-          → k.0 < k'.0 → IsLess P.setting h.signature h'.signature)
+    → k.0 < k'.0 → IsLess P.setting h.signature h'.signature)
     × ((e e' : Entry) (k : Contains state.entries e) (k' : Contains state.entries e') → k.0 < k'.0
-          → leading P.setting.prime e.polynomial ≢ leading P.setting.prime e'.polynomial))
+    → leading P.setting.prime e.polynomial ≢ leading P.setting.prime e'.polynomial))
 
 -- each entry and each syzygy has a signature within the bound, and less than each signature that
 -- comes after the last one handled
@@ -195,9 +195,9 @@ abbrev pub ItemsAreReached : Type 0
 ItemsAreReached =
     OfEachRun (λ P n state last.
     ((e : Entry) → Contains state.entries e → IsWithin P e.signature
-          × ((τ : Monomial) → IsAfter P last τ → IsLess P.setting e.signature τ))
+    × ((τ : Monomial) → IsAfter P last τ → IsLess P.setting e.signature τ))
     × ((h : Syzygy) → Contains state.syzygies h → IsWithin P h.signature
-          × ((τ : Monomial) → IsAfter P last τ → IsLess P.setting h.signature τ)))
+    × ((τ : Monomial) → IsAfter P last τ → IsLess P.setting h.signature τ)))
 
 -- a run goes on as long as a candidate is left
 abbrev pub RunsGoOn : Type 0
@@ -219,10 +219,10 @@ LettersLaw =
     → (n : ℕ) (state : State) (last : Option Monomial) → SequentialRun P n state last →
     AreOver P.setting letters state.entries
     × ((h : Syzygy) → Contains state.syzygies h → IsOver letters h.signature.left
-          × IsOver letters h.signature.right)
+    × IsOver letters h.signature.right)
     × ((τ : Monomial) → IsCandidate P state τ → IsOver letters τ.left × IsOver letters τ.right)
     × ((w : Word) (d : Divisor P.setting state.entries w) → IsOver letters w
-          → WordsAre P.setting (IsOver letters) (multiple_at P.setting state.entries w d))
+    → WordsAre P.setting (IsOver letters) (multiple_at P.setting state.entries w d))
 
 -- over finitely many letters a run has at most as many steps as the bound has monomials; with so
 -- many allowed, each end is complete
@@ -231,25 +231,25 @@ StepLimit =
     (P : Problem) → IsPrime P.setting.prime → (letters : List Letter)
     → ((i : ℕ) → WordsAre P.setting (IsOver letters) (generator P.setting i)) →
     ((n : ℕ) (state : State) (last : Option Monomial) → SequentialRun P n state last
-          → n ≤ length (monomials_within P.setting P.bound letters))
+    → n ≤ length (monomials_within P.setting P.bound letters))
     × (length (monomials_within P.setting P.bound letters) ≤ P.steps
-          → (n : ℕ) (state : State) (end : End) → IsEnd P n state end → end ≡ End.complete)
+    → (n : ℕ) (state : State) (end : End) → IsEnd P n state end → end ≡ End.complete)
 
 -- what is left of a claim is the claim less a module element within the bound, which the labels of
 -- the subtracted multiples sum up to
 abbrev pub RepresentationLaw : Type 0
 RepresentationLaw =
     OfEachRun (λ P n state last. (f rest : Polynomial) (steps : List Step)
-      → Reduction P.setting state.entries (IsWithin P) f rest steps →
+    → Reduction P.setting state.entries (IsWithin P) f rest steps →
     IsIn P.setting (step_multiples (labels_of P.setting.prime state.entries) steps) (IsWithin P)
     × SamePolynomial P.setting (evaluation P.setting
-          (step_multiples (labels_of P.setting.prime state.entries) steps) ++ rest) f)
+    (step_multiples (labels_of P.setting.prime state.entries) steps) ++ rest) f)
 
 -- each candidate has an outcome
 abbrev pub OutcomesExist : Type 0
 OutcomesExist =
     OfEachRun (λ P n state last. (τ : Monomial) → IsCandidate P state τ → (o : Outcome)
-      × Handles P.setting state τ o)
+    × Handles P.setting state τ o)
 
 -- a trivial syzygy signature divides τ exactly where a multiple at τ has a place with a lesser
 -- signature apart from it
@@ -279,5 +279,5 @@ pub record ReducesOnce (s : Setting) (entries : List Entry) (set : Monomial → 
 abbrev pub ReductionLaw : Type 0
 ReductionLaw =
     OfEachRun (λ P n state last. ((τ : Monomial)
-        → ReducesOnce P.setting state.entries (λ σ. IsLess P.setting σ τ))
-      × ReducesOnce P.setting state.entries (IsWithin P))
+    → ReducesOnce P.setting state.entries (λ σ. IsLess P.setting σ τ))
+    × ReducesOnce P.setting state.entries (IsWithin P))

@@ -23,8 +23,12 @@ use Rattle.std.specs.Prelude.{Contains, List, ℕ, ◌++◌, ◌≡◌, ◌⊎�
 -- the state with more entries and syzygies, and other counts
 abbrev pub extended : State → List Entry → List Syzygy → ℕ → ℕ → State
 extended state es hs covered settled =
-    record { entries = state.entries ++ es;
-      syzygies = state.syzygies ++ hs; covered = covered; settled = settled }
+    record {
+      entries = state.entries ++ es;
+      syzygies = state.syzygies ++ hs;
+      covered = covered;
+      settled = settled;
+    }
 
 -- the state with what came after it
 pub record Extension (state later : State) : Type 0 where
@@ -64,7 +68,7 @@ module _ (s : Setting) (old : State) (es : List Entry) (hs : List Syzygy) (τ : 
     pub divides : Divides by τ
     pub newer : ((h : Syzygy) × Contains hs h × (h.signature ≡ by))
         ⊎ ((t : TrivialSyzygy s (old.entries ++ es) by)
-          × (Contains es t.first ⊎ Contains es t.second))
+        × (Contains es t.first ⊎ Contains es t.second))
 
   -- a newer entry gives a multiple with signature τ and word v
   abbrev pub NewMultiple : Word → Type 0

@@ -29,9 +29,12 @@ untraced_syzygy h = record { signature = h.signature; trace = no_trace }
 -- the same of all items of a state
 abbrev pub untraced : State → State
 untraced state =
-    record { entries = map untraced_entry state.entries;
+    record {
+      entries = map untraced_entry state.entries;
       syzygies = map untraced_syzygy state.syzygies;
-      covered = state.covered; settled = state.settled }
+      covered = state.covered;
+      settled = state.settled;
+    }
 
 -- the same signatures and polynomials, in order
 abbrev pub SameEntries : List Entry → List Entry → Type 0

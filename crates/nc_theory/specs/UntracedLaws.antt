@@ -171,7 +171,7 @@ pub record GoesOn (P : Problem) (n : ℕ) (state : State) (last : Option Monomia
   pub waits : (τ : Monomial) (o : Outcome) → IsNext P state last τ → Handles P.setting state τ o
       → (ρ : Monomial) → IsWaiting P (untraced (state_after state τ o)) (Some τ) ρ
       ↔ ((IsWaiting P state last ρ × (ρ ≢ τ))
-        ⊎ (IsWithin P ρ × BringsAmbiguity P.setting state τ o ρ))
+      ⊎ (IsWithin P ρ × BringsAmbiguity P.setting state τ o ρ))
   pub ascends : (τ : Monomial) (o : Outcome) → IsNext P state last τ → Handles P.setting state τ o
       → (ρ : Monomial) → BringsAmbiguity P.setting state τ o ρ → IsLess P.setting τ ρ
 
@@ -180,7 +180,7 @@ abbrev pub UntracedStepsLaw : Type 0
 UntracedStepsLaw = (P : Problem) →
     IsRunTo P 0 opening None
     × (IsPrime P.setting.prime → (n : ℕ) (state : State) (last : Option Monomial)
-          → IsRunTo P n state last → GoesOn P n state last)
+    → IsRunTo P n state last → GoesOn P n state last)
 
 -- the state at an end has enough, within the bound or below the next signature
 abbrev pub EndFactsLaw : Type 0

@@ -28,8 +28,8 @@ decimal_is n small = record {
   few = length-decimal-le 18 n (omega arith) (omega arith) (omega arith);
   digits =
       all_digits (decimal n) (digits_decimal
-        (numerals_by_value (λ ds. all_ascii_digits ds ≡ true) tells_all_ascii_digits) n
-        (omega arith));
+      (numerals_by_value (λ ds. all_ascii_digits ds ≡ true) tells_all_ascii_digits) n
+      (omega arith));
   is = (decimal_is_IsNumeral n (omega arith)).1;
 }
 

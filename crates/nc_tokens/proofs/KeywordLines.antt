@@ -22,8 +22,10 @@ pub keyword_line : (keyword rest : List ℕ) → IsKeyword keyword → IsBreak r
     → IsLineOf keyword (tokens rest) (keyword ++ rest)
 keyword_line keyword rest is breaks plain = record {
   printed =
-      record { plain = plain_append keyword rest (name_plain keyword is.name) plain;
-        begun = is.begun rest };
+      record {
+        plain = plain_append keyword rest (name_plain keyword is.name) plain;
+        begun = is.begun rest;
+      };
   says = name_token keyword rest is.name breaks;
 }
 
@@ -31,8 +33,10 @@ pub spaced_line : (keyword rest : List ℕ) → IsKeyword keyword → ArePlain r
     → IsLineOf keyword (tokens rest) (keyword ++ 32 ∷ rest)
 spaced_line keyword rest is plain =
     let line = keyword_line keyword (32 ∷ rest) is (refl, refl) plain in
-    record { printed = line.printed;
-          says = line.says ∙ ap (λ (ts : List Token). Name keyword ∷ ts) (space_token rest) }
+    record {
+      printed = line.printed;
+      says = line.says ∙ ap (λ (ts : List Token). Name keyword ∷ ts) (space_token rest);
+    }
 
 -- ---- taking them
 

@@ -27,7 +27,7 @@ line_split (b ∷ c ∷ bs) h = by_byte (eqb b 10) refl (line_split (c ∷ bs) (
     by_byte : (t : Bool) → eqb b 10 ≡ t → lines (c ∷ bs) ≡ take (line_len (c ∷ bs)) (c ∷ bs)
         ∷ lines (drop 1 (drop (line_len (c ∷ bs)) (c ∷ bs)))
         → lines (b ∷ c ∷ bs) ≡ take (line_len (b ∷ c ∷ bs)) (b ∷ c ∷ bs)
-            ∷ lines (drop 1 (drop (line_len (b ∷ c ∷ bs)) (b ∷ c ∷ bs)))
+        ∷ lines (drop 1 (drop (line_len (b ∷ c ∷ bs)) (b ∷ c ∷ bs)))
     by_byte true e again = rw (e) refl
     by_byte false e again =
         let m = line_len (c ∷ bs) in
@@ -40,8 +40,8 @@ pub split_here : (bs line rest : List ℕ) (n : ℕ) → 0 < length bs → n ≡
     → line ≡ take n bs → rest ≡ drop n bs → lines bs ≡ line ∷ lines (drop 1 rest)
 split_here bs line rest n some is_n is_line is_rest =
     line_split bs some ∙ ap (λ (k : ℕ). take k bs ∷ lines (drop 1 (drop k bs))) (sym is_n)
-        ∙ ap (λ (l : List ℕ). l ∷ lines (drop 1 (drop n bs))) (sym is_line)
-        ∙ ap (λ (l : List ℕ). line ∷ lines (drop 1 l)) (sym is_rest)
+    ∙ ap (λ (l : List ℕ). l ∷ lines (drop 1 (drop n bs))) (sym is_line)
+    ∙ ap (λ (l : List ℕ). line ∷ lines (drop 1 l)) (sym is_rest)
 
 pub split_last : (bs line rest : List ℕ) (n : ℕ) → 0 < length bs → n ≡ line_len bs
     → line ≡ take n bs → rest ≡ drop n bs → eqb (length rest) 0 ≡ true
@@ -49,16 +49,16 @@ pub split_last : (bs line rest : List ℕ) (n : ℕ) → 0 < length bs → n ≡
 split_last bs line rest n some is_n is_line is_rest none =
     let e : rest ≡ [] = nil_from_length rest (eqb-true _ _ none) in
     split_here bs line rest n some is_n is_line is_rest
-        ∙ ap (λ (l : List ℕ). line ∷ lines (drop 1 l)) e
-        ∙ ap (λ (l : List ℕ). line ∷ lines l) (sym e)
+    ∙ ap (λ (l : List ℕ). line ∷ lines (drop 1 l)) e
+    ∙ ap (λ (l : List ℕ). line ∷ lines l) (sym e)
 
 pub split_whole : (bs line rest : List ℕ) (n : ℕ) → 0 < length bs → n ≡ line_len bs
     → line ≡ take n bs → rest ≡ drop n bs
     → lines bs ≡ line ∷ lines (take (length rest - 1) (drop 1 rest))
 split_whole bs line rest n some is_n is_line is_rest =
     split_here bs line rest n some is_n is_line is_rest
-        ∙ ap (λ (l : List ℕ). line ∷ lines l)
-        (sym (take_all (length rest - 1) (drop 1 rest) (omega (arith, length-drop 1 rest))))
+    ∙ ap (λ (l : List ℕ). line ∷ lines l)
+    (sym (take_all (length rest - 1) (drop 1 rest) (omega (arith, length-drop 1 rest))))
 
 -- a blank line is passed over
 pub passed : (n : ℕ) (bs line rest : List ℕ) → lines bs ≡ line ∷ lines rest
@@ -66,19 +66,19 @@ pub passed : (n : ℕ) (bs line rest : List ℕ) → lines bs ≡ line ∷ lines
 unfolding written
 passed n bs line rest e blank =
     ap (written n) e ∙ ap (λ (b : Bool). cond b (written (n + 1) (lines rest))
-      (Line n (list_all is_allowed (content line)) (tokens (content line))
-        (written (n + 1) (lines rest)))) blank
+    (Line n (list_all is_allowed (content line)) (tokens (content line))
+    (written (n + 1) (lines rest)))) blank
 
 -- and another one comes next
 pub comes : (n : ℕ) (bs line rest : List ℕ) → lines bs ≡ line ∷ lines rest
     → list_all is_blank (content line) ≡ false
     → written n (lines bs) ≡ Line n (list_all is_allowed (content line)) (tokens (content line))
-        (written (n + 1) (lines rest))
+    (written (n + 1) (lines rest))
 unfolding written
 comes n bs line rest e blank =
     ap (written n) e ∙ ap (λ (b : Bool). cond b (written (n + 1) (lines rest))
-      (Line n (list_all is_allowed (content line)) (tokens (content line))
-        (written (n + 1) (lines rest)))) blank
+    (Line n (list_all is_allowed (content line)) (tokens (content line))
+    (written (n + 1) (lines rest)))) blank
 
 pub over : (n : ℕ) (bs : List ℕ) → eqb (length bs) 0 ≡ true → written n (lines bs) ≡ End n
 unfolding written lines

@@ -44,13 +44,13 @@ piece_goes f o (b ∷ bs) = by_byte (goes_on (f ∷ []) b) refl (piece_goes f (o
         → pieces (f ∷ (o ++ b ∷ [])) bs ≡ ((f ∷ (o ++ b ∷ [])) ++ front_of f bs) ∷ pieces []
         (behind f bs)
         → cond (goes_on (f ∷ []) b) (pieces (f ∷ (o ++ b ∷ [])) bs) ((f ∷ o) ∷ pieces [] (b ∷ bs))
-            ≡ ((f ∷ o) ++ take (cond (goes_on (f ∷ []) b) (1 + prefix_len (goes_on (f ∷ [])) bs) 0)
-              (b ∷ bs)) ∷ pieces [] (drop (cond (goes_on (f ∷ []) b)
-                (1 + prefix_len (goes_on (f ∷ [])) bs) 0) (b ∷ bs))
+        ≡ ((f ∷ o) ++ take (cond (goes_on (f ∷ []) b) (1 + prefix_len (goes_on (f ∷ [])) bs) 0)
+        (b ∷ bs)) ∷ pieces [] (drop (cond (goes_on (f ∷ []) b)
+        (1 + prefix_len (goes_on (f ∷ [])) bs) 0) (b ∷ bs))
     by_byte true e again =
         let k = counted (prefix_len (goes_on (f ∷ [])) bs) b bs in
         rw (e, k.0, k.1) (again ∙ ap (λ (x : List ℕ). (f ∷ x) ∷ pieces [] (behind f bs))
-          (append_assoc o (b ∷ []) (front_of f bs)))
+        (append_assoc o (b ∷ []) (front_of f bs)))
     by_byte false e again =
         rw (e) (ap (λ (x : List ℕ). (f ∷ x) ∷ pieces [] (b ∷ bs)) (sym (append-nil o)))
 
@@ -71,7 +71,7 @@ same_prefix p q same (b ∷ bs) = rw (same b, same_prefix p q same bs) refl
 pub counted_piece : (p : ℕ → Bool) (f : ℕ) (bs : List ℕ) → same_tests p (goes_on (f ∷ []))
     → p f ≡ true → is_blank f ≡ false
     → tokens (f ∷ bs) ≡ token_of (take (prefix_len p (f ∷ bs)) (f ∷ bs))
-        ∷ tokens (drop (prefix_len p (f ∷ bs)) (f ∷ bs))
+    ∷ tokens (drop (prefix_len p (f ∷ bs)) (f ∷ bs))
 counted_piece p f bs same passes nonblank =
     let n = same_prefix p (goes_on (f ∷ [])) same bs in
     let k = counted (prefix_len (goes_on (f ∷ [])) bs) f bs in
@@ -90,7 +90,7 @@ starts (b ∷ bs) f xs e = by_blank (is_blank b) refl (starts bs f xs) e
     by_blank true t again h = again (sym (counted (prefix_len is_blank bs) b bs).1 ∙ (rw t at h))
     by_blank false t again h =
         let same : b ∷ bs ≡ f ∷ xs =
-            rw t at h in let k : b ≡ f = cc in subst (λ (x : ℕ). is_blank x ≡ false) k t
+        rw t at h in let k : b ≡ f = cc in subst (λ (x : ℕ). is_blank x ≡ false) k t
 
 abbrev pub after_blanks : List ℕ → List ℕ
 after_blanks bs = drop (prefix_len is_blank bs) bs
@@ -107,23 +107,23 @@ token_none bs (x ∷ xs) e short = absurd (omega arith)
 pub token_digits : (bs xs front back : List ℕ) → xs ≡ after_blanks bs → 1 ≤ length xs
     → is_ascii_digit (get_or xs 0 0) ≡ true
     → front ≡ take (prefix_len is_ascii_digit xs) xs → back ≡ drop (prefix_len is_ascii_digit xs) xs
-        → tokens bs ≡ literal_of front ∷ tokens back
+    → tokens bs ≡ literal_of front ∷ tokens back
 token_digits bs [] front back e long digit is_front is_back = absurd (omega arith)
 token_digits bs (x ∷ xs) front back e long digit is_front is_back =
     let one =
-        counted_piece is_ascii_digit x xs (λ b. rw digit refl) digit (starts bs x xs (sym e)) in
+    counted_piece is_ascii_digit x xs (λ b. rw digit refl) digit (starts bs x xs (sym e)) in
     let k : take (prefix_len is_ascii_digit (x ∷ xs)) (x ∷ xs) ≡ x
-        ∷ take (prefix_len is_ascii_digit xs) xs =
-        rw digit ((counted (prefix_len is_ascii_digit xs) x xs).0) in
+    ∷ take (prefix_len is_ascii_digit xs) xs =
+    rw digit ((counted (prefix_len is_ascii_digit xs) x xs).0) in
     let t : token_of (x ∷ take (prefix_len is_ascii_digit xs) xs) ≡ literal_of
-        (x ∷ take (prefix_len is_ascii_digit xs) xs) = rw digit refl in
+    (x ∷ take (prefix_len is_ascii_digit xs) xs) = rw digit refl in
     sym (same_tokens bs) ∙ ap tokens (sym e) ∙ one
-        ∙ ap (λ (l : List ℕ). token_of l
-          ∷ tokens (drop (prefix_len is_ascii_digit (x ∷ xs)) (x ∷ xs))) k
+    ∙ ap (λ (l : List ℕ). token_of l
+    ∷ tokens (drop (prefix_len is_ascii_digit (x ∷ xs)) (x ∷ xs))) k
     ∙ ap (λ (t : Token). t ∷ tokens (drop (prefix_len is_ascii_digit (x ∷ xs)) (x ∷ xs))) t
     ∙ ap (λ (l : List ℕ). literal_of l
-          ∷ tokens (drop (prefix_len is_ascii_digit (x ∷ xs)) (x ∷ xs))) (sym k ∙ sym is_front)
-        ∙ ap (λ (l : List ℕ). literal_of front ∷ tokens l) (sym is_back)
+    ∷ tokens (drop (prefix_len is_ascii_digit (x ∷ xs)) (x ∷ xs))) (sym k ∙ sym is_front)
+    ∙ ap (λ (l : List ℕ). literal_of front ∷ tokens l) (sym is_back)
 
 no_digit : (x : ℕ) → is_ascii_alphabetic x ≡ true → is_ascii_digit x ≡ false
 no_digit x e = grind (arith, nat_tests)
@@ -134,21 +134,21 @@ name_first x e = grind (arith, nat_tests)
 pub token_name : (bs xs front back : List ℕ) → xs ≡ after_blanks bs → 1 ≤ length xs
     → is_ascii_alphabetic (get_or xs 0 0) ≡ true
     → front ≡ take (prefix_len is_name_byte xs) xs → back ≡ drop (prefix_len is_name_byte xs) xs
-        → tokens bs ≡ Name front ∷ tokens back
+    → tokens bs ≡ Name front ∷ tokens back
 token_name bs [] front back e long letter is_front is_back = absurd (omega arith)
 token_name bs (x ∷ xs) front back e long letter is_front is_back =
     let one =
-        counted_piece is_name_byte x xs (λ b. rw (no_digit x letter, letter) refl)
-        (name_first x letter) (starts bs x xs (sym e)) in
+    counted_piece is_name_byte x xs (λ b. rw (no_digit x letter, letter) refl)
+    (name_first x letter) (starts bs x xs (sym e)) in
     let k : take (prefix_len is_name_byte (x ∷ xs)) (x ∷ xs) ≡ x ∷ take (prefix_len is_name_byte xs)
-        xs = rw (name_first x letter) ((counted (prefix_len is_name_byte xs) x xs).0) in
+    xs = rw (name_first x letter) ((counted (prefix_len is_name_byte xs) x xs).0) in
     let t : token_of (x ∷ take (prefix_len is_name_byte xs) xs)
-        ≡ Name (x ∷ take (prefix_len is_name_byte xs) xs) = rw (no_digit x letter, letter) refl in
+    ≡ Name (x ∷ take (prefix_len is_name_byte xs) xs) = rw (no_digit x letter, letter) refl in
     let rest = tokens (drop (prefix_len is_name_byte (x ∷ xs)) (x ∷ xs)) in
     sym (same_tokens bs) ∙ ap tokens (sym e) ∙ one ∙ ap (λ (l : List ℕ). token_of l ∷ rest) k
     ∙ ap (λ (t : Token). t ∷ rest) t
     ∙ ap (λ (l : List ℕ). Name l ∷ rest) (sym k ∙ sym is_front)
-        ∙ ap (λ (l : List ℕ). Name front ∷ tokens l) (sym is_back)
+    ∙ ap (λ (l : List ℕ). Name front ∷ tokens l) (sym is_back)
 
 pub nothing_goes : (x : ℕ) (xs : List ℕ) → is_ascii_digit x ≡ false → is_ascii_alphabetic x ≡ false
     → prefix_len (goes_on (x ∷ [])) xs ≡ 0
@@ -166,4 +166,4 @@ token_sign bs (x ∷ xs) rest e long digit letter is_rest =
     let all : xs ≡ rest = sym (is_rest ∙ take_all _ _ (omega arith)) in
     let two : tokens (x ∷ xs) ≡ token_of (x ∷ []) ∷ tokens xs = one ∙ rw (none) refl in
     sym (same_tokens bs) ∙ ap tokens (sym e) ∙ two ∙ ap (λ (t : Token). t ∷ tokens xs) t
-        ∙ ap (λ (l : List ℕ). sign_of x ∷ tokens l) all
+    ∙ ap (λ (l : List ℕ). sign_of x ∷ tokens l) all

@@ -21,9 +21,12 @@ ArePlain bytes = list_all is_plain bytes ≡ true
 -- what a plain byte is not, and that it is allowed
 pub plain_facts : (b : ℕ) → is_plain b ≡ true → (eqb b 10 ≡ false) × (eqb b 13 ≡ false)
     × (eqb b 35 ≡ false) × (is_allowed b ≡ true)
-plain_facts b e =
-    (grind (arith, nat_tests), grind (arith, nat_tests), grind (arith, nat_tests),
-      grind (arith, nat_tests))
+plain_facts b e = (
+  grind (arith, nat_tests),
+  grind (arith, nat_tests),
+  grind (arith, nat_tests),
+  grind (arith, nat_tests),
+)
 
 pub all_weaker : (p q : ℕ → Bool) → ((b : ℕ) → p b ≡ true → q b ≡ true) → (bs : List ℕ)
     → list_all p bs ≡ true → list_all q bs ≡ true
@@ -48,4 +51,4 @@ pub name_plain : (name : List ℕ) → is_name name ≡ true → ArePlain name
 name_plain name h =
     all_weaker is_name_byte is_plain name_byte_plain name
     (and_parts (is_ascii_alphabetic (slice_index name 0)) (list_all is_name_byte name)
-      (and_parts (nat_le (length name) 16) _ h).1).1
+    (and_parts (nat_le (length name) 16) _ h).1).1

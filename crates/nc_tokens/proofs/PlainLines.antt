@@ -31,14 +31,14 @@ no_return : (line : List ℕ) → ArePlain line → without_return line ≡ line
 no_return [] h = refl
 no_return (b ∷ line) h =
     let e : eqb (get_or (b ∷ line) (length (b ∷ line) - 1) 0) 13 ≡ false =
-        (plain_facts _ (plain_at (b ∷ line) (length (b ∷ line) - 1) h (omega arith))).1 in
+    (plain_facts _ (plain_at (b ∷ line) (length (b ∷ line) - 1) h (omega arith))).1 in
     rw (e) refl
 
 no_comment : (line : List ℕ) → ArePlain line → content line ≡ line
 no_comment line h =
     let all : position_or_len (λ b. eqb b 35) line ≡ length line =
-        position_or_len_is (λ b. eqb b 35) line (length line) 0 (omega arith)
-        (λ k less. (plain_facts _ (plain_at line k h less)).2) (λ less. absurd (omega arith)) in
+    position_or_len_is (λ b. eqb b 35) line (length line) 0 (omega arith)
+    (λ k less. (plain_facts _ (plain_at line k h less)).2) (λ less. absurd (omega arith)) in
     rw (no_return line h, all) (take_all (length line) line (omega arith))
 
 not_blank : (line : List ℕ) → is_blank (get_or line 0 32) ≡ false → list_all is_blank line ≡ false
@@ -50,5 +50,8 @@ pub written_line : (n : ℕ) (line : List ℕ) (ls : List (List ℕ)) → IsPrin
     → written n (line ∷ ls) ≡ Line n true (tokens line) (written (n + 1) ls)
 unfolding written
 written_line n line ls h =
-    rw (no_comment line h.plain, not_blank line h.begun,
-      all_weaker is_plain is_allowed (λ b e. (plain_facts b e).3) line h.plain) refl
+    rw (
+      no_comment line h.plain,
+      not_blank line h.begun,
+      all_weaker is_plain is_allowed (λ b e. (plain_facts b e).3) line h.plain,
+    ) refl

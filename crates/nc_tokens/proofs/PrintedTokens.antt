@@ -54,16 +54,16 @@ pub name_token : (name rest : List ℕ) → is_name name ≡ true → IsBreak re
 name_token [] rest h stops = absurd (cc)
 name_token (x ∷ o) rest h stops =
     let k = and_parts (is_ascii_alphabetic x) (list_all is_name_byte (x ∷ o))
-        (and_parts (nat_le (length (x ∷ o)) 16)
-          (is_ascii_alphabetic x && list_all is_name_byte (x ∷ o)) h).1 in
+    (and_parts (nat_le (length (x ∷ o)) 16)
+    (is_ascii_alphabetic x && list_all is_name_byte (x ∷ o)) h).1 in
     let facts = letter_facts x k.0 in
     let split = whole is_name_byte (x ∷ o) rest k.1 (stops_name rest stops) in
     let t : token_of (x ∷ o) ≡ Name (x ∷ o) = rw (facts.0, k.0) refl in
     counted_piece is_name_byte x (o ++ rest) (λ b. rw (facts.0, k.0) refl) facts.2 facts.1
     ∙ ap (λ (l : List ℕ). token_of l
-          ∷ tokens (drop (prefix_len is_name_byte ((x ∷ o) ++ rest)) ((x ∷ o) ++ rest))) split.0
-        ∙ ap (λ (l : List ℕ). token_of (x ∷ o) ∷ tokens l) split.1
-        ∙ ap (λ (t : Token). t ∷ tokens rest) t
+    ∷ tokens (drop (prefix_len is_name_byte ((x ∷ o) ++ rest)) ((x ∷ o) ++ rest))) split.0
+    ∙ ap (λ (l : List ℕ). token_of (x ∷ o) ∷ tokens l) split.1
+    ∙ ap (λ (t : Token). t ∷ tokens rest) t
 
 pub literal_token : (ds rest : List ℕ) (n : ℕ) → AreDigitsOf ds n → IsBreak rest
     → tokens (ds ++ rest) ≡ Literal n ∷ tokens rest
@@ -75,9 +75,9 @@ literal_token (x ∷ o) rest n h stops =
     let t : token_of (x ∷ o) ≡ Literal n = rw (digit, few) (ap Literal h.is) in
     counted_piece is_ascii_digit x (o ++ rest) (λ b. rw (digit) refl) digit (digit_facts x digit)
     ∙ ap (λ (l : List ℕ). token_of l
-          ∷ tokens (drop (prefix_len is_ascii_digit ((x ∷ o) ++ rest)) ((x ∷ o) ++ rest))) split.0
-        ∙ ap (λ (l : List ℕ). token_of (x ∷ o) ∷ tokens l) split.1
-        ∙ ap (λ (t : Token). t ∷ tokens rest) t
+    ∷ tokens (drop (prefix_len is_ascii_digit ((x ∷ o) ++ rest)) ((x ∷ o) ++ rest))) split.0
+    ∙ ap (λ (l : List ℕ). token_of (x ∷ o) ∷ tokens l) split.1
+    ∙ ap (λ (t : Token). t ∷ tokens rest) t
 
 -- a sign stands alone
 sign_token : (b : ℕ) (rest : List ℕ) → is_blank b ≡ false → is_ascii_digit b ≡ false
@@ -85,7 +85,7 @@ sign_token : (b : ℕ) (rest : List ℕ) → is_blank b ≡ false → is_ascii_d
 sign_token b rest blank digit letter =
     let t : token_of (b ∷ []) ≡ sign_of b = rw (digit, letter) refl in
     one_piece b rest blank ∙ ap (λ (n : ℕ). token_of (b ∷ take n rest) ∷ tokens (drop n rest))
-        (nothing_goes b rest digit letter) ∙ ap (λ (t : Token). t ∷ tokens rest) t
+    (nothing_goes b rest digit letter) ∙ ap (λ (t : Token). t ∷ tokens rest) t
 
 pub times_token : (rest : List ℕ) → tokens (42 ∷ rest) ≡ Times ∷ tokens rest
 times_token rest = sign_token 42 rest refl refl refl

@@ -87,20 +87,20 @@ pub begin : {A : Type 0} (all : ℕ → Written → Read A) (room : ℕ) (w : Wr
 begin all room w = record { same = no_front (all room w) }
 
 pub bind_fails : {A B : Type 0} (e : ReadFault) (r : Result A TextFault) (f : A
-      → Result B TextFault) → FailsText e r → FailsText e (r >>= f)
+    → Result B TextFault) → FailsText e r → FailsText e (r >>= f)
 bind_fails faults.OutOfMemory r f h = tt
 bind_fails (faults.Text k) r f h = ap (λ x. x >>= f) h
 
 module _ {A : Type 0} (keyword : List ℕ) (value : ℕ → List Token → Result A Kind) (all : ℕ → Written
-      → Read A) (are : AreLines keyword value all) where
+    → Read A) (are : AreLines keyword value all) where
   pub goes_on : (front : List A) (room : ℕ) (w : Written) (whole : Read A) (r : Row) (x : A)
       → a_line keyword w ≡ Some r → at_line r.number (value room r.tokens) ≡ Ok x
       → IsOnTheWay all front room w whole
-          → IsOnTheWay all (front ++ x ∷ []) (room - 1) r.after whole
+      → IsOnTheWay all (front ++ x ∷ []) (room - 1) r.after whole
   goes_on front room w whole r x is read h = record {
     same = sym (regroup front x (all (room - 1) r.after))
         ∙ ap (λ (y : Result A TextFault). with_front front
-              (y >>= with_first (all (room - 1) r.after))) (sym read)
+        (y >>= with_first (all (room - 1) r.after))) (sym read)
         ∙ ap (with_front front) (sym (are.more room w r is)) ∙ h.same;
   }
 
@@ -109,9 +109,9 @@ module _ {A : Type 0} (keyword : List ℕ) (value : ℕ → List Token → Resul
       → IsOnTheWay all front room w whole → FailsText e whole
   fails e front room w whole r is bad h =
       subst (λ (y : Read A). FailsText e y) (ap (with_front front) (sym (are.more room w r is))
-            ∙ h.same)
+      ∙ h.same)
       (bind_fails e (line_then r (value room r.tokens) (all (room - 1) r.after)) _
-            (bind_fails e (at_line r.number (value room r.tokens)) _ bad))
+      (bind_fails e (at_line r.number (value room r.tokens)) _ bad))
 
   pub ends : (front : List A) (room : ℕ) (w : Written) (whole : Read A) → a_line keyword w ≡ None
       → IsOnTheWay all front room w whole → whole ≡ Ok (front, w)

@@ -4,7 +4,7 @@ use Rattle.std.proofs.Common.{Bool, Err, IfOk, Ok, Result, cond, false, refl, tr
 
 -- what holds of the value of a step, and then of the steps after it
 pub on_bind : {A B E : Type 0} (P : A → Type 0) (Q : B → Type 0) (r : Result A E) (f : A
-      → Result B E) → IfOk r P → ((x : A) → P x → IfOk (f x) Q) → IfOk (r >>= f) Q
+    → Result B E) → IfOk r P → ((x : A) → P x → IfOk (f x) Q) → IfOk (r >>= f) Q
 on_bind P Q (Ok x) f h next = next x h
 on_bind P Q (Err e) f h next = tt
 

@@ -14,4 +14,4 @@ abbrev pub IsNextWritten : ℕ → Written → Next → Type 0
 IsNextWritten whole w (code.End n) = w ≡ End n
 IsNextWritten whole w (code.Line n content rest) =
     (w ≡ Line n (list_all is_allowed content.now) (tokens content.now)
-      (written (n + 1) (lines rest.now))) × (n + 1 + length rest.now ≤ whole)
+    (written (n + 1) (lines rest.now))) × (n + 1 + length rest.now ≤ whole)

@@ -53,7 +53,7 @@ sign_of b =
     if b == 43 then Plus else if b == 45 then Minus else if b == 42 then Times else if b == 94 then
     Power
     else if b == 91 then Open else if b == 93 then Close else if b == 123 then OpenBrace else if b
-        == 125 then CloseBrace else Bad
+    == 125 then CloseBrace else Bad
 
 -- a literal of at most 18 digits has its value; a longer one is Long
 abbrev pub literal_of : List ℕ → Token

@@ -77,7 +77,7 @@ impl<'a> Text<'a> {
     #[tactic(auto, unfolding(crate::specs::Lines::a_line))]
     pub fn takes(&mut self, keyword: &[u8]) -> Option<Row<'a>>
         ensures { IsTakenRow (a_line keyword.now (left self.old)) (left self.old) (left self.new)
-              result }
+            result }
     {
         match next_line(self.rest, self.number) {
             Next::End(_) => None,
@@ -97,7 +97,7 @@ impl<'a> Text<'a> {
     #[tactic(auto, unfolding(crate::specs::Lines::the_line))]
     pub fn wants(&mut self, keyword: &[u8]) -> Result<Row<'a>, ReadFault>
         ensures { GivesText (λ r. seen_row r (left self.new)) result
-              (the_line keyword.now (left self.old)) }
+            (the_line keyword.now (left self.old)) }
     {
         match next_line(self.rest, self.number) {
             Next::End(number) => Err(fault_at(number, Kind::Missing)),

@@ -86,7 +86,7 @@ fn sign_of(byte: u8) -> Token<'static>
 /// A literal from its digits.
 fn literal_of(digits: &[u8]) -> Token<'static>
     requires { EachIndex digits.now (λ k. (48 ≤ slice_index digits.now k)
-            × (slice_index digits.now k ≤ 57)) }
+        × (slice_index digits.now k ≤ 57)) }
     ensures { IsShownAs result (literal_of digits.now) }
 {
     if digits.len() > 18 {

@@ -58,7 +58,7 @@ large_answer (Demo options) runs bytes large = absurd runs
 same_answer : (options : Options) → Runs options → (bytes taken : List ℕ) (left : Option (List ℕ))
     → TakesWhole (Some bytes) left taken 16777217
     → (status : Status) (report : List ℕ) → IsAnswer options taken status report
-        → IsAnswer options bytes status report
+    → IsAnswer options bytes status report
 same_answer options runs bytes taken None h status report a = absurd h.taken
 same_answer options runs bytes taken (Some ys) h status report a =
     by_end (cases_lt (length taken) 16777217)
@@ -70,17 +70,17 @@ same_answer options runs bytes taken (Some ys) h status report a =
         → IsAnswer options bytes status report
     by_end (inl short) =
         let whole : bytes ≡ taken =
-            split ∙ (ap (λ (l : List ℕ). taken ++ l) (h.whole short) ∙ append-nil taken) in
+        split ∙ (ap (λ (l : List ℕ). taken ++ l) (h.whole short) ∙ append-nil taken) in
         subst (λ (l : List ℕ). IsAnswer options l status report) (sym whole) a
     by_end (inr long) =
         let all : length bytes ≡ length taken + length ys =
-            ap length split ∙ length-append taken ys in
+        ap length split ∙ length-append taken ys in
         let one =
-            (one_answer options runs taken).1 TooLarge status (codes "too large\n") report
-            (large_answer options runs taken (omega (arith, long))) a in
+        (one_answer options runs taken).1 TooLarge status (codes "too large\n") report
+        (large_answer options runs taken (omega (arith, long))) a in
         subst (λ (s : Status). IsAnswer options bytes s report) one.0
-            (subst (λ (r : List ℕ). IsAnswer options bytes TooLarge r) one.1
-              (large_answer options runs bytes (omega (arith, all, long))))
+        (subst (λ (r : List ℕ). IsAnswer options bytes TooLarge r) one.1
+        (large_answer options runs bytes (omega (arith, all, long))))
 
 not_risen : (n : ℕ) → Rose n n → ⊥
 not_risen n rose = absurd (omega (arith, rose))
@@ -98,35 +98,38 @@ faultless_runs options runs bytes left_after written_before written_after source
 
     by_report : IsReported written_before written_after sink sink h.report h.status result
         → ((result ≡ OutOfMemory) × Adds written_before written_after [])
-            ⊎ ((report : List ℕ) × IsAnswer options bytes result report
-              × Adds written_before written_after report)
+        ⊎ ((report : List ℕ) × IsAnswer options bytes result report
+        × Adds written_before written_after report)
     by_report (inl (is, adds)) =
-        inr (h.report, subst (λ (s : Status). IsAnswer options bytes s h.report) (sym is) here,
-          adds)
+        inr (
+          h.report,
+          subst (λ (s : Status). IsAnswer options bytes s h.report) (sym is) here,
+          adds,
+        )
     by_report (inr (is, rose, front)) = absurd (not_risen sink rose)
 
 -- ---- runs with enough steps
 
 module _ (options : BasisOptions) (bytes : List ℕ) (P : NamedProblem) (text : IsProblemText bytes P)
     (enough : length (monomials_within P.problem.setting P.problem.bound
-        (alphabet_letters P.alphabet)) ≤ P.problem.steps) where
+    (alphabet_letters P.alphabet)) ≤ P.problem.steps) where
   complete_end : (e : End) (report : List ℕ) → IsBasis options bytes e report → e ≡ End.complete
   complete_end e report h =
       subst Ends (same_problem bytes h.problem P h.text text)
       (λ is few. complete h.problem is (prime_of h.problem is) few h.handled (untraced h.run) e
-        (record { run = h.run; ends = h.ends; stands = refl })) (problem_of_text bytes P text)
+      (record { run = h.run; ends = h.ends; stands = refl })) (problem_of_text bytes P text)
       enough
     where
       Ends : NamedProblem → Type 0
       Ends Q =
           IsProblem Q → length (monomials_within Q.problem.setting Q.problem.bound
-            (alphabet_letters Q.alphabet)) ≤ Q.problem.steps → e ≡ End.complete
+          (alphabet_letters Q.alphabet)) ≤ Q.problem.steps → e ≡ End.complete
 
   abbrev Whole : Status → List ℕ → Type 0
   Whole status report =
       ((status ≡ Done) × IsComplete options bytes report)
       ⊎ ((named : Listed) × (terms : ℕ) × (status ≡ TooMany named terms)
-        × IsTooManyTerms options bytes named terms report)
+      × IsTooManyTerms options bytes named terms report)
 
   whole : (status : Status) (report : List ℕ) → Known options bytes status report
       → Whole status report
@@ -134,8 +137,10 @@ module _ (options : BasisOptions) (bytes : List ℕ) (P : NamedProblem) (text : 
   whole status report (Known.is_bad line kind bad) = absurd (err_or_ok (sym bad.read ∙ text.read))
   whole status report (Known.ended_at e h) =
       let ends : e ≡ End.complete =
-          complete_end e report h in inl (ap status_at ends,
-            subst (λ (x : End). IsBasis options bytes x report) ends h)
+      complete_end e report h in inl (
+        ap status_at ends,
+        subst (λ (x : End). IsBasis options bytes x report) ends h,
+      )
   whole status report (Known.is_many named terms h) = inr (named, terms, refl, h)
 
   module _ (result : Status) (written_before written_after : Option (List ℕ)) where
@@ -143,10 +148,10 @@ module _ (options : BasisOptions) (bytes : List ℕ) (P : NamedProblem) (text : 
     Wanted =
         ((result ≡ OutOfMemory) × Adds written_before written_after [])
         ⊎ (((result ≡ Done) × ((report : List ℕ) × IsComplete options bytes report
-                  × Adds written_before written_after report))
+        × Adds written_before written_after report))
         ⊎ ((named : Listed) × (terms : ℕ) × (result ≡ TooMany named terms)
-              × ((report : List ℕ) × IsTooManyTerms options bytes named terms report
-                × Adds written_before written_after report)))
+        × ((report : List ℕ) × IsTooManyTerms options bytes named terms report
+        × Adds written_before written_after report)))
 
     by_whole : (report : List ℕ) → Adds written_before written_after report → Whole result report
         → Wanted
@@ -156,7 +161,7 @@ module _ (options : BasisOptions) (bytes : List ℕ) (P : NamedProblem) (text : 
 
     by_answer : ((result ≡ OutOfMemory) × Adds written_before written_after [])
         ⊎ ((report : List ℕ) × IsAnswer (Basis options) bytes result report
-          × Adds written_before written_after report) → Wanted
+        × Adds written_before written_after report) → Wanted
     by_answer (inl memory) = inl memory
     by_answer (inr (report, a, adds)) =
         by_whole report adds (whole result report (known options bytes result report a))
@@ -165,14 +170,14 @@ pub complete_runs : CompleteRuns
 complete_runs options bytes P text enough left_after written_before written_after source sink result
     ran = by_answer options bytes P text enough result written_before written_after
     (faultless_runs (Basis options) tt bytes left_after written_before written_after source sink
-      result ran)
+    result ran)
 
 -- ---- claims of problems with enough steps
 
 module _ (options : MemberOptions) (bytes : List ℕ) (P : NamedProblem) (claim : Polynomial)
     (text : IsClaimText bytes P claim)
     (enough : length (monomials_within P.problem.setting P.problem.bound
-        (alphabet_letters P.alphabet)) ≤ P.problem.steps) where
+    (alphabet_letters P.alphabet)) ≤ P.problem.steps) where
   -- the claim has a representation within the bound
   abbrev IsBelow : Type 0
   IsBelow = HasRepresentation P.problem.setting (IsWithin P.problem) claim
@@ -187,38 +192,38 @@ module _ (options : MemberOptions) (bytes : List ℕ) (P : NamedProblem) (claim 
     member_complete : e.ending ≡ End.complete
     member_complete =
         subst Ends (sym same.0) (λ at few ends. complete P at (prime_of P at) few e.handled
-          (untraced is.run) e.ending (record { run = is.run; ends = ends; stands = refl })) here
+        (untraced is.run) e.ending (record { run = is.run; ends = ends; stands = refl })) here
         enough_there is.ends
       where
         Ends : NamedProblem → Type 0
         Ends Q =
             IsProblem Q → length (monomials_within Q.problem.setting Q.problem.bound
-              (alphabet_letters Q.alphabet)) ≤ Q.problem.steps
+            (alphabet_letters Q.alphabet)) ≤ Q.problem.steps
             → IsEnd Q.problem e.handled is.run e.ending → e.ending ≡ End.complete
 
         enough_there : length (monomials_within e.problem.problem.setting e.problem.problem.bound
-              (alphabet_letters e.problem.alphabet)) ≤ e.problem.problem.steps
+            (alphabet_letters e.problem.alphabet)) ≤ e.problem.problem.steps
         enough_there =
             subst (λ (Q : NamedProblem). length (monomials_within Q.problem.setting Q.problem.bound
-                (alphabet_letters Q.alphabet)) ≤ Q.problem.steps) (sym same.0) enough
+            (alphabet_letters Q.alphabet)) ≤ Q.problem.steps) (sym same.0) enough
 
     moved : HasRepresentation e.problem.problem.setting (IsWithin e.problem.problem) e.claim
         → IsBelow
     moved has =
         subst₂ (λ (Q : NamedProblem) (f : Polynomial). HasRepresentation Q.problem.setting
-          (IsWithin Q.problem) f) same.0 same.1 has
+        (IsWithin Q.problem) f) same.0 same.1 has
 
     moved_back : IsBelow → HasRepresentation e.problem.problem.setting (IsWithin e.problem.problem)
         e.claim
     moved_back has =
         subst₂ (λ (Q : NamedProblem) (f : Polynomial). HasRepresentation Q.problem.setting
-          (IsWithin Q.problem) f) (sym same.0) (sym same.1) has
+        (IsWithin Q.problem) f) (sym same.0) (sym same.1) has
 
   abbrev IsDecided : Status → List ℕ → Type 0
   IsDecided status report =
       (IsBelow × (status ≡ Done) × IsCertified options bytes report)
       ⊎ ((IsBelow × ((named : Listed) × (terms : ℕ) × (status ≡ TooMany named terms)
-                × IsTooManyTermsOf options bytes named terms report))
+      × IsTooManyTermsOf options bytes named terms report))
       ⊎ (¬ IsBelow × (status ≡ NotBelow) × IsNotBelow bytes report))
 
   done_below : (form : Form) (report : List ℕ) → IsCertifiedAs form options.limit bytes report
@@ -231,7 +236,7 @@ module _ (options : MemberOptions) (bytes : List ℕ) (P : NamedProblem) (claim 
       → IsTooManyAs form options.limit bytes named terms report → IsBelow
   many_below Terms named terms report t =
       moved t.at_end t.is (is_represented t.at_end.problem (here t.at_end t.is) t.many.rest.runs
-        t.at_end.claim [] t.many.steps t.many.rest.reduces refl)
+      t.at_end.claim [] t.many.steps t.many.rest.reduces refl)
   many_below Lines named terms report t = absurd t
 
   decided : (status : Status) (report : List ℕ) → IsMemberAnswer options bytes status report
@@ -242,7 +247,7 @@ module _ (options : MemberOptions) (bytes : List ℕ) (P : NamedProblem) (claim 
   decided NotBelow report h = inr (inr (λ has. h.left.none (moved_back h.at_end h.is has), refl, h))
   decided Budget report h =
       let both : End.complete ≡ End.budget h.left.next =
-          sym (member_complete h.at_end h.is) ∙ h.left.budget in absurd cc
+      sym (member_complete h.at_end h.is) ∙ h.left.budget in absurd cc
   decided (BadText line kind) report h = absurd (err_or_ok (sym h.read ∙ text.read))
   decided TooLarge report h = absurd (omega (arith, h.large, text.small))
   decided Invalid report h = absurd h
@@ -257,13 +262,13 @@ module _ (options : MemberOptions) (bytes : List ℕ) (P : NamedProblem) (claim 
     Decides =
         ((result ≡ OutOfMemory) × Adds written_before written_after [])
         ⊎ ((IsBelow × (result ≡ Done) × ((report : List ℕ) × IsCertified options bytes report
-                  × Adds written_before written_after report))
+        × Adds written_before written_after report))
         ⊎ ((IsBelow × ((named : Listed) × (terms : ℕ) × (result ≡ TooMany named terms)
-                  × ((report : List ℕ) × IsTooManyTermsOf options bytes named terms report
-                    × Adds written_before written_after report)))
+        × ((report : List ℕ) × IsTooManyTermsOf options bytes named terms report
+        × Adds written_before written_after report)))
         ⊎ (¬ IsBelow × (result ≡ NotBelow)
-              × ((report : List ℕ) × IsNotBelow bytes report
-                × Adds written_before written_after report))))
+        × ((report : List ℕ) × IsNotBelow bytes report
+        × Adds written_before written_after report))))
 
     by_decided : (report : List ℕ) → Adds written_before written_after report
         → IsDecided result report → Decides
@@ -275,7 +280,7 @@ module _ (options : MemberOptions) (bytes : List ℕ) (P : NamedProblem) (claim 
 
     by_member : ((result ≡ OutOfMemory) × Adds written_before written_after [])
         ⊎ ((report : List ℕ) × IsAnswer (Member options) bytes result report
-          × Adds written_before written_after report) → Decides
+        × Adds written_before written_after report) → Decides
     by_member (inl memory) = inl memory
     by_member (inr (report, a, adds)) = by_decided report adds (decided result report a)
 
@@ -284,4 +289,4 @@ complete_members options bytes P claim text enough left_after written_before wri
     sink result ran =
     by_member options bytes P claim text enough result written_before written_after
     (faultless_runs (Member options) tt bytes left_after written_before written_after source sink
-      result ran)
+    result ran)

@@ -77,12 +77,19 @@ module _ (bytes : List ℕ) (e : ClaimAtEnd) (is : IsClaimAtEnd bytes e) where
       → SequentialRun e.problem.problem e.handled run last → run ≡ is.run
   the_one runs =
       (run_unique e.problem.problem (field_of e.problem problem) runs
-        (ended_run e.problem.problem is.ends).1).0
+      (ended_run e.problem.problem is.ends).1).0
 
   abbrev pub remainder_at : Polynomial → List Step → Remainder
   remainder_at rest steps =
-      record { problem = e.problem; claim = e.claim;
-        handled = e.handled; run = is.run; ending = e.ending; rest = rest; steps = steps }
+      record {
+        problem = e.problem;
+        claim = e.claim;
+        handled = e.handled;
+        run = is.run;
+        ending = e.ending;
+        rest = rest;
+        steps = steps;
+      }
 
   pub is_remainder_at : (rest : Polynomial) (steps : List Step)
       → IsRestOf e.problem.problem e.handled e.claim rest steps
@@ -92,7 +99,7 @@ module _ (bytes : List ℕ) (e : ClaimAtEnd) (is : IsClaimAtEnd bytes e) where
     ends = is.ends;
     reduces =
         subst (λ (run : State). Reduction e.problem.problem.setting run.entries
-          (IsWithin e.problem.problem) e.claim rest steps) (the_one r.runs) r.reduces;
+        (IsWithin e.problem.problem) e.claim rest steps) (the_one r.runs) r.reduces;
   }
 
   pub proof_at_end : (lines : List Line) → IsCertificate (certificate_with e lines)
@@ -100,7 +107,7 @@ module _ (bytes : List ℕ) (e : ClaimAtEnd) (is : IsClaimAtEnd bytes e) where
       → AreProof (remainder_at [] p.steps) p.needed lines
   proof_at_end lines keeps p = record {
     lists = subst (λ (run : State). ListsNeeded run.entries (numbers_of p.steps)
-          (map (λ x. x.0) p.needed)) (the_one p.traces.runs) p.traces.lists;
+        (map (λ x. x.0) p.needed)) (the_one p.traces.runs) p.traces.lists;
     traces =
         subst (λ (run : State). All (λ x. IsTraceIn run (EntryOf x.0) x.1) p.needed)
         (the_one p.traces.runs) p.traces.traces;
@@ -115,7 +122,7 @@ module _ (bytes : List ℕ) (e : ClaimAtEnd) (is : IsClaimAtEnd bytes e) where
       → Represents (remainder_at [] r.steps) limit m
   terms_at_end limit m r = record {
     is = subst (λ (run : State). IsSum e.problem.problem.setting
-          (step_multiples (labels_of e.problem.problem.setting.prime run.entries) r.steps) m)
+        (step_multiples (labels_of e.problem.problem.setting.prime run.entries) r.steps) m)
         (the_one r.is.runs) r.is.is;
     lies = r.lies;
     evaluates = r.evaluates;
@@ -129,7 +136,7 @@ module _ (bytes : List ℕ) (e : ClaimAtEnd) (is : IsClaimAtEnd bytes e) where
       → IsTooManyFor e.problem.problem.setting.prime is.run t.steps limit named terms
   many_at_end limit named terms t =
       subst (λ (run : State). IsTooManyFor e.problem.problem.setting.prime run t.steps limit named
-        terms) (the_one t.many.runs) t.many.many
+      terms) (the_one t.many.runs) t.many.many
 
 -- ---- to the records
 
@@ -177,8 +184,11 @@ module _ (bytes : List ℕ) (r : Remainder) (is : IsRemainder bytes r) where
         → IsTooManyFor r.problem.problem.setting.prime r.run r.steps limit named terms
         → IsTooManyOf r.problem.problem r.handled r.claim limit named terms
     many_of limit named terms many =
-        record { steps = r.steps; rest = nothing_of;
-          many = record { run = r.run; last = runs.0; runs = runs.1; many = many } }
+        record {
+          steps = r.steps;
+          rest = nothing_of;
+          many = record { run = r.run; last = runs.0; runs = runs.1; many = many };
+        }
 
   pub unrepresented_of : r.ending ≡ End.complete → r.rest ≢ []
       → ¬ HasRepresentation r.problem.problem.setting (IsWithin r.problem.problem) r.claim

@@ -62,36 +62,42 @@ module _ {X : Type 0} (one other : ℕ → X → List (List ℕ)) where
   same_numbered k [] same = refl
   same_numbered k (x ∷ xs) same =
       ap₂ (λ (ls ms : List (List ℕ)). ls ++ ms)
-          (subst (λ (m : ℕ). one m x ≡ other m x) (omega arith) (same 0 x refl))
+      (subst (λ (m : ℕ). one m x ≡ other m x) (omega arith) (same 0 x refl))
       (same_numbered (k + 1) xs (λ i y at. subst (λ (m : ℕ). one m y ≡ other m y) (omega arith)
-              (same (suc i) y at)))
+      (same (suc i) y at)))
 
 module _ (s : Setting) (prime : IsPrime s.prime) (run : State) (labels labels' : Listed → Element)
-    where
-  -- labels in normal form that are shown are those of the items
-  same_label : (listed : Listed) → AreShown Full s run labels → AreShown Full s run labels'
-      → IsListed run listed → labels listed ≡ labels' listed
-  same_label listed a b is =
-      (a listed is).2 ∙ (ap element_of
+  where
+    -- labels in normal form that are shown are those of the items
+    same_label : (listed : Listed) → AreShown Full s run labels → AreShown Full s run labels'
+        → IsListed run listed → labels listed ≡ labels' listed
+    same_label listed a b is =
+        (a listed is).2 ∙ (ap element_of
         ((one_label s prime.above_one run listed).0 (a listed is).0 (b listed is).0 (a listed is).1
-          (b listed is).1) ∙ sym (b listed is).2)
+        (b listed is).1) ∙ sym (b listed is).2)
 
-  pub same_report : (cofactors : Cofactors) (names : List (List ℕ)) (n : ℕ) (e : End)
-      → AreShown cofactors s run labels → AreShown cofactors s run labels'
-      → basis_report cofactors names labels n run e ≡ basis_report cofactors names labels' n run e
-  same_report Omitted names n e a b = refl
-  same_report TraceOf names n e a b = refl
-  same_report Full names n e a b =
-      ap₂ (λ (es hs : List (List ℕ)). ended (ending_line names e ∷ counts_line n run ∷ (es ++ hs)))
-      (same_numbered (entry_lines Full names labels) (entry_lines Full names labels') 1 run.entries
-            (λ i x at. ap (λ (l : Element). entry_line names (1 + i) x ∷ cofactor_lines Full names
-                x.trace l) (same_label (EntryOf (1 + i)) a b (omega (arith),
-                  omega (arith, slice_get_within run.entries i x at)))))
-      (same_numbered (syzygy_lines Full names labels) (syzygy_lines Full names labels') 1
-            run.syzygies (λ i x at. ap (λ (l : Element). syzygy_line names (1 + i) x
-                ∷ cofactor_lines Full names x.trace l)
-              (same_label (SyzygyOf (1 + i)) a b (omega (arith),
-                  omega (arith, slice_get_within run.syzygies i x at)))))
+    pub same_report : (cofactors : Cofactors) (names : List (List ℕ)) (n : ℕ) (e : End)
+        → AreShown cofactors s run labels → AreShown cofactors s run labels'
+        → basis_report cofactors names labels n run e ≡ basis_report cofactors names labels' n run e
+    same_report Omitted names n e a b = refl
+    same_report TraceOf names n e a b = refl
+    same_report Full names n e a b =
+        ap₂ (λ (es hs : List (List ℕ)). ended
+        (ending_line names e ∷ counts_line n run ∷ (es ++ hs)))
+        (same_numbered (entry_lines Full names labels) (entry_lines Full names labels') 1
+        run.entries
+        (λ i x at. ap (λ (l : Element). entry_line names (1 + i) x ∷ cofactor_lines Full names
+        x.trace l) (same_label (EntryOf (1 + i)) a b (
+          omega (arith),
+          omega (arith, slice_get_within run.entries i x at),
+        ))))
+        (same_numbered (syzygy_lines Full names labels) (syzygy_lines Full names labels') 1
+        run.syzygies (λ i x at. ap (λ (l : Element). syzygy_line names (1 + i) x
+        ∷ cofactor_lines Full names x.trace l)
+        (same_label (SyzygyOf (1 + i)) a b (
+          omega (arith),
+          omega (arith, slice_get_within run.syzygies i x at),
+        ))))
 
 -- ---- what holds at an end
 
@@ -121,8 +127,10 @@ module _ (bytes : List ℕ) (P : NamedProblem) (text : IsProblemText bytes P) wh
   labelled : {n : ℕ} {run : State} {last : Option Monomial} → SequentialRun P.problem n run last
       → AreLabelled P.problem.setting run
   labelled r =
-      record { entries = (labels_hold P.problem field r).entries;
-        syzygies = (labels_hold P.problem field r).syzygies }
+      record {
+        entries = (labels_hold P.problem field r).entries;
+        syzygies = (labels_hold P.problem field r).syzygies;
+      }
 
   canonical : {n : ℕ} {run : State} {last : Option Monomial} → SequentialRun P.problem n run last
       → AreCanonical P.problem.setting run
@@ -134,7 +142,7 @@ module _ (bytes : List ℕ) (P : NamedProblem) (text : IsProblemText bytes P) wh
       → AreShown options.cofactors P.problem.setting run labels
       → AreShort options P.problem.setting run
       → report ≡ basis_report options.cofactors P.alphabet.names labels n run ending
-          → IsBasis options bytes ending report
+      → IsBasis options bytes ending report
   basis_from options labels n run ending report ends are short written = record {
     problem = P;
     text = text;
@@ -146,7 +154,7 @@ module _ (bytes : List ℕ) (P : NamedProblem) (text : IsProblemText bytes P) wh
     canonical = canonical (ended_run P.problem ends).1;
     bases = moved_bases_at P.problem (untraced run) run (untraced_twice run) ending
         (end_facts P.problem (prime_of P is) n (untraced run) ending
-          (record { run = run; ends = ends; stands = refl }));
+        (record { run = run; ends = ends; stands = refl }));
     labels = labels;
     are = are;
     short = short;
@@ -174,19 +182,21 @@ same_ends : (bytes : List ℕ) (P Q : NamedProblem) → IsProblemText bytes P �
     → IsEnd Q.problem m run' e' → AreSame n m run run' e e'
 same_ends bytes P Q a b n m run run' e e' ends ends' =
     go (end_unique P.problem (field_of P (problem_of_text bytes P a)) ends
-      (subst (λ (X : NamedProblem). IsEnd X.problem m run' e') (sym (same_problem bytes P Q a b))
-        ends'))
+    (subst (λ (X : NamedProblem). IsEnd X.problem m run' e') (sym (same_problem bytes P Q a b))
+    ends'))
   where
     go : (n ≡ m) × (run ≡ run') × (e ≡ e') → AreSame n m run run' e e'
     go (i, s, k) = record { handled = i; runs = s; ends = k }
 
 same_basis : (options : BasisOptions) (bytes : List ℕ) (e e' : End) (r r' : List ℕ)
     → IsBasis options bytes e r → IsBasis options bytes e' r' → (e ≡ e') × (r ≡ r')
-same_basis options bytes e e' r r' a b =
-    (same.ends, a.written ∙ (same_report a.problem.problem.setting
-            (prime_of a.problem (problem_of_text bytes a.problem a.text)) a.run a.labels b.labels
-            options.cofactors a.problem.alphabet.names a.handled e a.are moved
-            ∙ (other ∙ sym b.written)))
+same_basis options bytes e e' r r' a b = (
+  same.ends,
+  a.written ∙ (same_report a.problem.problem.setting
+      (prime_of a.problem (problem_of_text bytes a.problem a.text)) a.run a.labels b.labels
+      options.cofactors a.problem.alphabet.names a.handled e a.are moved
+      ∙ (other ∙ sym b.written)),
+)
   where
     one : a.problem ≡ b.problem
     one = same_problem bytes a.problem b.problem a.text b.text
@@ -197,7 +207,7 @@ same_basis options bytes e e' r r' a b =
 
     moved : AreShown options.cofactors a.problem.problem.setting a.run b.labels
     moved = subst₂ (λ (P : NamedProblem) (run : State). AreShown options.cofactors P.problem.setting
-          run b.labels) (sym one) (sym same.runs) b.are
+        run b.labels) (sym one) (sym same.runs) b.are
 
     other : basis_report options.cofactors a.problem.alphabet.names b.labels a.handled a.run e
         ≡ basis_report options.cofactors b.problem.alphabet.names b.labels b.handled b.run e'
@@ -216,19 +226,19 @@ same_terms options bytes l l' n n' r r' a b =
 
     first : IsFirstOf a.problem.problem.setting.prime a.run options.limit l' n'
     first = subst₂ (λ (P : NamedProblem) (run : State). IsFirstOf P.problem.setting.prime run
-          options.limit l' n') (sym (same_problem bytes a.problem b.problem a.text b.text))
+        options.limit l' n') (sym (same_problem bytes a.problem b.problem a.text b.text))
         (sym same.runs) b.first
 
     named : (l ≡ l') × (n ≡ n')
     named = (one_first a.problem.problem.setting
-          (prime_of a.problem (problem_of_text bytes a.problem a.text)) a.run options.limit).2 l l'
+        (prime_of a.problem (problem_of_text bytes a.problem a.text)) a.run options.limit).2 l l'
         n n' a.first first
 
 not_both : (options : BasisOptions) (bytes : List ℕ) (e : End) (l : Listed) (n : ℕ) (r r' : List ℕ)
     → IsBasis options bytes e r → IsTooManyTerms options bytes l n r' → ⊥
 not_both options bytes e l n r r' a b =
     (one_first b.problem.problem.setting
-      (prime_of b.problem (problem_of_text bytes b.problem b.text)) b.run options.limit).1 l n
+    (prime_of b.problem (problem_of_text bytes b.problem b.text)) b.run options.limit).1 l n
     within b.first
   where
     same : AreSame a.handled b.handled a.run b.run e b.ending
@@ -238,7 +248,7 @@ not_both options bytes e l n r r' a b =
     within : AllWithin b.problem.problem.setting.prime b.run options.limit
     within =
         subst₂ (λ (P : NamedProblem) (run : State). AllWithin P.problem.setting.prime run
-          options.limit) (same_problem bytes a.problem b.problem a.text b.text) same.runs
+        options.limit) (same_problem bytes a.problem b.problem a.text b.text) same.runs
         (a.short b.full)
 
 -- what an answer comes from: too many bytes, a fault, the end of a run, or a label with too many
@@ -336,12 +346,13 @@ module _ (s : Setting) (prime : IsPrime s.prime) (run : State) where
   item_label (SyzygyOf k) h = go (slice_get_cases run.syzygies (k - 1)).1
     where
       go : ((g : Syzygy) × (k - 1 < length run.syzygies) × (slice_get run.syzygies (k - 1) ≡ Some g)
-            × (get_or run.syzygies (k - 1) g ≡ g))
+          × (get_or run.syzygies (k - 1) g ≡ g))
           ⊎ ((length run.syzygies ≤ k - 1) × (slice_get run.syzygies (k - 1) ≡ None))
           → (α : Element) × IsLabelIn s.prime run (SyzygyOf k) α
-      go (inl (g, within, at, same)) =
-          (trace_label s.prime (labels_of s.prime run.entries) g.trace,
-            (g.trace, (g, h.0, at, refl), refl))
+      go (inl (g, within, at, same)) = (
+        trace_label s.prime (labels_of s.prime run.entries) g.trace,
+        (g.trace, (g, h.0, at, refl), refl),
+      )
       go (inr (past, none)) = absurd (omega (arith, past, h.0, h.1))
   item_label Claim h = absurd h
 
@@ -383,11 +394,18 @@ basis_answer options bytes = by_size (cases_lt 16777216 (length bytes))
 
     by_read : (r : Result ProblemText TextFault) → length bytes ≤ 16777216
         → reads_relations bytes ≡ r → Answer
-    by_read (Err fault) small read =
-        (BadText fault.line (kind_number fault.kind),
-          bad_text_report fault.line (kind_number fault.kind),
-          record { fault = fault; small = small;
-            read = read; at_line = refl; of_kind = refl; written = refl })
+    by_read (Err fault) small read = (
+      BadText fault.line (kind_number fault.kind),
+      bad_text_report fault.line (kind_number fault.kind),
+      record {
+        fault = fault;
+        small = small;
+        read = read;
+        at_line = refl;
+        of_kind = refl;
+        written = refl;
+      },
+    )
     by_read (Ok t) small read =
         go (end_exists P.problem (field_of P (problem_of_text bytes P text)))
       where
@@ -404,10 +422,14 @@ basis_answer options bytes = by_size (cases_lt 16777216 (length bytes))
             → AreShort options P.problem.setting run → Answer
         listed_all n run e ends short =
             let labels : Listed → Element = some_labels P.problem.setting prime run in
-            let report : List ℕ = basis_report options.cofactors P.alphabet.names labels n run e in
-            (status_at e, report, answered options bytes e report
+            let report : List ℕ =
+            basis_report options.cofactors P.alphabet.names labels n run e in (
+              status_at e,
+              report,
+              answered options bytes e report
                   (basis_from bytes P text options labels n run e report ends
-                    (some_are P.problem.setting prime run options.cofactors) short refl))
+                  (some_are P.problem.setting prime run options.cofactors) short refl),
+            )
 
         go : (n : ℕ) × (run : State) × (e : End) × IsEnd P.problem n run e → Answer
         go (n, run, e, ends) = by_kind (decide_full options.cofactors)
@@ -415,13 +437,23 @@ basis_answer options bytes = by_size (cases_lt 16777216 (length bytes))
             by_limit : options.cofactors ≡ Full
                 → AllWithin P.problem.setting.prime run options.limit
                 ⊎ ((named : Listed) × (terms : ℕ)
-                  × IsFirstOf P.problem.setting.prime run options.limit named terms) → Answer
+                × IsFirstOf P.problem.setting.prime run options.limit named terms) → Answer
             by_limit full (inl within) = listed_all n run e ends (λ f. within)
-            by_limit full (inr (named, terms, first)) =
-                (TooMany named terms, too_many_report named terms,
-                  record { full = full; problem = P;
-                    text = text; handled = n; run = run;
-                    ending = e; ends = ends; first = first; written = refl })
+            by_limit full (inr (named, terms, first)) = (
+              TooMany named terms,
+              too_many_report named terms,
+              record {
+                full = full;
+                problem = P;
+                text = text;
+                handled = n;
+                run = run;
+                ending = e;
+                ends = ends;
+                first = first;
+                written = refl;
+              },
+            )
 
             by_kind : Decided (options.cofactors ≡ Full) → Answer
             by_kind (inl full) =

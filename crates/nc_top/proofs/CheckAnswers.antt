@@ -78,11 +78,11 @@ few_told : (bytes : List ℕ) (r : Result Certificate TextFault) (status : Statu
 few_told bytes r status report small read told written =
     let few : nat_lt 16777216 (length bytes) ≡ false = le-ltb 16777216 (length bytes) small in (
       told ∙ (ap status_of_text (sym read)
-            ∙ ap (λ (b : Bool). if b then TooLarge else status_of_text (reads_certificate bytes))
-            (sym few)),
+          ∙ ap (λ (b : Bool). if b then TooLarge else status_of_text (reads_certificate bytes))
+          (sym few)),
       written ∙ (ap report_of_text (sym read)
-            ∙ ap (λ (b : Bool). if b then codes "too large\n" else report_of_text
-              (reads_certificate bytes)) (sym few)),
+          ∙ ap (λ (b : Bool). if b then codes "too large\n" else report_of_text
+          (reads_certificate bytes)) (sym few)),
     )
 
 many_told : (bytes : List ℕ) (status : Status) (report : List ℕ) → 16777216 < length bytes
@@ -92,7 +92,7 @@ many_told bytes status report large told written =
       told ∙ ap (λ (b : Bool). if b then TooLarge else status_of_text (reads_certificate bytes))
           (sym many),
       written ∙ ap (λ (b : Bool). if b then codes "too large\n" else report_of_text
-            (reads_certificate bytes)) (sym many),
+          (reads_certificate bytes)) (sym many),
     )
 
 -- ---- work within the limit, or too much
@@ -108,14 +108,14 @@ within_told : (bytes : List ℕ) (c : Certificate) (status : Status) (report : L
     → IsText bytes c → IsWithinWork c
     → status ≡ status_of_rest (rest_of c.setting.setting c.claim c.lines)
     → report ≡ report_of_rest c.setting.alphabet.names (rest_of c.setting.setting c.claim c.lines)
-        → Told bytes status report
+    → Told bytes status report
 within_told bytes c status report text within told written =
     let f : Polynomial = rest_of c.setting.setting c.claim c.lines in
     let none : beyond c ≡ None = within_none 100000000 (Charges c) within in
     few_told bytes (Ok c) status report text.small text.read
-        (told ∙ ap (λ (o : Option Charge). status_of_work o f) (sym none))
-        (written ∙ ap (λ (o : Option Charge). report_of_work c.setting.alphabet.names o f)
-          (sym none))
+    (told ∙ ap (λ (o : Option Charge). status_of_work o f) (sym none))
+    (written ∙ ap (λ (o : Option Charge). report_of_work c.setting.alphabet.names o f)
+    (sym none))
 
 much_told : (bytes : List ℕ) (line charge : ℕ) (report : List ℕ)
     → IsCheckAnswer bytes (TooMuch line charge) report → Told bytes (TooMuch line charge) report
@@ -123,11 +123,11 @@ much_told bytes line charge report h =
     let c : Certificate = h.certificate in
     let f : Polynomial = rest_of c.setting.setting c.claim c.lines in
     let found : beyond c ≡ Some (record { line = line; amount = charge }) =
-        much_found 100000000 (Charges c) line charge h.much in
+    much_found 100000000 (Charges c) line charge h.much in
     few_told bytes (Ok c) (TooMuch line charge) report h.text.small h.text.read
-        (ap (λ (o : Option Charge). status_of_work o f) (sym found))
-        (h.written ∙ ap (λ (o : Option Charge). report_of_work c.setting.alphabet.names o f)
-          (sym found))
+    (ap (λ (o : Option Charge). status_of_work o f) (sym found))
+    (h.written ∙ ap (λ (o : Option Charge). report_of_work c.setting.alphabet.names o f)
+    (sym found))
 
 -- ---- valid, or not
 
@@ -136,10 +136,10 @@ done_told : (bytes : List ℕ) (report : List ℕ) → IsCheckAnswer bytes Done 
 done_told bytes report h =
     let c : Certificate = h.certificate in
     let nothing : rest_of c.setting.setting c.claim c.lines ≡ [] =
-        nothing_from_valid c (rest_of c.setting.setting c.claim c.lines)
-        (reads_certificates bytes c h.text.read).certificate refl h.valid in
+    nothing_from_valid c (rest_of c.setting.setting c.claim c.lines)
+    (reads_certificates bytes c h.text.read).certificate refl h.valid in
     within_told bytes c Done report h.text h.within (ap status_of_rest (sym nothing))
-        (h.written ∙ ap (report_of_rest c.setting.alphabet.names) (sym nothing))
+    (h.written ∙ ap (report_of_rest c.setting.alphabet.names) (sym nothing))
 
 something : (c : Certificate) (f : Polynomial) (report : List ℕ) → ¬ (f ≡ [])
     → report ≡ invalid_report c.setting.alphabet.names f → (Invalid ≡ status_of_rest f)
@@ -153,9 +153,9 @@ invalid_told bytes report h =
     let c : Certificate = h.certificate in
     let f : Polynomial = rest_of c.setting.setting c.claim c.lines in
     let some =
-        something c f report (λ e. h.invalid
-          (valid_from_nothing c f (reads_certificates bytes c h.text.read).certificate refl e))
-        h.written in
+    something c f report (λ e. h.invalid
+    (valid_from_nothing c f (reads_certificates bytes c h.text.read).certificate refl e))
+    h.written in
     within_told bytes c Invalid report h.text h.within some.0 some.1
 
 bad_text_told : (bytes : List ℕ) (line kind : ℕ) (report : List ℕ)
@@ -185,14 +185,24 @@ by_rest : (bytes : List ℕ) (c : Certificate) (f : Polynomial) → IsText bytes
     → f ≡ rest_of c.setting.setting c.claim c.lines
     → IsCheckAnswer bytes (status_of_rest f) (report_of_rest c.setting.alphabet.names f)
 by_rest bytes c [] text within is =
-    record { certificate = c; text = text;
-      within = within; valid = valid_from_nothing c []
-      (reads_certificates bytes c text.read).certificate is refl; written = refl }
+    record {
+      certificate = c;
+      text = text;
+      within = within;
+      valid = valid_from_nothing c []
+          (reads_certificates bytes c text.read).certificate is refl;
+      written = refl;
+    }
 by_rest bytes c (t ∷ f) text within is =
-    record { certificate = c; text = text;
-      within = within; invalid = λ valid. none t f
-      (nothing_from_valid c (t ∷ f) (reads_certificates bytes c text.read).certificate is valid);
-      written = ap (invalid_report c.setting.alphabet.names) is }
+    record {
+      certificate = c;
+      text = text;
+      within = within;
+      invalid = λ valid. none t f
+          (nothing_from_valid c (t ∷ f) (reads_certificates bytes c text.read).certificate is
+          valid);
+      written = ap (invalid_report c.setting.alphabet.names) is;
+    }
   where
     none : {A : Type 0} (t : A) (f : List A) → t ∷ f ≡ [] → ⊥
     none t f e = absurd cc
@@ -200,42 +210,48 @@ by_rest bytes c (t ∷ f) text within is =
 by_work : (bytes : List ℕ) (c : Certificate) → IsText bytes c → IsWithinWork c
     ⊎ ((k : ℕ) × (t : ℕ) × IsTooMuch 100000000 (Charges c) k t)
     → IsCheckAnswer bytes (status_of_work (beyond c) (rest_of c.setting.setting c.claim c.lines))
-        (report_of_work c.setting.alphabet.names (beyond c)
-          (rest_of c.setting.setting c.claim c.lines))
+    (report_of_work c.setting.alphabet.names (beyond c)
+    (rest_of c.setting.setting c.claim c.lines))
 by_work bytes c text (inl within) =
     let f : Polynomial = rest_of c.setting.setting c.claim c.lines in
     subst (λ (o : Option Charge). IsCheckAnswer bytes (status_of_work o f)
-          (report_of_work c.setting.alphabet.names o f))
-        (sym (within_none 100000000 (Charges c) within)) (by_rest bytes c f text within refl)
+    (report_of_work c.setting.alphabet.names o f))
+    (sym (within_none 100000000 (Charges c) within)) (by_rest bytes c f text within refl)
 by_work bytes c text (inr (k, t, much)) =
     let f : Polynomial = rest_of c.setting.setting c.claim c.lines in
     subst (λ (o : Option Charge). IsCheckAnswer bytes (status_of_work o f)
-          (report_of_work c.setting.alphabet.names o f))
-        (sym (much_found 100000000 (Charges c) k t much))
-        (record { certificate = c; text = text; much = much; written = refl })
+    (report_of_work c.setting.alphabet.names o f))
+    (sym (much_found 100000000 (Charges c) k t much))
+    (record { certificate = c; text = text; much = much; written = refl })
 
 by_text : (bytes : List ℕ) (r : Result Certificate TextFault) → length bytes ≤ 16777216
     → reads_certificate bytes ≡ r → IsCheckAnswer bytes (status_of_text r) (report_of_text r)
 by_text bytes (Ok c) small read =
     by_work bytes c record { small = small; read = read } (limit_law 100000000 (Charges c)).either
 by_text bytes (Err fault) small read =
-    record { fault = fault; small = small;
-      read = read; at_line = refl; of_kind = refl; written = refl }
+    record {
+      fault = fault;
+      small = small;
+      read = read;
+      at_line = refl;
+      of_kind = refl;
+      written = refl;
+    }
 
 by_size : (bytes : List ℕ) → (16777216 < length bytes) ⊎ (length bytes ≤ 16777216)
     → IsCheckAnswer bytes (status_of bytes) (report_of bytes)
 by_size bytes (inr small) =
     let told =
-        few_told bytes (reads_certificate bytes) (status_of_text (reads_certificate bytes))
-        (report_of_text (reads_certificate bytes)) small refl refl refl in
+    few_told bytes (reads_certificate bytes) (status_of_text (reads_certificate bytes))
+    (report_of_text (reads_certificate bytes)) small refl refl refl in
     subst (IsCheckAnswer bytes (status_of bytes)) told.1
-        (subst (λ (s : Status). IsCheckAnswer bytes s (report_of_text (reads_certificate bytes)))
-          told.0 (by_text bytes (reads_certificate bytes) small refl))
+    (subst (λ (s : Status). IsCheckAnswer bytes s (report_of_text (reads_certificate bytes)))
+    told.0 (by_text bytes (reads_certificate bytes) small refl))
 by_size bytes (inl large) =
     let told = many_told bytes TooLarge (codes "too large\n") large refl refl in
     subst (IsCheckAnswer bytes (status_of bytes)) told.1
-        (subst (λ (s : Status). IsCheckAnswer bytes s (codes "too large\n")) told.0 record
-          { large = large; written = refl })
+    (subst (λ (s : Status). IsCheckAnswer bytes s (codes "too large\n")) told.0 record
+    { large = large; written = refl })
 
 -- each input has one answer
 pub check_answer : (bytes : List ℕ) → (status : Status) × (report : List ℕ)

@@ -56,12 +56,12 @@ unfolding problem_at
 claim_reads w =
     on_bind _ _ (setting_lines w) _ (setting_lines_read w) (λ setting is.
     on_bind _ _ (bound_line setting.0.alphabet (length setting.0.setting.generators) setting.1) _
-        (on_any (bound_line setting.0.alphabet (length setting.0.setting.generators) setting.1))
-        (λ bound _.
+    (on_any (bound_line setting.0.alphabet (length setting.0.setting.generators) setting.1))
+    (λ bound _.
     on_bind _ _ (steps_line bound.1) _ (on_any (steps_line bound.1)) (λ steps _.
     on_bind _ _ (wanted_claim setting.0.setting.prime setting.0.alphabet steps.1) _
-        (wanted_reads setting.0.setting.prime setting.0.alphabet steps.1
-          (omega (arith, (listed_is_prime setting.0.setting.prime is.prime).above_one))) (λ claim h.
+    (wanted_reads setting.0.setting.prime setting.0.alphabet steps.1
+    (omega (arith, (listed_is_prime setting.0.setting.prime is.prime).above_one))) (λ claim h.
     on_bind _ _ (the_end claim.1) _ (on_any (the_end claim.1)) (λ _ _. (h.0, (h.1, h.2)))))))
 
 -- what is read has a claim
@@ -77,34 +77,37 @@ never_without bytes t read none =
     let c = has_claim bytes t read in let clash : None ≡ Some c.0 = sym none ∙ c.1.0 in absurd cc
 
 module _ (bytes : List ℕ) (P : NamedProblem) (claim : Polynomial) (text : IsClaimText bytes P claim)
-    where
-  pub problem_is : IsProblem P
-  problem_is = reads_problems true bytes (record { problem = P; claim = Some claim }) text.read
+  where
+    pub problem_is : IsProblem P
+    problem_is = reads_problems true bytes (record { problem = P; claim = Some claim }) text.read
 
-  text_claim : IsTextPolynomial P.alphabet P.problem.setting.prime claim
-  text_claim = go (has_claim bytes (record { problem = P; claim = Some claim }) text.read)
-    where
-      go : (f : Polynomial) × IsClaimOf (record { problem = P; claim = Some claim }) f
-          → IsTextPolynomial P.alphabet P.problem.setting.prime claim
-      go (f, h) =
-          let e : Some claim ≡ Some f =
-              h.0 in let same : f ≡ claim =
-              cc in subst (IsTextPolynomial P.alphabet P.problem.setting.prime) same h.1
+    text_claim : IsTextPolynomial P.alphabet P.problem.setting.prime claim
+    text_claim = go (has_claim bytes (record { problem = P; claim = Some claim }) text.read)
+      where
+        go : (f : Polynomial) × IsClaimOf (record { problem = P; claim = Some claim }) f
+            → IsTextPolynomial P.alphabet P.problem.setting.prime claim
+        go (f, h) =
+            let e : Some claim ≡ Some f =
+            h.0 in let same : f ≡ claim =
+            cc in subst (IsTextPolynomial P.alphabet P.problem.setting.prime) same h.1
 
-  pub claim_in : IsPolynomialIn P.alphabet P.problem.setting.prime claim
-  claim_in =
-      record { normal = text_claim.normal;
-        words = All-weaker (λ t. IsTextWord P.alphabet t.key) (λ t. IsWordIn P.alphabet t.key)
-        (λ t is. is.letters) claim text_claim.words }
+    pub claim_in : IsPolynomialIn P.alphabet P.problem.setting.prime claim
+    claim_in =
+        record {
+          normal = text_claim.normal;
+          words = All-weaker (λ t. IsTextWord P.alphabet t.key) (λ t. IsWordIn P.alphabet t.key)
+              (λ t is. is.letters) claim text_claim.words;
+        }
 
-  pub claim_light : All (λ t. word_weight t.key ≤ 200000) claim
-  claim_light =
-      All-weaker (λ t. IsTextWord P.alphabet t.key) (λ t. word_weight t.key ≤ 200000)
-      (λ t is. omega (arith, text_word_light P.alphabet problem_is.setting.alphabet t.key is)) claim
-      text_claim.words
+    pub claim_light : All (λ t. word_weight t.key ≤ 200000) claim
+    claim_light =
+        All-weaker (λ t. IsTextWord P.alphabet t.key) (λ t. word_weight t.key ≤ 200000)
+        (λ t is. omega (arith, text_word_light P.alphabet problem_is.setting.alphabet t.key is))
+        claim
+        text_claim.words
 
-  pub claim_named : All (λ t. IsNamed P.alphabet t.key) claim
-  claim_named = words_named P.alphabet claim claim_in.words
+    pub claim_named : All (λ t. IsNamed P.alphabet t.key) claim
+    claim_named = words_named P.alphabet claim claim_in.words
 
 -- ---- letters of what is left, and of what was subtracted
 
@@ -112,7 +115,7 @@ module _ (P : NamedProblem) (is : IsProblem P) {n : ℕ} {run : State} {last : O
     (runs : SequentialRun P.problem n run last) (claim : Polynomial)
     (in_words : IsPolynomialIn P.alphabet P.problem.setting.prime claim) {rest : Polynomial}
     {steps : List Step} (reduces : Reduction P.problem.setting run.entries (IsWithin P.problem)
-      claim rest steps) where
+    claim rest steps) where
   field : IsField P.problem.setting.prime
   field = field_of P is
 
@@ -132,13 +135,13 @@ module _ (P : NamedProblem) (is : IsProblem P) {n : ℕ} {run : State} {last : O
   pub rest_named : All (λ t. IsNamed P.alphabet t.key) rest
   rest_named =
       words_named P.alphabet rest (polynomial_in P.alphabet P.problem.setting rest
-        (kept_normal P.problem.setting field run.entries alive (IsWithin P.problem) reduces)
-        (reduction_over P.problem.setting letters inputs run.entries alive
-          (run_over P.problem field letters inputs runs) (IsWithin P.problem) reduces claim_over))
+      (kept_normal P.problem.setting field run.entries alive (IsWithin P.problem) reduces)
+      (reduction_over P.problem.setting letters inputs run.entries alive
+      (run_over P.problem field letters inputs runs) (IsWithin P.problem) reduces claim_over))
 
   module _ (m : List (Term Sig))
       (sum : IsSum P.problem.setting
-        (step_multiples (labels_of P.problem.setting.prime run.entries) steps) m) where
+      (step_multiples (labels_of P.problem.setting.prime run.entries) steps) m) where
     terms : All (λ t. IsWordIn P.alphabet t.key.left) m
         × All (λ t. IsWordIn P.alphabet t.key.right) m
     terms = sum_over P (step_multiples (labels_of P.problem.setting.prime run.entries) steps)

@@ -40,7 +40,7 @@ module _ (s : Snapshot) (h : IsSnapshot s) where
   stands_at ms k some within = go (slice_get_cases ms (k - 1)).1
     where
       go : ((m : List (Term Sig)) × (k - 1 < length ms) × (slice_get ms (k - 1) ≡ Some m)
-            × (get_or ms (k - 1) m ≡ m)) ⊎ ((length ms ≤ k - 1) × (slice_get ms (k - 1) ≡ None))
+          × (get_or ms (k - 1) m ≡ m)) ⊎ ((length ms ≤ k - 1) × (slice_get ms (k - 1) ≡ None))
           → slice_get ms (k - 1) ≡ Some (get_or ms (k - 1) [])
       go (inl (m, here, at, same)) = at ∙ ap Some (sym (get_or_from_slice_get ms (k - 1) m [] at))
       go (inr (past, none)) = absurd (omega (arith, past, some, within))
@@ -48,14 +48,18 @@ module _ (s : Snapshot) (h : IsSnapshot s) where
   among : (entries syzygies : List (List (Term Sig))) → AreAllLabels s entries syzygies
       → (run : State) → IsRunAt s run → (listed : Listed) → IsListed run listed
       → (m : List (Term Sig)) × IsLabelOf setting run listed m
-          × (label_among entries syzygies listed ≡ element_of m)
+      × (label_among entries syzygies listed ≡ element_of m)
   among entries syzygies are run a (EntryOf k) l = (
     get_or entries (k - 1) [],
     subst (λ (r : State). IsLabelOf setting r (EntryOf k) (get_or entries (k - 1) []))
         (one_run s h are.entries_are.run run (are.entries_are.last, are.entries_are.runs) a)
         (are.entries_are.are k (get_or entries (k - 1) []) l.0
-              (stands_at entries k l.0 (omega (arith, l.1, are.each_entry,
-                    entries_count s h run a)))),
+        (stands_at entries k l.0 (omega (
+          arith,
+          l.1,
+          are.each_entry,
+          entries_count s h run a,
+        )))),
     refl,
   )
   among entries syzygies are run a (SyzygyOf k) l = (
@@ -63,8 +67,12 @@ module _ (s : Snapshot) (h : IsSnapshot s) where
     subst (λ (r : State). IsLabelOf setting r (SyzygyOf k) (get_or syzygies (k - 1) []))
         (one_run s h are.syzygies_are.run run (are.syzygies_are.last, are.syzygies_are.runs) a)
         (are.syzygies_are.are k (get_or syzygies (k - 1) []) l.0
-              (stands_at syzygies k l.0 (omega (arith, l.1, are.each_syzygy,
-                    syzygies_count s h run a)))),
+        (stands_at syzygies k l.0 (omega (
+          arith,
+          l.1,
+          are.each_syzygy,
+          syzygies_count s h run a,
+        )))),
     refl,
   )
   among entries syzygies are run a Claim l = absurd l
@@ -78,40 +86,40 @@ module _ (s : Snapshot) (h : IsSnapshot s) where
 
   module _ (options : BasisOptions) (bytes : List ℕ) (P : NamedProblem)
       (text : IsProblemText bytes P) (same : s.problem ≡ P) (ending : End) (e : IsEndAt s ending)
-      where
-    the_run : IsRunAt s e.run
-    the_run = ended_run s.problem.problem e.ends
+    where
+      the_run : IsRunAt s e.run
+      the_run = ended_run s.problem.problem e.ends
 
-    here : IsProblemText bytes s.problem
-    here = subst (IsProblemText bytes) (sym same) text
+      here : IsProblemText bytes s.problem
+      here = subst (IsProblemText bytes) (sym same) text
 
-    pub answer_at : (x : Shown) → IsShownOf s x → kind_of x ≡ options.cofactors
-        → ((run : State) → IsRunAt s run → AreShort options setting run)
-        → (status : Status) (report : List ℕ) → status ≡ status_at ending
-        → ((run : State) → IsRunAt s run
-              → report ≡ basis_report (kind_of x) s.problem.alphabet.names (labels_in x) s.handled
-              run ending) → IsBasisAnswer options bytes status report
-    answer_at x of kind short status report is written =
-        subst (λ (t : Status). IsBasisAnswer options bytes t report) (sym is)
-        (answered options bytes ending report
-              (basis_from bytes s.problem here options (labels_in x) s.handled e.run ending report
-                e.ends
-        (subst (λ (k : Cofactors). AreShown k setting e.run (labels_in x)) kind
-              (are_shown x of e.run the_run)) (short e.run the_run)
-        (subst (λ (k : Cofactors). report ≡ basis_report k s.problem.alphabet.names (labels_in x)
-                s.handled e.run ending) kind (written e.run the_run))))
+      pub answer_at : (x : Shown) → IsShownOf s x → kind_of x ≡ options.cofactors
+          → ((run : State) → IsRunAt s run → AreShort options setting run)
+          → (status : Status) (report : List ℕ) → status ≡ status_at ending
+          → ((run : State) → IsRunAt s run
+          → report ≡ basis_report (kind_of x) s.problem.alphabet.names (labels_in x) s.handled
+          run ending) → IsBasisAnswer options bytes status report
+      answer_at x of kind short status report is written =
+          subst (λ (t : Status). IsBasisAnswer options bytes t report) (sym is)
+          (answered options bytes ending report
+          (basis_from bytes s.problem here options (labels_in x) s.handled e.run ending report
+          e.ends
+          (subst (λ (k : Cofactors). AreShown k setting e.run (labels_in x)) kind
+          (are_shown x of e.run the_run)) (short e.run the_run)
+          (subst (λ (k : Cofactors). report ≡ basis_report k s.problem.alphabet.names (labels_in x)
+          s.handled e.run ending) kind (written e.run the_run))))
 
-    pub many_at : (named : Listed) (terms : ℕ) (report : List ℕ) → options.cofactors ≡ Full
-        → ((run : State) → IsRunAt s run → IsFirstOf setting.prime run options.limit named terms)
-        → report ≡ too_many_report named terms → IsTooManyTerms options bytes named terms report
-    many_at named terms report full first written = record {
-      full = full;
-      problem = s.problem;
-      text = here;
-      handled = s.handled;
-      run = e.run;
-      ending = ending;
-      ends = e.ends;
-      first = first e.run the_run;
-      written = written;
-    }
+      pub many_at : (named : Listed) (terms : ℕ) (report : List ℕ) → options.cofactors ≡ Full
+          → ((run : State) → IsRunAt s run → IsFirstOf setting.prime run options.limit named terms)
+          → report ≡ too_many_report named terms → IsTooManyTerms options bytes named terms report
+      many_at named terms report full first written = record {
+        full = full;
+        problem = s.problem;
+        text = here;
+        handled = s.handled;
+        run = e.run;
+        ending = ending;
+        ends = e.ends;
+        first = first e.run the_run;
+        written = written;
+      }

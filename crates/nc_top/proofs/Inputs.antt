@@ -18,7 +18,7 @@ module _ {T : Type 0} where
       let one : a.fault ≡ b.fault = ap fault_in (sym a.read ∙ b.read) in
       let line : l ≡ l' = a.at_line ∙ (ap (λ (f : TextFault). f.line) one ∙ sym b.at_line) in
       let kind : k ≡ k' =
-          a.of_kind ∙ (ap (λ (f : TextFault). kind_number f.kind) one ∙ sym b.of_kind) in
+      a.of_kind ∙ (ap (λ (f : TextFault). kind_number f.kind) one ∙ sym b.of_kind) in
       (ap₂ BadText line kind, a.written ∙ (ap₂ bad_text_report line kind ∙ sym b.written))
     where
       fault_in : Result T TextFault → TextFault

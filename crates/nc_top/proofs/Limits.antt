@@ -31,8 +31,12 @@ module _ (s : Snapshot) (h : IsSnapshot s) (limit : ℕ) where
       → length m ≤ limit → (α : Element) (n : ℕ) → IsLabelIn setting.prime run listed α
       → HasTerms setting.prime α n → n ≤ limit
   short run listed m is few α n in_run has =
-      omega (arith, few, (one_label setting above_one run listed).2 α n (length m) has
-        ((one_label setting above_one run listed).1 m is α in_run))
+      omega (
+        arith,
+        few,
+        (one_label setting above_one run listed).2 α n (length m) has
+            ((one_label setting above_one run listed).1 m is α in_run),
+      )
 
   -- what stands at a place of a list of lists, none of them long
   place : (ms : List (List (Term Sig))) → All (λ m. length m ≤ limit) ms → (k : ℕ) → 1 ≤ k
@@ -40,7 +44,7 @@ module _ (s : Snapshot) (h : IsSnapshot s) (limit : ℕ) where
   place ms few k some within = go (slice_get_cases ms (k - 1)).1
     where
       go : ((m : List (Term Sig)) × (k - 1 < length ms) × (slice_get ms (k - 1) ≡ Some m)
-            × (get_or ms (k - 1) m ≡ m)) ⊎ ((length ms ≤ k - 1) × (slice_get ms (k - 1) ≡ None))
+          × (get_or ms (k - 1) m ≡ m)) ⊎ ((length ms ≤ k - 1) × (slice_get ms (k - 1) ≡ None))
           → (m : List (Term Sig)) × (slice_get ms (k - 1) ≡ Some m) × (length m ≤ limit)
       go (inl (m, here, at, same)) =
           (m, at, subst (λ (x : List (Term Sig)). length x ≤ limit) same (few (k - 1) m here))
@@ -48,45 +52,58 @@ module _ (s : Snapshot) (h : IsSnapshot s) (limit : ℕ) where
 
   module _ (entries : List (List (Term Sig))) (are : AreLabels s.problem.problem s.handled entries)
       (each : length entries ≡ length s.state.entries) (few : All (λ m. length m ≤ limit) entries)
-      where
-    entries_short : (run : State) → IsRunAt s run → (k n : ℕ) → 1 ≤ k → k ≤ length run.entries
-        → EntryTerms setting.prime run k n → n ≤ limit
-    entries_short run a k n some within has =
-        let p = place entries few k some (omega (arith, within, each, entries_count s h run a)) in
-        let is : IsLabelOf setting run (EntryOf k) p.0 =
-            subst (λ (r : State). IsLabelOf setting r (EntryOf k) p.0)
-            (one_run s h are.run run (are.last, are.runs) a) (are.are k p.0 some p.1) in
-        short run (EntryOf k) p.0 is p.2 (label_at (labels_of setting.prime run.entries) k) n (some,
-              within, refl) has
+    where
+      entries_short : (run : State) → IsRunAt s run → (k n : ℕ) → 1 ≤ k → k ≤ length run.entries
+          → EntryTerms setting.prime run k n → n ≤ limit
+      entries_short run a k n some within has =
+          let p = place entries few k some (omega (arith, within, each, entries_count s h run a)) in
+          let is : IsLabelOf setting run (EntryOf k) p.0 =
+          subst (λ (r : State). IsLabelOf setting r (EntryOf k) p.0)
+          (one_run s h are.run run (are.last, are.runs) a) (are.are k p.0 some p.1) in
+          short run (EntryOf k) p.0 is p.2 (label_at (labels_of setting.prime run.entries) k) n (
+            some,
+            within,
+            refl,
+          ) has
 
-    pub syzygy_fault : (fault : CofactorFault)
-        → FailsToLabelSyzygies s.problem.problem s.handled limit fault → FailsToShow s limit fault
-    syzygy_fault OutOfMemory f = tt
-    syzygy_fault (TooMany named terms) f =
-        λ run a. subst (λ (r : State). IsFirstOf setting.prime r limit named terms)
-        (one_run s h f.run run (f.last, f.runs) a)
-        (subst (λ (l : Listed). IsFirstOf setting.prime f.run limit l terms) (sym f.names) (f.some,
-                f.within, f.has, f.many, f.lesser,
-                λ j m some within has. entries_short f.run (f.last, f.runs) j m some within has))
+      pub syzygy_fault : (fault : CofactorFault)
+          → FailsToLabelSyzygies s.problem.problem s.handled limit fault → FailsToShow s limit fault
+      syzygy_fault OutOfMemory f = tt
+      syzygy_fault (TooMany named terms) f =
+          λ run a. subst (λ (r : State). IsFirstOf setting.prime r limit named terms)
+          (one_run s h f.run run (f.last, f.runs) a)
+          (subst (λ (l : Listed). IsFirstOf setting.prime f.run limit l terms) (sym f.names) (
+            f.some,
+            f.within,
+            f.has,
+            f.many,
+            f.lesser,
+            λ j m some within has. entries_short f.run (f.last, f.runs) j m some within has,
+          ))
 
-    module _ (syzygies : List (List (Term Sig)))
-        (zero_are : AreSyzygyLabels s.problem.problem s.handled syzygies)
-        (zero_each : length syzygies ≡ length s.state.syzygies)
-        (zero_few : All (λ m. length m ≤ limit) syzygies) where
-      pub all_short : (run : State) → IsRunAt s run → AllWithin setting.prime run limit
-      all_short run a (EntryOf k) α n in_run has =
-          entries_short run a k n in_run.0 in_run.1
-          (subst (λ (β : Element). HasTerms setting.prime β n) in_run.2 has)
-      all_short run a (SyzygyOf k) α n (t, (g, some, at, same), e) has =
-          let p = place syzygies zero_few k some
-              (omega (arith, some, slice_get_within run.syzygies (k - 1) g at, zero_each,
-                  syzygies_count s h run a)) in
-          let is : IsLabelOf setting run (SyzygyOf k) p.0 =
-              subst (λ (r : State). IsLabelOf setting r (SyzygyOf k) p.0)
-              (one_run s h zero_are.run run (zero_are.last, zero_are.runs) a)
-              (zero_are.are k p.0 some p.1) in
-          short run (SyzygyOf k) p.0 is p.2 α n (t, (g, some, at, same), e) has
-      all_short run a Claim α n in_run has = absurd in_run
+      module _ (syzygies : List (List (Term Sig)))
+          (zero_are : AreSyzygyLabels s.problem.problem s.handled syzygies)
+          (zero_each : length syzygies ≡ length s.state.syzygies)
+          (zero_few : All (λ m. length m ≤ limit) syzygies) where
+        pub all_short : (run : State) → IsRunAt s run → AllWithin setting.prime run limit
+        all_short run a (EntryOf k) α n in_run has =
+            entries_short run a k n in_run.0 in_run.1
+            (subst (λ (β : Element). HasTerms setting.prime β n) in_run.2 has)
+        all_short run a (SyzygyOf k) α n (t, (g, some, at, same), e) has =
+            let p = place syzygies zero_few k some
+            (omega (
+              arith,
+              some,
+              slice_get_within run.syzygies (k - 1) g at,
+              zero_each,
+              syzygies_count s h run a,
+            )) in
+            let is : IsLabelOf setting run (SyzygyOf k) p.0 =
+            subst (λ (r : State). IsLabelOf setting r (SyzygyOf k) p.0)
+            (one_run s h zero_are.run run (zero_are.last, zero_are.runs) a)
+            (zero_are.are k p.0 some p.1) in
+            short run (SyzygyOf k) p.0 is p.2 α n (t, (g, some, at, same), e) has
+        all_short run a Claim α n in_run has = absurd in_run
 
   pub entry_fault : (fault : CofactorFault) → FailsToLabel s.problem.problem s.handled limit fault
       → FailsToShow s limit fault
@@ -94,5 +111,10 @@ module _ (s : Snapshot) (h : IsSnapshot s) (limit : ℕ) where
   entry_fault (TooMany named terms) f =
       λ run a. subst (λ (r : State). IsFirstOf setting.prime r limit named terms)
       (one_run s h f.run run (f.last, f.runs) a)
-      (subst (λ (l : Listed). IsFirstOf setting.prime f.run limit l terms) (sym f.names) (f.some,
-              f.within, f.has, f.many, f.lesser))
+      (subst (λ (l : Listed). IsFirstOf setting.prime f.run limit l terms) (sym f.names) (
+        f.some,
+        f.within,
+        f.has,
+        f.many,
+        f.lesser,
+      ))

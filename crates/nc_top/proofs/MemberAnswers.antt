@@ -70,9 +70,15 @@ same_claims bytes P Q f g a b =
 pub same_remainders : (bytes : List ℕ) (r r' : Remainder) → IsRemainder bytes r
     → IsRemainder bytes r' → r ≡ r'
 same_remainders bytes r r' a b =
-    λ j. record { problem = texts.0 j;
-      claim = texts.1 j; handled = ends.0 j;
-      run = ends.1 j; ending = ends.2 j; rest = rests.0 j; steps = rests.1 j }
+    λ j. record {
+      problem = texts.0 j;
+      claim = texts.1 j;
+      handled = ends.0 j;
+      run = ends.1 j;
+      ending = ends.2 j;
+      rest = rests.0 j;
+      steps = rests.1 j;
+    }
   where
     texts : (r.problem ≡ r'.problem) × (r.claim ≡ r'.claim)
     texts = same_claims bytes r.problem r'.problem r.claim r'.claim a.text b.text
@@ -83,18 +89,18 @@ same_remainders bytes r r' a b =
     ends : (r.handled ≡ r'.handled) × (r.run ≡ r'.run) × (r.ending ≡ r'.ending)
     ends = end_unique r.problem.problem (field_of r.problem is) a.ends
         (subst (λ (P : NamedProblem). IsEnd P.problem r'.handled r'.run r'.ending) (sym texts.0)
-          b.ends)
+        b.ends)
 
     moved : Reduction r.problem.problem.setting r.run.entries (IsWithin r.problem.problem) r'.claim
         r'.rest r'.steps
     moved = subst₂ (λ (P : NamedProblem) (run : State). Reduction P.problem.setting run.entries
-          (IsWithin P.problem) r'.claim r'.rest r'.steps) (sym texts.0) (sym ends.1) b.reduces
+        (IsWithin P.problem) r'.claim r'.rest r'.steps) (sym texts.0) (sym ends.1) b.reduces
 
     rests : (r.rest ≡ r'.rest) × (r.steps ≡ r'.steps)
     rests = rest_once r.problem is (ended_run r.problem.problem a.ends).1 r.claim r.rest r'.rest
         r.steps r'.steps a.reduces (subst
-          (λ (f : Polynomial). Reduction r.problem.problem.setting r.run.entries
-            (IsWithin r.problem.problem) f r'.rest r'.steps) (sym texts.1) moved)
+        (λ (f : Polynomial). Reduction r.problem.problem.setting r.run.entries
+        (IsWithin r.problem.problem) f r'.rest r'.steps) (sym texts.1) moved)
 
 -- ---- what is told of a remainder
 
@@ -119,25 +125,28 @@ data Told (options : MemberOptions) (r : Remainder) : Status → List ℕ → Ty
 done : (options : MemberOptions) (bytes : List ℕ) (report : List ℕ) (form : Form)
     → options.form ≡ form → IsCertifiedAs form options.limit bytes report → (r : Remainder)
     × IsRemainder bytes r × Told options r Done report
-done options bytes report Terms is t =
-    (remainder_at bytes t.at_end t.is [] t.represented.steps,
-      is_remainder_at bytes t.at_end t.is [] t.represented.steps t.represented.rest,
-      Told.by_terms is refl t.m (terms_at_end bytes t.at_end t.is options.limit t.m t.represented)
-      t.written)
-done options bytes report Lines is t =
-    (remainder_at bytes t.at_end t.is [] t.proved.steps,
-      is_remainder_at bytes t.at_end t.is [] t.proved.steps t.proved.rest,
-      Told.by_lines is refl t.proved.needed t.lines
-      (proof_at_end bytes t.at_end t.is t.lines t.keeps t.proved) t.written)
+done options bytes report Terms is t = (
+  remainder_at bytes t.at_end t.is [] t.represented.steps,
+  is_remainder_at bytes t.at_end t.is [] t.represented.steps t.represented.rest,
+  Told.by_terms is refl t.m (terms_at_end bytes t.at_end t.is options.limit t.m t.represented)
+      t.written,
+)
+done options bytes report Lines is t = (
+  remainder_at bytes t.at_end t.is [] t.proved.steps,
+  is_remainder_at bytes t.at_end t.is [] t.proved.steps t.proved.rest,
+  Told.by_lines is refl t.proved.needed t.lines
+      (proof_at_end bytes t.at_end t.is t.lines t.keeps t.proved) t.written,
+)
 
 too_many : (options : MemberOptions) (bytes : List ℕ) (named : Listed) (terms : ℕ) (report : List ℕ)
     (form : Form) → options.form ≡ form → IsTooManyAs form options.limit bytes named terms report
     → (r : Remainder) × IsRemainder bytes r × Told options r (TooMany named terms) report
-too_many options bytes named terms report Terms is t =
-    (remainder_at bytes t.at_end t.is [] t.many.steps,
-      is_remainder_at bytes t.at_end t.is [] t.many.steps t.many.rest,
-      Told.by_many is refl named terms
-      (many_at_end bytes t.at_end t.is options.limit named terms t.many) t.written)
+too_many options bytes named terms report Terms is t = (
+  remainder_at bytes t.at_end t.is [] t.many.steps,
+  is_remainder_at bytes t.at_end t.is [] t.many.steps t.many.rest,
+  Told.by_many is refl named terms
+      (many_at_end bytes t.at_end t.is options.limit named terms t.many) t.written,
+)
 too_many options bytes named terms report Lines is t = absurd t
 
 -- what an answer comes from: too many bytes, a fault, or the remainder of a claim
@@ -152,13 +161,17 @@ known : (options : MemberOptions) (bytes : List ℕ) (status : Status) (report :
     → IsMemberAnswer options bytes status report → Known options bytes status report
 known options bytes Done report h = Known.remains (done options bytes report options.form refl h)
 known options bytes NotBelow report h =
-    Known.remains (remainder_at bytes h.at_end h.is h.rest h.left.steps,
+    Known.remains (
+      remainder_at bytes h.at_end h.is h.rest h.left.steps,
       is_remainder_at bytes h.at_end h.is h.rest h.left.steps h.left.is,
-      Told.by_none h.left.complete h.left.some h.left.none h.written)
+      Told.by_none h.left.complete h.left.some h.left.none h.written,
+    )
 known options bytes Budget report h =
-    Known.remains (remainder_at bytes h.at_end h.is h.rest h.left.steps,
+    Known.remains (
+      remainder_at bytes h.at_end h.is h.rest h.left.steps,
       is_remainder_at bytes h.at_end h.is h.rest h.left.steps h.left.is,
-      Told.by_budget h.left.next h.left.budget h.left.some h.written)
+      Told.by_budget h.left.next h.left.budget h.left.some h.written,
+    )
 known options bytes (TooMany named terms) report h =
     Known.remains (too_many options bytes named terms report options.form refl h)
 known options bytes (BadText line kind) report h = Known.is_bad line kind h
@@ -175,29 +188,47 @@ answered : (options : MemberOptions) (bytes : List ℕ) (status : Status) (repor
     → IsMemberAnswer options bytes status report
 answered options bytes s report r is (Told.by_terms form nothing m represents written) =
     as_terms options bytes report form
-    (record { at_end = claim_at_end r;
-        is = is_claim_at_end bytes r is;
-        m = m; represented = represented_of bytes r is nothing options.limit m represents;
-        written = written })
+    (record {
+      at_end = claim_at_end r;
+      is = is_claim_at_end bytes r is;
+      m = m;
+      represented = represented_of bytes r is nothing options.limit m represents;
+      written = written;
+    })
 answered options bytes s report r is (Told.by_lines form nothing needed lines proof written) =
     as_lines options bytes report form
-    (record { at_end = claim_at_end r;
-        is = is_claim_at_end bytes r is;
-        lines = lines; proved = proved_of bytes r is nothing needed lines proof;
-        keeps = proof.keeps; written = written })
+    (record {
+      at_end = claim_at_end r;
+      is = is_claim_at_end bytes r is;
+      lines = lines;
+      proved = proved_of bytes r is nothing needed lines proof;
+      keeps = proof.keeps;
+      written = written;
+    })
 answered options bytes s report r is (Told.by_many form nothing named terms many written) =
     as_too_many options bytes report named terms form
-    (record { at_end = claim_at_end r;
-        is = is_claim_at_end bytes r is;
-        many = many_of bytes r is nothing options.limit named terms many; written = written })
+    (record {
+      at_end = claim_at_end r;
+      is = is_claim_at_end bytes r is;
+      many = many_of bytes r is nothing options.limit named terms many;
+      written = written;
+    })
 answered options bytes s report r is (Told.by_none complete some none written) =
-    record { at_end = claim_at_end r;
+    record {
+      at_end = claim_at_end r;
       is = is_claim_at_end bytes r is;
-      rest = r.rest; left = unrepresented_of bytes r is complete some none; written = written }
+      rest = r.rest;
+      left = unrepresented_of bytes r is complete some none;
+      written = written;
+    }
 answered options bytes s report r is (Told.by_budget τ budget some written) =
-    record { at_end = claim_at_end r;
+    record {
+      at_end = claim_at_end r;
       is = is_claim_at_end bytes r is;
-      rest = r.rest; left = open_of bytes r is τ budget some; written = written }
+      rest = r.rest;
+      left = open_of bytes r is τ budget some;
+      written = written;
+    }
 
 -- ---- one answer
 
@@ -211,84 +242,95 @@ one_next : (e : End) (τ τ' : Monomial) → e ≡ End.budget τ → e ≡ End.b
 one_next e τ τ' a b = let both : End.budget τ ≡ End.budget τ' = sym a ∙ b in cc
 
 module _ (options : MemberOptions) (r : Remainder) (some : 0 < r.problem.problem.setting.prime)
-    where
-  within_or_many : (m : List (Term Sig)) → Represents r options.limit m
-      → (named : Listed) (terms : ℕ) → IsTooManyFor r.problem.problem.setting.prime r.run r.steps
-      options.limit named terms → ⊥
-  within_or_many m represents named terms many =
-      never_both r.problem.problem.setting some r.run r.steps options.limit represents.within named
-      terms many
+  where
+    within_or_many : (m : List (Term Sig)) → Represents r options.limit m
+        → (named : Listed) (terms : ℕ) → IsTooManyFor r.problem.problem.setting.prime r.run r.steps
+        options.limit named terms → ⊥
+    within_or_many m represents named terms many =
+        never_both r.problem.problem.setting some r.run r.steps options.limit represents.within
+        named
+        terms many
 
-  same_lines : (needed needed' : List (ℕ × Trace)) (lines lines' : List Line)
-      → AreProof r needed lines → AreProof r needed' lines' → lines ≡ lines'
-  same_lines needed needed' lines lines' a b =
-      let one : needed ≡ needed' =
-          needed_once r.run (numbers_of r.steps) needed needed' a.lists b.lists a.traces b.traces in
-      a.are ∙ (ap (λ (l : List (ℕ × Trace)). proof_lines r.problem.problem.setting.prime l r.steps)
-            one ∙ sym b.are)
+    same_lines : (needed needed' : List (ℕ × Trace)) (lines lines' : List Line)
+        → AreProof r needed lines → AreProof r needed' lines' → lines ≡ lines'
+    same_lines needed needed' lines lines' a b =
+        let one : needed ≡ needed' =
+        needed_once r.run (numbers_of r.steps) needed needed' a.lists b.lists a.traces b.traces in
+        a.are ∙ (ap (λ (l : List (ℕ × Trace)). proof_lines r.problem.problem.setting.prime l
+        r.steps)
+        one ∙ sym b.are)
 
-  told_once : (s s' : Status) (report report' : List ℕ) → Told options r s report
-      → Told options r s' report' → (s ≡ s') × (report ≡ report')
-  told_once s s' q q' (Told.by_terms form nothing m a w) (Told.by_terms form' nothing' m' a' w') =
-      (refl, w ∙ (ap (λ (x : List (Term Sig)). terms_text (setting_of r.problem) r.claim
-            (element_of x)) (sum_once r.problem.problem.setting
-            (step_multiples (labels_of r.problem.problem.setting.prime r.run.entries) r.steps) m m'
-            a.is a'.is) ∙ sym w'))
-  told_once s s' q q' (Told.by_terms form nothing m a w)
-      (Told.by_lines form' nothing' needed lines b w') = absurd (other_form form form')
-  told_once s s' q q' (Told.by_terms form nothing m a w)
-      (Told.by_many form' nothing' named terms b w') = absurd (within_or_many m a named terms b)
-  told_once s s' q q' (Told.by_terms form nothing m a w) (Told.by_none complete left none w') =
-      absurd (left nothing)
-  told_once s s' q q' (Told.by_terms form nothing m a w) (Told.by_budget τ budget left w') =
-      absurd (left nothing)
-  told_once s s' q q' (Told.by_lines form nothing needed lines a w)
-      (Told.by_terms form' nothing' m b w') = absurd (other_form form' form)
-  told_once s s' q q' (Told.by_lines form nothing needed lines a w)
-      (Told.by_lines form' nothing' needed' lines' b w') =
-      (refl, w ∙ (ap (λ (l : List Line). certificate_text (certificate_with (claim_at_end r) l))
-          (same_lines needed needed' lines lines' a b) ∙ sym w'))
-  told_once s s' q q' (Told.by_lines form nothing needed lines a w)
-      (Told.by_many form' nothing' named terms b w') = absurd (other_form form' form)
-  told_once s s' q q' (Told.by_lines form nothing needed lines a w)
-      (Told.by_none complete left none w') = absurd (left nothing)
-  told_once s s' q q' (Told.by_lines form nothing needed lines a w)
-      (Told.by_budget τ budget left w') = absurd (left nothing)
-  told_once s s' q q' (Told.by_many form nothing named terms a w)
-      (Told.by_terms form' nothing' m b w') = absurd (within_or_many m b named terms a)
-  told_once s s' q q' (Told.by_many form nothing named terms a w)
-      (Told.by_lines form' nothing' needed lines b w') = absurd (other_form form form')
-  told_once s s' q q' (Told.by_many form nothing named terms a w)
-      (Told.by_many form' nothing' named' terms' b w') =
-      let one =
-          too_many_once r.problem.problem.setting some r.run r.steps options.limit named named'
-          terms terms' a b in (ap₂ TooMany one.0 one.1,
-            w ∙ (ap₂ too_many_report one.0 one.1 ∙ sym w'))
-  told_once s s' q q' (Told.by_many form nothing named terms a w)
-      (Told.by_none complete left none w') = absurd (left nothing)
-  told_once s s' q q' (Told.by_many form nothing named terms a w)
-      (Told.by_budget τ budget left w') = absurd (left nothing)
-  told_once s s' q q' (Told.by_none complete left none w) (Told.by_terms form nothing m a w') =
-      absurd (left nothing)
-  told_once s s' q q' (Told.by_none complete left none w)
-      (Told.by_lines form nothing needed lines a w') = absurd (left nothing)
-  told_once s s' q q' (Told.by_none complete left none w)
-      (Told.by_many form nothing named terms a w') = absurd (left nothing)
-  told_once s s' q q' (Told.by_none complete left none w) (Told.by_none complete' left' none' w') =
-      (refl, w ∙ sym w')
-  told_once s s' q q' (Told.by_none complete left none w) (Told.by_budget τ budget left' w') =
-      absurd (other_end r.ending τ complete budget)
-  told_once s s' q q' (Told.by_budget τ budget left w) (Told.by_terms form nothing m a w') =
-      absurd (left nothing)
-  told_once s s' q q' (Told.by_budget τ budget left w)
-      (Told.by_lines form nothing needed lines a w') = absurd (left nothing)
-  told_once s s' q q' (Told.by_budget τ budget left w)
-      (Told.by_many form nothing named terms a w') = absurd (left nothing)
-  told_once s s' q q' (Told.by_budget τ budget left w) (Told.by_none complete left' none w') =
-      absurd (other_end r.ending τ complete budget)
-  told_once s s' q q' (Told.by_budget τ budget left w) (Told.by_budget τ' budget' left' w') =
-      (refl, w ∙ (ap (λ (σ : Monomial). undecided_report r.problem.alphabet.names σ r.rest)
-          (one_next r.ending τ τ' budget budget') ∙ sym w'))
+    told_once : (s s' : Status) (report report' : List ℕ) → Told options r s report
+        → Told options r s' report' → (s ≡ s') × (report ≡ report')
+    told_once s s' q q' (Told.by_terms form nothing m a w) (Told.by_terms form' nothing' m' a' w') = (
+      refl,
+      w ∙ (ap (λ (x : List (Term Sig)). terms_text (setting_of r.problem) r.claim
+          (element_of x)) (sum_once r.problem.problem.setting
+          (step_multiples (labels_of r.problem.problem.setting.prime r.run.entries) r.steps) m m'
+          a.is a'.is) ∙ sym w'),
+    )
+    told_once s s' q q' (Told.by_terms form nothing m a w)
+        (Told.by_lines form' nothing' needed lines b w') = absurd (other_form form form')
+    told_once s s' q q' (Told.by_terms form nothing m a w)
+        (Told.by_many form' nothing' named terms b w') = absurd (within_or_many m a named terms b)
+    told_once s s' q q' (Told.by_terms form nothing m a w) (Told.by_none complete left none w') =
+        absurd (left nothing)
+    told_once s s' q q' (Told.by_terms form nothing m a w) (Told.by_budget τ budget left w') =
+        absurd (left nothing)
+    told_once s s' q q' (Told.by_lines form nothing needed lines a w)
+        (Told.by_terms form' nothing' m b w') = absurd (other_form form' form)
+    told_once s s' q q' (Told.by_lines form nothing needed lines a w)
+        (Told.by_lines form' nothing' needed' lines' b w') = (
+          refl,
+          w ∙ (ap (λ (l : List Line). certificate_text (certificate_with (claim_at_end r) l))
+              (same_lines needed needed' lines lines' a b) ∙ sym w'),
+        )
+    told_once s s' q q' (Told.by_lines form nothing needed lines a w)
+        (Told.by_many form' nothing' named terms b w') = absurd (other_form form' form)
+    told_once s s' q q' (Told.by_lines form nothing needed lines a w)
+        (Told.by_none complete left none w') = absurd (left nothing)
+    told_once s s' q q' (Told.by_lines form nothing needed lines a w)
+        (Told.by_budget τ budget left w') = absurd (left nothing)
+    told_once s s' q q' (Told.by_many form nothing named terms a w)
+        (Told.by_terms form' nothing' m b w') = absurd (within_or_many m b named terms a)
+    told_once s s' q q' (Told.by_many form nothing named terms a w)
+        (Told.by_lines form' nothing' needed lines b w') = absurd (other_form form form')
+    told_once s s' q q' (Told.by_many form nothing named terms a w)
+        (Told.by_many form' nothing' named' terms' b w') =
+        let one =
+        too_many_once r.problem.problem.setting some r.run r.steps options.limit named named'
+        terms terms' a b in (
+          ap₂ TooMany one.0 one.1,
+          w ∙ (ap₂ too_many_report one.0 one.1 ∙ sym w'),
+        )
+    told_once s s' q q' (Told.by_many form nothing named terms a w)
+        (Told.by_none complete left none w') = absurd (left nothing)
+    told_once s s' q q' (Told.by_many form nothing named terms a w)
+        (Told.by_budget τ budget left w') = absurd (left nothing)
+    told_once s s' q q' (Told.by_none complete left none w) (Told.by_terms form nothing m a w') =
+        absurd (left nothing)
+    told_once s s' q q' (Told.by_none complete left none w)
+        (Told.by_lines form nothing needed lines a w') = absurd (left nothing)
+    told_once s s' q q' (Told.by_none complete left none w)
+        (Told.by_many form nothing named terms a w') = absurd (left nothing)
+    told_once s s' q q' (Told.by_none complete left none w)
+        (Told.by_none complete' left' none' w') =
+        (refl, w ∙ sym w')
+    told_once s s' q q' (Told.by_none complete left none w) (Told.by_budget τ budget left' w') =
+        absurd (other_end r.ending τ complete budget)
+    told_once s s' q q' (Told.by_budget τ budget left w) (Told.by_terms form nothing m a w') =
+        absurd (left nothing)
+    told_once s s' q q' (Told.by_budget τ budget left w)
+        (Told.by_lines form nothing needed lines a w') = absurd (left nothing)
+    told_once s s' q q' (Told.by_budget τ budget left w)
+        (Told.by_many form nothing named terms a w') = absurd (left nothing)
+    told_once s s' q q' (Told.by_budget τ budget left w) (Told.by_none complete left' none w') =
+        absurd (other_end r.ending τ complete budget)
+    told_once s s' q q' (Told.by_budget τ budget left w) (Told.by_budget τ' budget' left' w') = (
+      refl,
+      w ∙ (ap (λ (σ : Monomial). undecided_report r.problem.alphabet.names σ r.rest)
+          (one_next r.ending τ τ' budget budget') ∙ sym w'),
+    )
 
 pub some_prime : (P : NamedProblem) → IsProblem P → 0 < P.problem.setting.prime
 some_prime P is = omega (arith, (prime_of P is).above_one)
@@ -298,8 +340,8 @@ remains_once : (options : MemberOptions) (bytes : List ℕ) (s s' : Status) (rep
     → Told options r' s' report' → (s ≡ s') × (report ≡ report')
 remains_once options bytes s s' report report' r r' a b told told' =
     told_once options r (some_prime r.problem (problem_is bytes r.problem r.claim a.text)) s s'
-        report report' told (subst (λ (x : Remainder). Told options x s' report')
-          (sym (same_remainders bytes r r' a b)) told')
+    report report' told (subst (λ (x : Remainder). Told options x s' report')
+    (sym (same_remainders bytes r r' a b)) told')
 
 module _ (options : MemberOptions) (bytes : List ℕ) where
   both_known : (s s' : Status) (r r' : List ℕ) → Known options bytes s r → Known options bytes s' r'
@@ -346,11 +388,11 @@ module _ (options : MemberOptions) (bytes : List ℕ) (r : Remainder) (is : IsRe
     tells_terms : options.form ≡ Terms
         → AreWithinLimit r.problem.problem.setting.prime r.run r.steps options.limit
         ⊎ ((named : Listed) × (terms : ℕ)
-          × IsTooManyFor r.problem.problem.setting.prime r.run r.steps options.limit named terms)
+        × IsTooManyFor r.problem.problem.setting.prime r.run r.steps options.limit named terms)
         → TellsSome
     tells_terms form (inl within) =
         go (sum_exists r.problem.problem.setting some
-          (step_multiples (labels_of r.problem.problem.setting.prime r.run.entries) r.steps))
+        (step_multiples (labels_of r.problem.problem.setting.prime r.run.entries) r.steps))
       where
         go : (m : List (Term Sig)) × IsSum r.problem.problem.setting
             (step_multiples (labels_of r.problem.problem.setting.prime r.run.entries) r.steps) m
@@ -367,9 +409,11 @@ module _ (options : MemberOptions) (bytes : List ℕ) (r : Remainder) (is : IsRe
             within = within;
           }) refl,
         )
-    tells_terms form (inr (named, terms, many)) =
-        (TooMany named terms, too_many_report named terms,
-          Told.by_many form nothing named terms many refl)
+    tells_terms form (inr (named, terms, many)) = (
+      TooMany named terms,
+      too_many_report named terms,
+      Told.by_many form nothing named terms many refl,
+    )
 
     numbers : (j : ℕ) → Among j (numbers_of r.steps) → (1 ≤ j) × (j ≤ length r.run.entries)
     numbers =
@@ -384,19 +428,22 @@ module _ (options : MemberOptions) (bytes : List ℕ) (r : Remainder) (is : IsRe
         go (needed, listed) =
             let lines : List Line = proof_lines r.problem.problem.setting.prime needed r.steps in
             let holds =
-                proof_holds r.problem problem r.handled r.run runs.0 runs.1 r.claim r.steps
-                (claim_in bytes r.problem r.claim is.text)
-                (subst (λ (f : Polynomial). Reduction r.problem.problem.setting r.run.entries
-                    (IsWithin r.problem.problem) r.claim f r.steps) nothing is.reduces) needed
-                listed.lists listed.traces in (
+            proof_holds r.problem problem r.handled r.run runs.0 runs.1 r.claim r.steps
+            (claim_in bytes r.problem r.claim is.text)
+            (subst (λ (f : Polynomial). Reduction r.problem.problem.setting r.run.entries
+            (IsWithin r.problem.problem) r.claim f r.steps) nothing is.reduces) needed
+            listed.lists listed.traces in (
               Done,
               certificate_text (certificate_with (claim_at_end r) lines),
               Told.by_lines form nothing needed lines (record {
                 lists = listed.lists;
                 traces = listed.traces;
                 are = refl;
-                keeps = record { setting = problem.setting;
-                      claim = claim_in bytes r.problem r.claim is.text; lines = holds.0 };
+                keeps = record {
+                  setting = problem.setting;
+                  claim = claim_in bytes r.problem r.claim is.text;
+                  lines = holds.0;
+                };
                 valid = holds.1;
                 has = holds.2;
               }) refl,
@@ -405,19 +452,23 @@ module _ (options : MemberOptions) (bytes : List ℕ) (r : Remainder) (is : IsRe
     tells_member : (form : Form) → options.form ≡ form → TellsSome
     tells_member Terms form =
         tells_terms form (first_or_within r.problem.problem.setting some r.run r.steps options.limit
-          (needed_dec r.problem problem runs.1 (numbers_of r.steps) numbers)
-          (λ j h. (needed_within r.problem problem runs.1 (numbers_of r.steps) numbers h).1))
+        (needed_dec r.problem problem runs.1 (numbers_of r.steps) numbers)
+        (λ j h. (needed_within r.problem problem runs.1 (numbers_of r.steps) numbers h).1))
     tells_member Lines form = tells_lines form
 
   tells_left : r.rest ≢ [] → (e : End) → r.ending ≡ e → TellsSome
-  tells_left left End.complete ending =
-      (NotBelow, not_below_report r.problem.alphabet.names r.rest,
-        Told.by_none ending left (not_represented r.problem problem r.handled r.run
-          (subst (IsEnd r.problem.problem r.handled r.run) ending is.ends) r.claim r.rest r.steps
-          is.reduces left) refl)
-  tells_left left (End.budget τ) ending =
-      (Budget, undecided_report r.problem.alphabet.names τ r.rest,
-        Told.by_budget τ ending left refl)
+  tells_left left End.complete ending = (
+    NotBelow,
+    not_below_report r.problem.alphabet.names r.rest,
+    Told.by_none ending left (not_represented r.problem problem r.handled r.run
+        (subst (IsEnd r.problem.problem r.handled r.run) ending is.ends) r.claim r.rest r.steps
+        is.reduces left) refl,
+  )
+  tells_left left (End.budget τ) ending = (
+    Budget,
+    undecided_report r.problem.alphabet.names τ r.rest,
+    Told.by_budget τ ending left refl,
+  )
 
   tells_rest : (f : Polynomial) → r.rest ≡ f → TellsSome
   tells_rest [] nothing = tells_member nothing options.form refl
@@ -441,10 +492,18 @@ remainder_exists bytes P claim text = go (end_exists P.problem (field_of P is))
         by_rest : (rest : Polynomial) × (steps : List Step)
             × Reduction P.problem.setting run.entries (IsWithin P.problem) claim rest steps
             → (r : Remainder) × IsRemainder bytes r
-        by_rest (rest, steps, reduces) =
-            (record { problem = P; claim = claim;
-                handled = n; run = run; ending = e; rest = rest; steps = steps },
-              record { text = text; ends = ends; reduces = reduces })
+        by_rest (rest, steps, reduces) = (
+          record {
+            problem = P;
+            claim = claim;
+            handled = n;
+            run = run;
+            ending = e;
+            rest = rest;
+            steps = steps;
+          },
+          record { text = text; ends = ends; reduces = reduces },
+        )
 
 pub member_answer : (options : MemberOptions) (bytes : List ℕ) → (status : Status)
     × (report : List ℕ) × IsMemberAnswer options bytes status report
@@ -457,17 +516,27 @@ member_answer options bytes = by_size (cases_lt 16777216 (length bytes))
 
     by_read : (x : Result ProblemText TextFault) → length bytes ≤ 16777216 → reads_claim bytes ≡ x
         → (status : Status) × (report : List ℕ) × IsMemberAnswer options bytes status report
-    by_read (Err fault) small read =
-        (BadText fault.line (kind_number fault.kind),
-          bad_text_report fault.line (kind_number fault.kind),
-          record { fault = fault; small = small;
-            read = read; at_line = refl; of_kind = refl; written = refl })
+    by_read (Err fault) small read = (
+      BadText fault.line (kind_number fault.kind),
+      bad_text_report fault.line (kind_number fault.kind),
+      record {
+        fault = fault;
+        small = small;
+        read = read;
+        at_line = refl;
+        of_kind = refl;
+        written = refl;
+      },
+    )
     by_read (Ok t) small read =
         let c = has_claim bytes t read in
         by_remainder (remainder_exists bytes t.problem c.0
-              (record { small = small; read = read
-                  ∙ ap (λ (o : Option Polynomial). Ok (record { problem = t.problem; claim = o }))
-                  c.1.0 }))
+        (record {
+          small = small;
+          read = read
+              ∙ ap (λ (o : Option Polynomial). Ok (record { problem = t.problem; claim = o }))
+              c.1.0;
+        }))
 
     by_size : (16777216 < length bytes) ⊎ (length bytes ≤ 16777216) → (status : Status)
         × (report : List ℕ) × IsMemberAnswer options bytes status report

@@ -53,7 +53,7 @@ module _ (s : Snapshot) (h : IsSnapshot s) (ending : End) (e : IsEndAt s ending)
     rest_has_names rest steps r =
         subst (λ (ns : List (List ℕ)). All (λ t. All (λ x. x.index < length ns) t.key) rest)
         (sym same) (rest_named s.problem h.problem r.runs claim
-          (claim_in bytes s.problem claim text) r.reduces)
+        (claim_in bytes s.problem claim text) r.reduces)
 
     pub unrepresented_names : (rest : Polynomial)
         → IsUnrepresented s.problem.problem s.handled ending claim rest → HasNames rest
@@ -86,7 +86,7 @@ module _ (s : Snapshot) (h : IsSnapshot s) (ending : End) (e : IsEndAt s ending)
       left = o;
       written =
           written ∙ (ap (λ (ns : List (List ℕ)). undecided_report ns τ rest) same
-            ∙ ap (λ (σ : Monomial). undecided_report s.problem.alphabet.names σ rest) next);
+          ∙ ap (λ (σ : Monomial). undecided_report s.problem.alphabet.names σ rest) next);
     }
       where
         both : End.budget τ ≡ End.budget o.next
@@ -104,14 +104,14 @@ module _ (s : Snapshot) (h : IsSnapshot s) (ending : End) (e : IsEndAt s ending)
           claim_has_names setting.alphabet.names (ap (λ (x : NamedSetting). x.alphabet.names) same)
 
       pub lines_left : All (λ line. All
-            (λ part. All (λ x. x.index < length setting.alphabet.names) part.left) line) lines
+          (λ part. All (λ x. x.index < length setting.alphabet.names) part.left) line) lines
       lines_left =
           parts_named (setting_of s.problem) (λ part. part.left) (λ reaches part k. k.left)
           setting.alphabet.names lines lines (ap (λ (x : NamedSetting). x.alphabet.names) same) refl
           proved.keeps
 
       pub lines_right : All (λ line. All
-            (λ part. All (λ x. x.index < length setting.alphabet.names) part.right) line) lines
+          (λ part. All (λ x. x.index < length setting.alphabet.names) part.right) line) lines
       lines_right =
           parts_named (setting_of s.problem) (λ part. part.right) (λ reaches part k. k.right)
           setting.alphabet.names lines lines (ap (λ (x : NamedSetting). x.alphabet.names) same) refl
@@ -125,11 +125,14 @@ module _ (s : Snapshot) (h : IsSnapshot s) (ending : End) (e : IsEndAt s ending)
         is = is_at_end;
         lines = lines;
         proved = proved;
-        keeps = record { setting = h.problem.setting;
-              claim = claim_in bytes s.problem claim text; lines = proved.keeps };
+        keeps = record {
+          setting = h.problem.setting;
+          claim = claim_in bytes s.problem claim text;
+          lines = proved.keeps;
+        };
         written =
             written ∙ ap (λ (x : NamedSetting). certificate_text
-              (record { setting = x; claim = claim; lines = lines })) same;
+            (record { setting = x; claim = claim; lines = lines })) same;
       }
 
   -- ---- form 1
@@ -139,9 +142,11 @@ module _ (s : Snapshot) (h : IsSnapshot s) (ending : End) (e : IsEndAt s ending)
     sum : IsSum s.problem.problem.setting
         (step_multiples (labels_of p represented.rest.run.entries) represented.steps) m
     sum = subst (λ (run : State). IsSum s.problem.problem.setting
-          (step_multiples (labels_of p run.entries) represented.steps) m)
-        (one_run s h represented.is.run represented.rest.run (represented.is.last,
-            represented.is.runs) (represented.rest.last, represented.rest.runs)) represented.is.is
+        (step_multiples (labels_of p run.entries) represented.steps) m)
+        (one_run s h represented.is.run represented.rest.run (
+          represented.is.last,
+          represented.is.runs,
+        ) (represented.rest.last, represented.rest.runs)) represented.is.is
 
     module _ (setting : NamedSetting) (same : setting ≡ setting_of s.problem) where
       names_same : setting.alphabet.names ≡ s.problem.alphabet.names
@@ -154,14 +159,14 @@ module _ (s : Snapshot) (h : IsSnapshot s) (ending : End) (e : IsEndAt s ending)
       terms_on_left =
           subst (λ (ns : List (List ℕ)). All (λ t. All (λ x. x.index < length ns) t.key.left) m)
           (sym names_same) (terms_left s.problem h.problem represented.rest.runs claim
-            (claim_in bytes s.problem claim text) represented.rest.reduces m sum)
+          (claim_in bytes s.problem claim text) represented.rest.reduces m sum)
 
       pub terms_on_right : All (λ t. All (λ x. x.index < length setting.alphabet.names) t.key.right)
           m
       terms_on_right =
           subst (λ (ns : List (List ℕ)). All (λ t. All (λ x. x.index < length ns) t.key.right) m)
           (sym names_same) (terms_right s.problem h.problem represented.rest.runs claim
-            (claim_in bytes s.problem claim text) represented.rest.reduces m sum)
+          (claim_in bytes s.problem claim text) represented.rest.reduces m sum)
 
       pub terms_at : (report : List ℕ) → report ≡ terms_text setting claim (element_of m)
           → IsTerms limit bytes report

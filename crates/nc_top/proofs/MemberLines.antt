@@ -22,17 +22,17 @@ use Rattle.std.specs.List.{All}
 pub proof_holds : (P : NamedProblem) → IsProblem P → (n : ℕ) (run : State) (last : Option Monomial)
     → SequentialRun P.problem n run last
     → (claim : Polynomial) (steps : List Step)
-        → IsPolynomialIn P.alphabet P.problem.setting.prime claim
-        → Reduction P.problem.setting run.entries (IsWithin P.problem) claim [] steps
+    → IsPolynomialIn P.alphabet P.problem.setting.prime claim
+    → Reduction P.problem.setting run.entries (IsWithin P.problem) claim [] steps
     → (needed : List (ℕ × Trace)) → ListsNeeded run.entries (numbers_of steps)
-        (map (λ x. x.0) needed) → All (λ x. IsTraceIn run (EntryOf x.0) x.1) needed
+    (map (λ x. x.0) needed) → All (λ x. IsTraceIn run (EntryOf x.0) x.1) needed
     → AreLines (setting_of P) [] (proof_lines P.problem.setting.prime needed steps)
-        × IsValid P.problem.setting claim (proof_lines P.problem.setting.prime needed steps)
+    × IsValid P.problem.setting claim (proof_lines P.problem.setting.prime needed steps)
     × HasRepresentation P.problem.setting (IsWithin P.problem) claim
 proof_holds P is n run last runs claim steps in_words reduces needed lists traces =
     let done =
-        proved P is (listed_is_prime P.problem.setting.prime is.setting.prime) n claim in_words
-        needed steps (record { run = run; last = last; runs = runs; reduces = reduces })
-        (record { run = run; last = last; runs = runs; lists = lists; traces = traces })
-        (proof_lines P.problem.setting.prime needed steps) refl in
+    proved P is (listed_is_prime P.problem.setting.prime is.setting.prime) n claim in_words
+    needed steps (record { run = run; last = last; runs = runs; reduces = reduces })
+    (record { run = run; last = last; runs = runs; lists = lists; traces = traces })
+    (proof_lines P.problem.setting.prime needed steps) refl in
     (done.keeps, done.valid, done.has)

@@ -44,7 +44,7 @@ rises_once (x ∷ xs) [] r s to from = absurd (to x (inl refl))
 rises_once (x ∷ xs) (y ∷ ys) r s to from =
     ap₂ (λ (z : ℕ) (zs : List ℕ). z ∷ zs) head
     (rises_once xs ys r.1 s.1 (λ j a. tail_to j a (to j (inr a)))
-      (λ j a. tail_from j a (from j (inr a))))
+    (λ j a. tail_from j a (from j (inr a))))
   where
     head_by : Among x (y ∷ ys) → Among y (x ∷ xs) → x ≡ y
     head_by (inl e) b = e
@@ -73,7 +73,7 @@ rises_sorted (x ∷ xs) s =
     below : (y : ℕ) → Contains xs y → x < y
     below y c =
         subst (λ (n : ℕ). x < n) c.2 (below_from_sorted (x ∷ xs) 0 (suc c.0) y s (omega arith)
-          (omega (arith, c.1)))
+        (omega (arith, c.1)))
 
 rises_from : (xs : List ℕ) → IsStrictlyIncreasing xs → Rises xs
 rises_from xs s = rises_sorted xs (sorted_from_strictly_increasing xs s)
@@ -91,8 +91,8 @@ increases_at (x ∷ xs) r (suc k) l = increases_at xs r.1 k (omega (arith, l))
 increases : (xs : List ℕ) → Rises xs → IsStrictlyIncreasing xs
 increases xs r k l =
     let next : suc k ≡ k + 1 =
-        omega arith in subst (λ (i : ℕ). get_or xs k 0 < get_or xs i 0) next
-        (increases_at xs r k (omega (arith, l)))
+    omega arith in subst (λ (i : ℕ). get_or xs k 0 < get_or xs i 0) next
+    (increases_at xs r k (omega (arith, l)))
 
 -- ---- what is named
 
@@ -156,7 +156,7 @@ among_dec (x ∷ xs) j = go (number_dec j x) (among_dec xs j)
 abbrev Through : List Entry → List ℕ → ℕ → ℕ → Type 0
 Through entries numbers j k =
     IsNeededFor entries numbers k × ((e : Entry) × (slice_get entries (k - 1) ≡ Some e)
-      × Names e.trace j)
+    × Names e.trace j)
 
 needed_cases : (entries : List Entry) (numbers : List ℕ) {j : ℕ} → IsNeededFor entries numbers j
     → Contains numbers j ⊎ ((k : ℕ) × Through entries numbers j k)
@@ -182,7 +182,7 @@ numbers_within s entries set (Reduction.keep w l none c e rest) j a =
 
 module _ (P : NamedProblem) (is : IsProblem P) {n : ℕ} {run : State} {last : Option Monomial}
     (runs : SequentialRun P.problem n run last) (numbers : List ℕ) (within : (j : ℕ)
-      → Among j numbers → (1 ≤ j) × (j ≤ length run.entries)) where
+    → Among j numbers → (1 ≤ j) × (j ≤ length run.entries)) where
   abbrev Needed : ℕ → Type 0
   Needed j = IsNeededFor run.entries numbers j
 
@@ -206,7 +206,7 @@ module _ (P : NamedProblem) (is : IsProblem P) {n : ℕ} {run : State} {last : O
       at e here (inl m) = inl (needs, (e, here, m))
       at e here (inr never) =
           inr (λ t. let both : Some e ≡ Some t.1.0 = sym here ∙ t.1.1 in let one : t.1.0 ≡ e = cc in
-            never (subst (λ (x : Entry). Names x.trace j) one t.1.2))
+          never (subst (λ (x : Entry). Names x.trace j) one t.1.2))
 
       go : (o : Option Entry) → slice_get run.entries (k - 1) ≡ o
           → Decided (Through run.entries numbers j k)
@@ -229,14 +229,14 @@ module _ (P : NamedProblem) (is : IsProblem P) {n : ℕ} {run : State} {last : O
       dec k = dec_by k (nat_order j k)
 
       neither : ¬ Among j numbers → ((k : ℕ) → k < length run.entries + 1
-            → ¬ Through run.entries numbers j k) → Contains numbers j
+          → ¬ Through run.entries numbers j k) → Contains numbers j
           ⊎ ((k : ℕ) × Through run.entries numbers j k) → ⊥
       neither never none (inl c) = never (contains_among j numbers c)
       neither never none (inr (k, t)) = none k (omega (arith, (needed_within t.0).1)) t
 
       go : Decided (Among j numbers)
           → ((k : ℕ) × (k < length run.entries + 1) × Through run.entries numbers j k
-            × ((i : ℕ) → i < k → ¬ Through run.entries numbers j i))
+          × ((i : ℕ) → i < k → ¬ Through run.entries numbers j i))
           ⊎ ((k : ℕ) → k < length run.entries + 1 → ¬ Through run.entries numbers j k)
           → Decided (Needed j)
       go (inl a) o = inl (IsNeededFor.given (among_contains j numbers a))
@@ -265,10 +265,16 @@ module _ (P : NamedProblem) (is : IsProblem P) {n : ℕ} {run : State} {last : O
 
   list_step : (k : ℕ) → Decided (Needed k) → (l : List (ℕ × Trace)) × AreFrom (k + 1) l
       → (l : List (ℕ × Trace)) × AreFrom k l
-  list_step k (inr never) (l, r) =
-      (l, record { rises = r.rises; low = λ j a. omega (arith, r.low j a);
-          sound = r.sound; whole = λ j b h. r.whole j (beyond j b h (nat_order k j)) h;
-          traces = r.traces })
+  list_step k (inr never) (l, r) = (
+    l,
+    record {
+      rises = r.rises;
+      low = λ j a. omega (arith, r.low j a);
+      sound = r.sound;
+      whole = λ j b h. r.whole j (beyond j b h (nat_order k j)) h;
+      traces = r.traces;
+    },
+  )
     where
       beyond : (j : ℕ) → k ≤ j → Needed j → (k < j) ⊎ ((k ≡ j) ⊎ (j < k)) → k + 1 ≤ j
       beyond j b h (inl m) = omega (arith, m)
@@ -291,7 +297,7 @@ module _ (P : NamedProblem) (is : IsProblem P) {n : ℕ} {run : State} {last : O
       whole j b h (inr (inr m)) = absurd (omega (arith, b, m))
 
       go : ((e : Entry) × (k - 1 < length run.entries) × (slice_get run.entries (k - 1) ≡ Some e)
-            × (get_or run.entries (k - 1) e ≡ e))
+          × (get_or run.entries (k - 1) e ≡ e))
           ⊎ ((length run.entries ≤ k - 1) × (slice_get run.entries (k - 1) ≡ None))
           → (l : List (ℕ × Trace)) × AreFrom k l
       go (inl (e, inside, at, same)) = (
@@ -306,13 +312,20 @@ module _ (P : NamedProblem) (is : IsProblem P) {n : ℕ} {run : State} {last : O
       )
       go (inr (past, none)) =
           let b : (1 ≤ k) × (k ≤ length run.entries) =
-              needed_within needs in absurd (omega (arith, past, b.0, b.1))
+          needed_within needs in absurd (omega (arith, past, b.0, b.1))
 
   list_from : (count k : ℕ) → length run.entries < k + count → (l : List (ℕ × Trace)) × AreFrom k l
-  list_from zero k past =
-      ([], record { rises = tt; low = λ j a. absurd a;
-          sound = λ j a. absurd a; whole = λ j b h. absurd
-          (omega (arith, b, past, (needed_within h).1)); traces = tt })
+  list_from zero k past = (
+    [],
+    record {
+      rises = tt;
+      low = λ j a. absurd a;
+      sound = λ j a. absurd a;
+      whole = λ j b h. absurd
+          (omega (arith, b, past, (needed_within h).1));
+      traces = tt;
+    },
+  )
   list_from (suc count) k past =
       list_step k (needed_dec k) (list_from count (k + 1) (omega (arith, past)))
 
@@ -328,9 +341,13 @@ module _ (P : NamedProblem) (is : IsProblem P) {n : ℕ} {run : State} {last : O
       go (l, r) = (
         l,
         record {
-          lists = record { ascending = increases (numbers_in l) r.rises;
-                exact = λ j. (λ c. r.sound j (contains_among j (numbers_in l) c),
-                  λ h. among_contains j (numbers_in l) (r.whole j (omega arith) h)) };
+          lists = record {
+            ascending = increases (numbers_in l) r.rises;
+            exact = λ j. (
+              λ c. r.sound j (contains_among j (numbers_in l) c),
+              λ h. among_contains j (numbers_in l) (r.whole j (omega arith) h),
+            );
+          };
           traces = All-from_recursion (λ x. IsTraceIn run (EntryOf x.0) x.1) l r.traces;
         },
       )
@@ -347,22 +364,22 @@ same_pairs run (x ∷ a) (y ∷ b) e p q =
     let number : x.0 ≡ y.0 = ap (λ (l : List ℕ). get_or l 0 0) e in
     let others : map (λ z. z.0) a ≡ map (λ z. z.0) b = ap (drop 1) e in
     let trace : x.1 ≡ y.1 =
-        trace_once run (EntryOf x.0) x.1 y.1 p.0
-        (subst (λ (k : ℕ). IsTraceIn run (EntryOf k) y.1) (sym number) q.0) in
+    trace_once run (EntryOf x.0) x.1 y.1 p.0
+    (subst (λ (k : ℕ). IsTraceIn run (EntryOf k) y.1) (sym number) q.0) in
     ap₂ (λ (z : ℕ × Trace) (l : List (ℕ × Trace)). z ∷ l)
-        (ap₂ (λ (k : ℕ) (t : Trace). (k, t)) number trace) (same_pairs run a b others p.1 q.1)
+    (ap₂ (λ (k : ℕ) (t : Trace). (k, t)) number trace) (same_pairs run a b others p.1 q.1)
 
 pub needed_once : (run : State) (numbers : List ℕ) (a b : List (ℕ × Trace))
     → ListsNeeded run.entries numbers (map (λ x. x.0) a)
     → ListsNeeded run.entries numbers (map (λ x. x.0) b)
     → All (λ x. IsTraceIn run (EntryOf x.0) x.1) a → All (λ x. IsTraceIn run (EntryOf x.0) x.1) b
-        → a ≡ b
+    → a ≡ b
 needed_once run numbers a b l m p q =
     same_pairs run a b (rises_once (map (λ x. x.0) a) (map (λ x. x.0) b)
-          (rises_from (map (λ x. x.0) a) l.ascending) (rises_from (map (λ x. x.0) b) m.ascending)
+    (rises_from (map (λ x. x.0) a) l.ascending) (rises_from (map (λ x. x.0) b) m.ascending)
     (λ j h. contains_among j (map (λ x. x.0) b)
-          ((m.exact j).1 ((l.exact j).0 (among_contains j (map (λ x. x.0) a) h))))
+    ((m.exact j).1 ((l.exact j).0 (among_contains j (map (λ x. x.0) a) h))))
     (λ j h. contains_among j (map (λ x. x.0) a)
-          ((l.exact j).1 ((m.exact j).0 (among_contains j (map (λ x. x.0) b) h)))))
+    ((l.exact j).1 ((m.exact j).0 (among_contains j (map (λ x. x.0) b) h)))))
     (recursion_from_All (λ x. IsTraceIn run (EntryOf x.0) x.1) a p)
-        (recursion_from_All (λ x. IsTraceIn run (EntryOf x.0) x.1) b q)
+    (recursion_from_All (λ x. IsTraceIn run (EntryOf x.0) x.1) b q)

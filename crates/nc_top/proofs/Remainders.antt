@@ -38,9 +38,9 @@ evaluation_same s some α β same = record {
   at = λ y.
       ap (λ n. n % s.prime) (linear_sum-substitute (is_at same_word y) (monomial_value s) α)
       ∙ (linear_sum_same same_monomial (IsLess s) (monomial_laws (generator_weight s)) s.prime
-            (λ σ. linear_sum (is_at same_word y) (monomial_value s σ)) α β some same
+      (λ σ. linear_sum (is_at same_word y) (monomial_value s σ)) α β some same
       ∙ ap (λ n. n % s.prime) (sym (linear_sum-substitute (is_at same_word y) (monomial_value s)
-              β)));
+      β)));
 }
 
 module _ (P : NamedProblem) (is : IsProblem P) where
@@ -87,8 +87,8 @@ module _ (P : NamedProblem) (is : IsProblem P) where
 
       both : IsIn P.problem.setting multiples (IsWithin P.problem)
           × ((y : Word) → coefficient claim y % P.problem.setting.prime
-            ≡ (coefficient (evaluation P.problem.setting multiples) y + coefficient rest y)
-            % P.problem.setting.prime)
+          ≡ (coefficient (evaluation P.problem.setting multiples) y + coefficient rest y)
+          % P.problem.setting.prime)
       both = represents P.problem.setting field run (invariant P.problem field runs).sound
           (IsWithin P.problem) (within_down P.problem)
           (labels_of P.problem.setting.prime run.entries) (labels_hold P.problem field runs).entries
@@ -97,10 +97,12 @@ module _ (P : NamedProblem) (is : IsProblem P) where
       sum_evaluates : rest ≡ [] → SamePolynomial P.problem.setting
           (evaluation P.problem.setting multiples) claim
       sum_evaluates nothing =
-          record { at = λ y. sym (both.1 y
-              ∙ ap (λ n. n % P.problem.setting.prime)
-              (ap (λ (g : Polynomial). coefficient (evaluation P.problem.setting multiples) y
-                  + coefficient g y) nothing ∙ omega arith)) }
+          record {
+            at = λ y. sym (both.1 y
+                ∙ ap (λ n. n % P.problem.setting.prime)
+                (ap (λ (g : Polynomial). coefficient (evaluation P.problem.setting multiples) y
+                + coefficient g y) nothing ∙ omega arith));
+          }
 
       -- where nothing is left the claim is represented
       pub is_represented : rest ≡ []
@@ -112,14 +114,16 @@ module _ (P : NamedProblem) (is : IsProblem P) where
         pub terms_lie : IsIn P.problem.setting (element_of m) (IsWithin P.problem)
         terms_lie σ n =
             both.0 σ (λ z. n (zero_by_same P.problem.setting.prime
-                (coefficient_by same_monomial (element_of m) σ)
-                (coefficient_by same_monomial multiples σ) (sum.same.at σ) z))
+            (coefficient_by same_monomial (element_of m) σ)
+            (coefficient_by same_monomial multiples σ) (sum.same.at σ) z))
 
         pub terms_evaluate : rest ≡ []
             → SamePolynomial P.problem.setting (evaluation P.problem.setting (element_of m)) claim
         terms_evaluate nothing =
-            record { at = λ y. (evaluation_same P.problem.setting some (element_of m) multiples
-                sum.same).at y ∙ (sum_evaluates nothing).at y }
+            record {
+              at = λ y. (evaluation_same P.problem.setting some (element_of m) multiples
+                  sum.same).at y ∙ (sum_evaluates nothing).at y;
+            }
 
   -- where something is left at a complete end, the claim has no representation
   pub not_represented : (n : ℕ) (run : State) → IsEnd P.problem n run End.complete
@@ -128,5 +132,5 @@ module _ (P : NamedProblem) (is : IsProblem P) where
       → ¬ HasRepresentation P.problem.setting (IsWithin P.problem) claim
   not_represented n run (IsEnd.is_complete l runs none) claim rest steps r left has =
       left (none_kept P.problem.setting field run (invariant P.problem field runs).sound
-        (IsWithin P.problem) (within_down P.problem) (enough_at_end P.problem field runs none).0 r
-        has)
+      (IsWithin P.problem) (within_down P.problem) (enough_at_end P.problem field runs none).0 r
+      has)

@@ -71,20 +71,38 @@ module _ (s : Setting) (some : 0 < s.prime) (run : State) (steps : List Step) (l
           ⊎ ((named : Listed) × (terms : ℕ) × IsTooManyFor s.prime run steps limit named terms)
 
       go : ((k : ℕ) × (k < length run.entries + 1) × NeededMany k
-            × ((j : ℕ) → j < k → ¬ NeededMany j))
+          × ((j : ℕ) → j < k → ¬ NeededMany j))
           ⊎ ((k : ℕ) → k < length run.entries + 1 → ¬ NeededMany k) → IsMany sum
           ⊎ ((n : ℕ) → HasTerms s.prime sum n → n ≤ limit)
           → AreWithinLimit s.prime run steps limit
-              ⊎ ((named : Listed) × (terms : ℕ) × IsTooManyFor s.prime run steps limit named terms)
+          ⊎ ((named : Listed) × (terms : ℕ) × IsTooManyFor s.prime run steps limit named terms)
       go (inl (k, l, many, before)) o =
-          inr (EntryOf k, many.1.0, (many.0, many.1.1, many.1.2,
-              λ j m needs b has. few_from j m needs (before j b) has))
+          inr (
+            EntryOf k,
+            many.1.0,
+            (
+              many.0,
+              many.1.1,
+              many.1.2,
+              λ j m needs b has. few_from j m needs (before j b) has,
+            ),
+          )
       go (inr none) (inl many) =
-          inr (Claim, many.0, (many.1, many.2,
-              λ j m needs has. few_from j m needs (none j (omega (arith, within j needs))) has))
+          inr (
+            Claim,
+            many.0,
+            (
+              many.1,
+              many.2,
+              λ j m needs has. few_from j m needs (none j (omega (arith, within j needs))) has,
+            ),
+          )
       go (inr none) (inr few) =
-          inl (record { entries = λ j n needs has. few_from j n needs
-              (none j (omega (arith, within j needs))) has; sum = few })
+          inl (record {
+            entries = λ j n needs has. few_from j n needs
+                (none j (omega (arith, within j needs))) has;
+            sum = few;
+          })
 
   -- not both
   pub never_both : AreWithinLimit s.prime run steps limit → (named : Listed) (terms : ℕ)
@@ -98,14 +116,20 @@ module _ (s : Setting) (some : 0 < s.prime) (run : State) (steps : List Step) (l
   pub too_many_once : (named named' : Listed) (n n' : ℕ)
       → IsTooManyFor s.prime run steps limit named n
       → IsTooManyFor s.prime run steps limit named' n' → (named ≡ named') × (n ≡ n')
-  too_many_once (EntryOf k) (EntryOf k') n n' (needs, has, more, before) (needs', has', more',
-        before') = go (nat_order k k')
+  too_many_once (EntryOf k) (EntryOf k') n n' (needs, has, more, before) (
+    needs',
+    has',
+    more',
+    before',
+  ) = go (nat_order k k')
     where
       go : (k < k') ⊎ ((k ≡ k') ⊎ (k' < k)) → (EntryOf k ≡ EntryOf k') × (n ≡ n')
       go (inl l) = absurd (omega (arith, more, before' k n needs l has))
-      go (inr (inl e)) =
-          (ap EntryOf e, terms_once s.prime (label k) n n' has
-            (subst (λ (i : ℕ). EntryTerms s.prime run i n') (sym e) has'))
+      go (inr (inl e)) = (
+        ap EntryOf e,
+        terms_once s.prime (label k) n n' has
+            (subst (λ (i : ℕ). EntryTerms s.prime run i n') (sym e) has'),
+      )
       go (inr (inr l)) = absurd (omega (arith, more', before k' n' needs' l has'))
   too_many_once (EntryOf k) Claim n n' (needs, has, more, before) (has', more', entries') =
       absurd (omega (arith, more, entries' k n needs has))

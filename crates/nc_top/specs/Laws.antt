@@ -30,7 +30,7 @@ abbrev pub OneAnswer : Type 0
 OneAnswer = (options : Options) → Runs options → (bytes : List ℕ) →
     ((status : Status) × (report : List ℕ) × IsAnswer options bytes status report)
     × ((status status' : Status) (report report' : List ℕ) → IsAnswer options bytes status report
-          → IsAnswer options bytes status' report' → (status ≡ status') × (report ≡ report'))
+    → IsAnswer options bytes status' report' → (status ≡ status') × (report ≡ report'))
 
 -- where the source tells its bytes and no failure was counted, status and report are those of all
 -- these bytes, unless memory ran out
@@ -40,10 +40,10 @@ FaultlessRuns =
     → (bytes : List ℕ) (left_after written_before written_after : Option (List ℕ)) (source sink : ℕ)
     (result : Status)
     → Ran options (Some bytes) left_after written_before written_after source source sink sink
-        result
+    result
     → ((result ≡ OutOfMemory) × Adds written_before written_after [])
-        ⊎ ((report : List ℕ) × IsAnswer options bytes result report
-          × Adds written_before written_after report)
+    ⊎ ((report : List ℕ) × IsAnswer options bytes result report
+    × Adds written_before written_after report)
 
 -- and where these bytes are a problem that allows as many steps as its bound has module monomials,
 -- `basis` answers with the whole report,
@@ -51,17 +51,17 @@ FaultlessRuns =
 abbrev pub CompleteRuns : Type 0
 CompleteRuns = (options : BasisOptions) (bytes : List ℕ) (P : NamedProblem) → IsProblemText bytes P
     → length (monomials_within P.problem.setting P.problem.bound (alphabet_letters P.alphabet))
-        ≤ P.problem.steps
+    ≤ P.problem.steps
     → (left_after written_before written_after : Option (List ℕ)) (source sink : ℕ)
-        (result : Status)
+    (result : Status)
     → Ran (Basis options) (Some bytes) left_after written_before written_after source source sink
-        sink result
+    sink result
     → ((result ≡ OutOfMemory) × Adds written_before written_after [])
     ⊎ (((result ≡ Done) × ((report : List ℕ) × IsComplete options bytes report
-              × Adds written_before written_after report))
+    × Adds written_before written_after report))
     ⊎ ((named : Listed) × (terms : ℕ) × (result ≡ TooMany named terms)
-          × ((report : List ℕ) × IsTooManyTerms options bytes named terms report
-            × Adds written_before written_after report)))
+    × ((report : List ℕ) × IsTooManyTerms options bytes named terms report
+    × Adds written_before written_after report)))
 
 -- and so for a problem with a claim: `member` answers with a certificate of the claim, or names a
 -- label that has too many terms, where
@@ -71,19 +71,19 @@ CompleteMembers =
     (options : MemberOptions) (bytes : List ℕ) (P : NamedProblem) (claim : Polynomial)
     → IsClaimText bytes P claim
     → length (monomials_within P.problem.setting P.problem.bound (alphabet_letters P.alphabet))
-        ≤ P.problem.steps
+    ≤ P.problem.steps
     → (left_after written_before written_after : Option (List ℕ)) (source sink : ℕ)
-        (result : Status)
+    (result : Status)
     → Ran (Member options) (Some bytes) left_after written_before written_after source source sink
-        sink result
+    sink result
     → ((result ≡ OutOfMemory) × Adds written_before written_after [])
     ⊎ ((HasRepresentation P.problem.setting (IsWithin P.problem) claim × (result ≡ Done)
-            × ((report : List ℕ) × IsCertified options bytes report
-              × Adds written_before written_after report))
+    × ((report : List ℕ) × IsCertified options bytes report
+    × Adds written_before written_after report))
     ⊎ ((HasRepresentation P.problem.setting (IsWithin P.problem) claim
-            × ((named : Listed) × (terms : ℕ) × (result ≡ TooMany named terms)
-              × ((report : List ℕ) × IsTooManyTermsOf options bytes named terms report
-                × Adds written_before written_after report)))
+    × ((named : Listed) × (terms : ℕ) × (result ≡ TooMany named terms)
+    × ((report : List ℕ) × IsTooManyTermsOf options bytes named terms report
+    × Adds written_before written_after report)))
     ⊎ (¬ HasRepresentation P.problem.setting (IsWithin P.problem) claim × (result ≡ NotBelow)
-          × ((report : List ℕ) × IsNotBelow bytes report
-            × Adds written_before written_after report))))
+    × ((report : List ℕ) × IsNotBelow bytes report
+    × Adds written_before written_after report))))

@@ -30,7 +30,7 @@ bad_text_report line kind =
 abbrev pub too_much_report : ℕ → ℕ → List ℕ
 too_much_report line charge =
     codes "too much work: line " ++ (decimal line
-      ++ (codes " needs " ++ (decimal charge ++ codes "\n")))
+    ++ (codes " needs " ++ (decimal charge ++ codes "\n")))
 
 -- ---- claims
 

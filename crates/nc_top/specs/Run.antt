@@ -52,13 +52,13 @@ abbrev pub IsReported : Option (List ℕ) → Option (List ℕ) → ℕ → ℕ 
     → Type 0
 IsReported old new before now report status result =
     ((result ≡ status) × Adds old new report)
-        ⊎ ((result ≡ WriteFault) × Rose before now × AddsFront old new report)
+    ⊎ ((result ≡ WriteFault) × Rose before now × AddsFront old new report)
 
 -- `usage` was reported, or memory ran out while the words were read, with nothing written
 abbrev pub IsRefused : Option (List ℕ) → Option (List ℕ) → ℕ → ℕ → Status → Type 0
 IsRefused old new before now result =
     ((result ≡ OutOfMemory) × Adds old new [])
-        ⊎ IsReported old new before now (codes "usage\n") Usage result
+    ⊎ IsReported old new before now (codes "usage\n") Usage result
 
 -- the source was read to its end, or as far as 16,777,217 bytes, and status and report are those of
 -- its bytes
@@ -80,5 +80,5 @@ Ran options left_before left_after written_before written_after source_before so
     sink_now result =
     ((result ≡ ReadFault) × Rose source_before source_now × Adds written_before written_after [])
     ⊎ (((result ≡ OutOfMemory) × Adds written_before written_after [])
-          ⊎ IsAnswered options left_before left_after written_before written_after sink_before
-          sink_now result)
+    ⊎ IsAnswered options left_before left_after written_before written_after sink_before
+    sink_now result)

@@ -56,7 +56,7 @@ fn labels_of(
     ensures shown { IfOk result (IsShownOf snapshot.now) }
     ensures kind { IfOk result (λ s. kind_of s ≡ Cofactors.Full) }
     ensures short { IfOk result (λ s. (run : State) → IsRunAt snapshot.now run
-            → AllWithin snapshot.now.problem.problem.setting.prime run limit) }
+        → AllWithin snapshot.now.problem.problem.setting.prime run limit) }
     ensures fault { IfErr result (FailsToShow snapshot.now limit) }
 {
     let limit = u64::from(limit);
@@ -82,7 +82,7 @@ fn shown_of(
     ensures shown { IfOk result (IsShownOf snapshot.now) }
     ensures kind { IfOk result (λ s. kind_of s ≡ options.cofactors) }
     ensures short { IfOk result (λ s. (run : State) → IsRunAt snapshot.now run
-            → AreShort options snapshot.now.problem.problem.setting run) }
+        → AreShort options snapshot.now.problem.problem.setting run) }
     ensures full { IfErr result (λ e. options.cofactors ≡ Cofactors.Full) }
     ensures fault { IfErr result (FailsToShow snapshot.now options.limit) }
 {
@@ -128,10 +128,10 @@ fn answer_run(
 ) -> Result<(Status, Vec<u8>), AllocError>
     requires shown { IsShownOf finished.now.snapshot shown.now }
     ensures { IfOk result (λ r. (r.0 ≡ status_at finished.now.ending)
-            × ((run : State) → IsRunAt finished.now.snapshot run
-              → r.1.items ≡ basis_report (kind_of shown.now)
-              finished.now.snapshot.problem.alphabet.names (labels_in shown.now)
-              finished.now.snapshot.handled run finished.now.ending)) }
+        × ((run : State) → IsRunAt finished.now.snapshot run
+        → r.1.items ≡ basis_report (kind_of shown.now)
+        finished.now.snapshot.problem.alphabet.names (labels_in shown.now)
+        finished.now.snapshot.handled run finished.now.ending)) }
 {
     let report = report_on(alloc, finished, shown)?;
     match finished.end() {

@@ -22,9 +22,9 @@ fn invalid_report(
     rest: &Poly,
 ) -> Result<Vec<u8>, AllocError>
     requires { rest.now ≡ rest_of certificate.now.setting.setting certificate.now.claim
-          certificate.now.lines }
+        certificate.now.lines }
     ensures { IfOk result (λ report. report.items ≡ invalid_report
-            certificate.now.setting.alphabet.names rest.now) }
+        certificate.now.setting.alphabet.names rest.now) }
 {
     let mut report = Vec::from_slice(alloc, b"invalid\nrest ")?;
     write_poly(&mut report, certificate.setting.names(), rest)?;

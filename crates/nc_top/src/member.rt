@@ -53,7 +53,7 @@ fn undecided_report(
     requires right { All (λ x. x.index < length names.now) next.now.right }
     requires rest { All (λ t. All (λ x. x.index < length names.now) t.key) rest.now }
     ensures { IfOk result (λ report. report.items ≡ undecided_report names.now
-            (monomial_of next.now) rest.now) }
+        (monomial_of next.now) rest.now) }
 {
     let mut report = Vec::from_slice(alloc, b"undecided\nnext ")?;
     write_sig(&mut report, names, next)?;
@@ -73,7 +73,7 @@ fn answer_not_below(
 ) -> Result<(Status, Vec<u8>), AllocError>
     requires text { IsClaimText bytes.now finished.now.snapshot.problem claim.now }
     requires rest { IsUnrepresented finished.now.snapshot.problem.problem
-          finished.now.snapshot.handled finished.now.ending claim.now rest.now }
+        finished.now.snapshot.handled finished.now.ending claim.now rest.now }
     ensures { IfOk result (λ r. IsMemberAnswer options bytes.now r.0 r.1.items) }
 {
     let snapshot = finished.snapshot();
@@ -93,7 +93,7 @@ fn answer_undecided(
 ) -> Result<(Status, Vec<u8>), AllocError>
     requires text { IsClaimText bytes.now finished.now.snapshot.problem claim.now }
     requires rest { IsOpen finished.now.snapshot.problem.problem finished.now.snapshot.handled
-          finished.now.ending claim.now rest.now }
+        finished.now.ending claim.now rest.now }
     ensures { IfOk result (λ r. IsMemberAnswer options bytes.now r.0 r.1.items) }
 {
     let snapshot = finished.snapshot();
@@ -119,7 +119,7 @@ fn answer_lines(
     requires text { IsClaimText bytes.now finished.now.snapshot.problem claim.now }
     requires form { options.form ≡ AsLines }
     requires lines { IsProved finished.now.snapshot.problem finished.now.snapshot.handled claim.now
-          lines.now }
+        lines.now }
     ensures { IfOk result (λ r. IsMemberAnswer options bytes.now r.0 r.1.items) }
 {
     let snapshot = finished.snapshot();
@@ -141,7 +141,7 @@ fn answer_terms(
     requires text { IsClaimText bytes.now finished.now.snapshot.problem claim.now }
     requires form { options.form ≡ AsTerms }
     requires m { IsRepresented finished.now.snapshot.problem.problem finished.now.snapshot.handled
-          claim.now options.limit m.now }
+        claim.now options.limit m.now }
     ensures { IfOk result (λ r. IsMemberAnswer options bytes.now r.0 r.1.items) }
 {
     let snapshot = finished.snapshot();

@@ -24,7 +24,7 @@ compare_cut (suc n) (x ∷ u) [] h k = absurd (omega arith)
 compare_cut (suc n) (x ∷ u) (y ∷ v) h k =
     ap (λ o. ordering_then (compare_letters x y) o) (compare_cut n u v (omega arith) (omega arith))
     ∙ sym (then_assoc (compare_letters x y) (slice_cmp compare_letters (take n u) (take n v))
-      (slice_cmp compare_letters (drop n u) (drop n v)))
+    (slice_cmp compare_letters (drop n u) (drop n v)))
 
 take_front : (n : ℕ) (a b : Word) → n ≤ length a → take n (a ++ b) ≡ take n a
 take_front zero a b h = refl
@@ -38,9 +38,9 @@ pub compare_fronts : (n : ℕ) (a b c d : Word) (o : Ordering) → n ≤ length 
     (slice_cmp compare_letters (drop n (a ++ b)) (drop n (c ++ d)))
 compare_fronts n a b c d o h k e =
     compare_cut n (a ++ b) (c ++ d) (omega (arith, length-append a b))
-        (omega (arith, length-append c d))
+    (omega (arith, length-append c d))
     ∙ ap (λ q. ordering_then q (slice_cmp compare_letters (drop n (a ++ b)) (drop n (c ++ d))))
-        (ap₂ (slice_cmp compare_letters) (take_front n a b h) (take_front n c d k) ∙ sym e)
+    (ap₂ (slice_cmp compare_letters) (take_front n a b h) (take_front n c d k) ∙ sym e)
 
 -- where one of the words has ended
 pub compare_ends : (a b c d : Word) → (a ≡ [] → a ++ b ≡ []) → (c ≡ [] → c ++ d ≡ [])

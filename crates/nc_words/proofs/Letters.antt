@@ -12,10 +12,11 @@ abbrev pub same_letter : Letter → Letter → Bool
 same_letter x y = nat_eq x.index y.index && nat_eq x.extra y.extra
 
 letter_decides : (x y : Letter) → Decides (same_letter x y) (x ≡ y)
-letter_decides x y =
-    (λ e. join (parts (nat_eq x.index y.index) (nat_eq x.extra y.extra) e),
-      λ e. both_true (eq-eqb x.index y.index (ap (λ z. z.index) e))
-      (eq-eqb x.extra y.extra (ap (λ z. z.extra) e)))
+letter_decides x y = (
+  λ e. join (parts (nat_eq x.index y.index) (nat_eq x.extra y.extra) e),
+  λ e. both_true (eq-eqb x.index y.index (ap (λ z. z.index) e))
+      (eq-eqb x.extra y.extra (ap (λ z. z.extra) e)),
+)
   where
     parts : (a b : Bool) → (a && b) ≡ true → (a ≡ true) × (b ≡ true)
     parts a b e = grind (arith, e)
@@ -23,8 +24,8 @@ letter_decides x y =
     join : (nat_eq x.index y.index ≡ true) × (nat_eq x.extra y.extra ≡ true) → x ≡ y
     join (a, b) =
         let i : x.index ≡ y.index =
-            eqb-true x.index y.index a in let j : x.extra ≡ y.extra =
-            eqb-true x.extra y.extra b in λ k. record { index = i k; extra = j k }
+        eqb-true x.index y.index a in let j : x.extra ≡ y.extra =
+        eqb-true x.extra y.extra b in λ k. record { index = i k; extra = j k }
 
 -- what `==` answers at slices of letters
 pub letters_decide : (u v : Word) → Decides (pointwise same_letter u v) (u ≡ v)

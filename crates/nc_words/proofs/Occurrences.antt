@@ -59,10 +59,10 @@ pub tested_occurs : (v w : Word) (q k : ℕ) (b : Bool) → k ≡ length v → q
     → b ≡ pointwise same_letter (take k (drop q w)) v → b ≡ true → OccursAt v w q
 tested_occurs v w q k b n h e t =
     read_occurs v w q h (ap (λ m. take m (drop q w)) (sym n)
-      ∙ (letters_decide (take k (drop q w)) v).0 (sym e ∙ t))
+    ∙ (letters_decide (take k (drop q w)) v).0 (sym e ∙ t))
 
 pub tested_apart : (v w : Word) (q k : ℕ) (b : Bool) → k ≡ length v
     → b ≡ pointwise same_letter (take k (drop q w)) v → b ≡ false → ¬ OccursAt v w q
 tested_apart v w q k b n e f o =
     false≢true (sym f ∙ (e ∙ (letters_decide (take k (drop q w)) v).1 (ap (λ m. take m (drop q w)) n
-          ∙ occurs_read v w q o)))
+    ∙ occurs_read v w q o)))

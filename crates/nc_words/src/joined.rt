@@ -57,8 +57,7 @@ impl<'a> Joined<'a> {
 
     /// Compares letter by letter.
     fn compare_letters(&self, other: &Joined<'a>) -> Ordering
-        ensures { result ≡ slice_cmp compare_letters (joined_word self.now) (joined_word other.now)
-              }
+        ensures { result ≡ slice_cmp compare_letters (joined_word self.now) (joined_word other.now) }
     {
         let mut a = self.moved_up();
         let mut b = other.moved_up();

@@ -11,7 +11,7 @@ loop-part-init c = record {
       subst (AreResidues c.args.setting.now.setting.prime) (sym c.of-sum.ensures)
       c.requires.residues;
   left = subst (λ (g : Polynomial). IsLeft c.args.setting.now.setting c.args.values.now c.args.f
-        c.args.c c.args.line.now 0 g) (sym c.of-sum.ensures)
+      c.args.c c.args.line.now 0 g) (sym c.of-sum.ensures)
       (left_begins c.args.setting.now.setting c.args.values.now c.args.f c.args.c c.args.line.now);
 }
 
@@ -22,7 +22,7 @@ loop-part-preserved c = record {
       c.loop-part.part-index c.part-item.result c.loop-part.sum c.sub_part.new.sum
       (omega (arith, ap length c.parts-part-items.ensures))
       (c.part-item.is ∙ ap (λ (l : Line). get_or l c.loop-part.part-index c.part-item.result)
-        c.parts-part-items.ensures) c.in_ok-sub_part.ensures.difference c.loop-part.invariant.left;
+      c.parts-part-items.ensures) c.in_ok-sub_part.ensures.difference c.loop-part.invariant.left;
 }
 
 pub finish-requires : goal.finish-requires
@@ -35,6 +35,6 @@ returns c =
     c.finish.ensures
     ∙ (ap (λ n. normal_form n c.loop-part.sum) c.prime.ensures.prime
     ∙ left_ends c.args.setting.now.setting c.args.values.now c.args.f c.args.c c.args.line.now
-        c.loop-part.part-index c.loop-part.sum
-        (omega (arith, above_one c.args.setting.now c.prime.ensures.setting))
-        (omega (arith, ap length c.parts-part-items.ensures)) c.loop-part.invariant.left)
+    c.loop-part.part-index c.loop-part.sum
+    (omega (arith, above_one c.args.setting.now c.prime.ensures.setting))
+    (omega (arith, ap length c.parts-part-items.ensures)) c.loop-part.invariant.left)

@@ -33,7 +33,7 @@ pub returns : goal.returns
 returns c =
     let same : c.halves.high ≡ c.halves.low = omega arith in
     lesser_by_numbers c.args.snapshot.now.problem.problem.setting c.args.snapshot.now.state.entries
-        (monomial_of c.args.sig.now) c.halves.low (omega arith) c.halves.invariant.lesser
+    (monomial_of c.args.sig.now) c.halves.low (omega arith) c.halves.invariant.lesser
     (subst (IsOtherFrom c.args.snapshot.now.problem.problem.setting
-            c.args.snapshot.now.state.entries (monomial_of c.args.sig.now)) same
-          c.halves.invariant.others)
+    c.args.snapshot.now.state.entries (monomial_of c.args.sig.now)) same
+    c.halves.invariant.others)

@@ -19,5 +19,5 @@ pub returns : goal.returns
 returns c =
     number_ends c.args.stack.items c.loop-slot.left.items c.loop-slot.number c.loop-slot.kept.items
     (emptied c.loop-slot.left.items c.pop.new.self.items (vec_len c.loop-slot.left)
-          c.in_default.ensures.items c.in_default.ensures.rest c.in_default.ensures.cases.0)
-        c.loop-slot.invariant
+    c.in_default.ensures.items c.in_default.ensures.rest c.in_default.ensures.cases.0)
+    c.loop-slot.invariant

@@ -19,16 +19,16 @@ loop-step-preserved c =
     let t : Step = c.step-item.result in
     let before : Element = step_multiples ls (take c.loop-step.step-index c.args.steps.now) in
     one_more c.args.setting.now.setting (step_multiples ls) c.args.steps.now c.loop-step.step-index
-        t (scale t.coefficient (element_times t.left (label_at ls t.number) t.right) ++ before)
-        c.add_step.new.sum
+    t (scale t.coefficient (element_times t.left (label_at ls t.number) t.right) ++ before)
+    c.add_step.new.sum
     c.loop-step-test.true c.step-item.is
-        (step_multiples-push ls (take c.loop-step.step-index c.args.steps.now) t)
-        (c.in_ok-add_step.ensures before c.loop-step.invariant)
+    (step_multiples-push ls (take c.loop-step.step-index c.args.steps.now) t)
+    (c.in_ok-add_step.ensures before c.loop-step.invariant)
 
 pub returns : goal.returns
 returns c =
     all_steps c.args.setting.now.setting (step_multiples (elements_of c.args.labels.now))
-        c.args.steps.now c.loop-step.step-index c.loop-step.sum c.in_ok-whole.whole
+    c.args.steps.now c.loop-step.step-index c.loop-step.sum c.in_ok-whole.whole
     (omega arith) (listed_is_prime c.args.setting.now.setting.prime
-          c.recall_rule.ensures.setting.prime).above_one c.in_ok-whole.ensures.sum
-        c.in_ok-whole.ensures.descends c.in_ok-whole.ensures.residues c.loop-step.invariant
+    c.recall_rule.ensures.setting.prime).above_one c.in_ok-whole.ensures.sum
+    c.in_ok-whole.ensures.descends c.in_ok-whole.ensures.residues c.loop-step.invariant

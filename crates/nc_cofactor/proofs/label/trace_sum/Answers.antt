@@ -13,29 +13,29 @@ use Rattle.nc_cofactor.proofs.label.trace_sum.Goals as goal
 pub loop-step-preserved : goal.loop-step-preserved
 loop-step-preserved c =
     let is : c.items-step-items.result.now ≡ c.args.trace.now.steps =
-        c.items-step-items.ensures ∙ ap (λ (t : Trace). t.steps) c.trace.view_is in
+    c.items-step-items.ensures ∙ ap (λ (t : Trace). t.steps) c.trace.view_is in
     let p = c.args.setting.now.setting.prime in
     let ls : List Element = elements_of c.args.labels.now in
     let α : Element = start_label ls c.args.trace.now.start in
     let t : Step = c.step-item.result in
     let before : Element = less_steps p ls α (take c.loop-step.step-index c.args.trace.now.steps) in
     one_more c.args.setting.now.setting (less_steps p ls α) c.args.trace.now.steps
-        c.loop-step.step-index t (minus p before t.coefficient
-          (element_times t.left (label_at ls t.number) t.right)) c.take_step.new.sum
+    c.loop-step.step-index t (minus p before t.coefficient
+    (element_times t.left (label_at ls t.number) t.right)) c.take_step.new.sum
     (omega (arith, c.loop-step-test.true, ap length is))
-        (c.step-item.is ∙ ap (λ (l : List Step). get_or l c.loop-step.step-index c.step-item.result)
-          is)
+    (c.step-item.is ∙ ap (λ (l : List Step). get_or l c.loop-step.step-index c.step-item.result)
+    is)
     (less_steps-push p ls α (take c.loop-step.step-index c.args.trace.now.steps) t)
-        (c.in_ok-take_step.ensures before c.loop-step.invariant)
+    (c.in_ok-take_step.ensures before c.loop-step.invariant)
 
 pub returns : goal.returns
 returns c =
     let is : c.items-step-items.result.now ≡ c.args.trace.now.steps =
-        c.items-step-items.ensures ∙ ap (λ (t : Trace). t.steps) c.trace.view_is in
+    c.items-step-items.ensures ∙ ap (λ (t : Trace). t.steps) c.trace.view_is in
     all_steps c.args.setting.now.setting
-        (less_steps c.args.setting.now.setting.prime (elements_of c.args.labels.now)
-          (start_label (elements_of c.args.labels.now) c.args.trace.now.start))
-        c.args.trace.now.steps c.loop-step.step-index c.loop-step.sum c.in_ok-label.label
+    (less_steps c.args.setting.now.setting.prime (elements_of c.args.labels.now)
+    (start_label (elements_of c.args.labels.now) c.args.trace.now.start))
+    c.args.trace.now.steps c.loop-step.step-index c.loop-step.sum c.in_ok-label.label
     (omega (arith, ap length is)) (listed_is_prime c.args.setting.now.setting.prime
-          c.recall_rule.ensures.setting.prime).above_one c.in_ok-label.ensures.sum
-        c.in_ok-label.ensures.descends c.in_ok-label.ensures.residues c.loop-step.invariant
+    c.recall_rule.ensures.setting.prime).above_one c.in_ok-label.ensures.sum
+    c.in_ok-label.ensures.descends c.in_ok-label.ensures.residues c.loop-step.invariant

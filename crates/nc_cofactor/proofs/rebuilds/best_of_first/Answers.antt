@@ -7,7 +7,7 @@ use Rattle.nc_cofactor.proofs.rebuilds.best_of_first.Goals as goal
 pub unreachable-requires : goal.unreachable-requires
 unreachable-requires c =
     best_is_some c.args.snapshot.now.problem.problem.setting c.args.snapshot.now.state.entries
-        (monomial_of c.args.sig.now) c.args.entries c.requires.other c.requires.start
+    (monomial_of c.args.sig.now) c.args.entries c.requires.other c.requires.start
     (subst (IsBestWithin c.args.snapshot.now.problem.problem.setting
-            c.args.snapshot.now.state.entries (monomial_of c.args.sig.now) 0 c.args.entries)
-          c.in-None.is c.best_multiple.ensures)
+    c.args.snapshot.now.state.entries (monomial_of c.args.sig.now) 0 c.args.entries)
+    c.in-None.is c.best_multiple.ensures)

@@ -12,12 +12,12 @@ start_over-requires-clause-start c =
 pub start_over-requires-clause-generator : goal.start_over-requires-clause-generator
 start_over-requires-clause-generator c =
     (listed_usable c.args.snapshot.now c.recall_rule.ensures.snapshot (monomial_of c.args.sig.now)
-      c.requires.listed).0
+    c.requires.listed).0
 
 pub reduce-requires-clause-usable : goal.reduce-requires-clause-usable
 reduce-requires-clause-usable c =
     (listed_usable c.args.snapshot.now c.recall_rule.ensures.snapshot (monomial_of c.args.sig.now)
-      c.requires.listed).1
+    c.requires.listed).1
 
 pub returns : goal.returns
 returns c = (
@@ -26,5 +26,5 @@ returns c = (
       (monomial_of c.args.sig.now) c.args.entries c.requires.lesser (start_of c.in_ok-start.start)
       c.in_ok-start.ensures
       c.in_ok-trace.field-0.poly c.in_ok-trace.field-0.trace c.in_ok-trace.ensures.start
-          c.in_ok-trace.ensures.reduction,
+      c.in_ok-trace.ensures.reduction,
 )

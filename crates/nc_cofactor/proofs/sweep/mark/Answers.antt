@@ -11,6 +11,6 @@ mark_steps-requires-clause-some c =
 pub mark_steps-requires-clause-within : goal.mark_steps-requires-clause-within
 mark_steps-requires-clause-within c k d within =
     let low =
-        steps_high c.args.trace.now c.items.result.now (length c.args.marks.now)
-        (c.items.ensures ∙ ap (λ (t : Trace). t.steps) c.trace.view_is) c.requires k d within in
+    steps_high c.args.trace.now c.items.result.now (length c.args.marks.now)
+    (c.items.ensures ∙ ap (λ (t : Trace). t.steps) c.trace.view_is) c.requires k d within in
     omega (arith, low, c.mark_start.auto.marks)

@@ -12,12 +12,12 @@ loop-number-preserved c =
     let i = c.loop-number.number-index in
     let within : i < length c.args.numbers.now = c.loop-number-test.true in
     marks_more (λ (n : ℕ). n) c.args.marks.now c.loop-number.marks c.set_mark.new.marks
-        c.args.numbers.now i (get_or c.args.numbers.now i 0) within
+    c.args.numbers.now i (get_or c.args.numbers.now i 0) within
     (sym (get_or_default_zero c.args.numbers.now i (get_or c.args.numbers.now i 0) within))
-        c.loop-number.invariant c.set_mark.ensures
+    c.loop-number.invariant c.set_mark.ensures
 
 pub returns : goal.returns
 returns c =
     numbers_mark c.args.marks.now c.loop-number.marks c.args.numbers.now
     (marks_end (λ (n : ℕ). n) c.args.marks.now c.loop-number.marks c.args.numbers.now
-      c.loop-number.number-index (omega arith) c.loop-number.invariant)
+    c.loop-number.number-index (omega arith) c.loop-number.invariant)

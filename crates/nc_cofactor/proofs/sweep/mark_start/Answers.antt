@@ -7,11 +7,11 @@ use Rattle.nc_cofactor.proofs.sweep.mark_start.Goals as goal
 pub set_mark-requires-clause-some : goal.set_mark-requires-clause-some
 set_mark-requires-clause-some c =
     (c.requires c.in-Multiple.number
-      (subst (λ (s : Start). StartNames (start_of s) c.in-Multiple.number) (sym c.in-Multiple.is)
-        refl)).0
+    (subst (λ (s : Start). StartNames (start_of s) c.in-Multiple.number) (sym c.in-Multiple.is)
+    refl)).0
 
 pub set_mark-requires-clause-within : goal.set_mark-requires-clause-within
 set_mark-requires-clause-within c =
     (c.requires c.in-Multiple.number
-      (subst (λ (s : Start). StartNames (start_of s) c.in-Multiple.number) (sym c.in-Multiple.is)
-        refl)).1
+    (subst (λ (s : Start). StartNames (start_of s) c.in-Multiple.number) (sym c.in-Multiple.is)
+    refl)).1

@@ -13,27 +13,27 @@ loop-left-init c =
 pub slot_at-requires-clause-within : goal.slot_at-requires-clause-within
 slot_at-requires-clause-within c =
     (loop_within c.args.snapshot.now.problem c.recall_rule.ensures.snapshot.problem
-      c.args.snapshot.now.handled c.args.snapshot.now.state c.recall_rule.ensures.snapshot.run
-      c.args.marks.now c.loop-left.left c.loop-left.marks c.loop-left.stack.items
-      c.loop-left.invariant).0
+    c.args.snapshot.now.handled c.args.snapshot.now.state c.recall_rule.ensures.snapshot.run
+    c.args.marks.now c.loop-left.left c.loop-left.marks c.loop-left.stack.items
+    c.loop-left.invariant).0
 
 pub slot_at-requires-clause-size : goal.slot_at-requires-clause-size
 slot_at-requires-clause-size c =
     (loop_within c.args.snapshot.now.problem c.recall_rule.ensures.snapshot.problem
-      c.args.snapshot.now.handled c.args.snapshot.now.state c.recall_rule.ensures.snapshot.run
-      c.args.marks.now c.loop-left.left c.loop-left.marks c.loop-left.stack.items
-      c.loop-left.invariant).1
+    c.args.snapshot.now.handled c.args.snapshot.now.state c.recall_rule.ensures.snapshot.run
+    c.args.marks.now c.loop-left.left c.loop-left.marks c.loop-left.stack.items
+    c.loop-left.invariant).1
 
 pub loop-left-preserved : goal.loop-left-preserved
 loop-left-preserved c =
     subst (λ (l : List (Option Trace)). IsWayOf c.args.snapshot.now.problem.problem
-          c.args.snapshot.now.handled c.args.marks.now (c.loop-left.left - 1) c.slot_at.new.marks l)
-        (sym c.in_ok-push.ensures.items)
+    c.args.snapshot.now.handled c.args.marks.now (c.loop-left.left - 1) c.slot_at.new.marks l)
+    (sym c.in_ok-push.ensures.items)
     (loop_steps c.args.snapshot.now.problem c.recall_rule.ensures.snapshot.problem
-          c.args.snapshot.now.handled c.args.snapshot.now.state c.recall_rule.ensures.snapshot.run
-          c.args.marks.now c.loop-left.left c.loop-left.marks c.loop-left.stack.items
-          c.loop-left.invariant c.slot_at.new.marks c.in_ok-slot.slot
-          (omega (arith, c.loop-left-test.true)) c.in_ok-slot.ensures c.slot_at.auto.marks)
+    c.args.snapshot.now.handled c.args.snapshot.now.state c.recall_rule.ensures.snapshot.run
+    c.args.marks.now c.loop-left.left c.loop-left.marks c.loop-left.stack.items
+    c.loop-left.invariant c.slot_at.new.marks c.in_ok-slot.slot
+    (omega (arith, c.loop-left-test.true)) c.in_ok-slot.ensures c.slot_at.auto.marks)
 
 pub returns : goal.returns
 returns c =

@@ -13,13 +13,13 @@ use Rattle.nc_cofactor.proofs.trace.syzygy_trace.Goals as goal
 pub returns : goal.returns
 returns c =
     IfOk-weaker c.rebuild.result (λ (t : Trace). (f : Polynomial)
-          × Rebuilds c.args.snapshot.now.problem.problem.setting c.args.snapshot.now.state.entries
-          (monomial_of c.deref.result.now) t f)
+    × Rebuilds c.args.snapshot.now.problem.problem.setting c.args.snapshot.now.state.entries
+    (monomial_of c.deref.result.now) t f)
     (HasTrace c.args.snapshot.now.problem.problem c.args.snapshot.now.handled
-          (SyzygyOf c.args.number))
+    (SyzygyOf c.args.number))
     (λ t (f, r). syzygy_has_trace c.args.snapshot.now c.recall_rule.ensures.snapshot c.args.number
-          (syzygy_of c.syzygy.result.now) c.requires.some c.syzygy.ensures.syzygy t f
+    (syzygy_of c.syzygy.result.now) c.requires.some c.syzygy.ensures.syzygy t f
     (subst (λ (σ : Sig). Rebuilds c.args.snapshot.now.problem.problem.setting
-            c.args.snapshot.now.state.entries (monomial_of σ) t f)
-          (c.deref.ensures ∙ c.sig-sig.ensures) r))
+    c.args.snapshot.now.state.entries (monomial_of σ) t f)
+    (c.deref.ensures ∙ c.sig-sig.ensures) r))
     c.rebuild.ensures

@@ -6,11 +6,13 @@ use Rattle.std.proofs.lemmas.Bool.{false≢true}
 use Rattle.nc_criteria.proofs.syzygy.is_trivial_at.Goals as goal
 
 pub returns-in_default : goal.returns-in_default
-returns-in_default c =
-    (λ t. absurd (false≢true t), λ h. absurd
+returns-in_default c = (
+  λ t. absurd (false≢true t),
+  λ h. absurd
       (none_divides c.args.snapshot.now.problem.problem.setting c.args.snapshot.now.state.entries
-        (monomial_of c.args.sig.now) (c.args.number - 1) c.of-own.result c.of-own.ensures
-        c.in_default.ensures h))
+      (monomial_of c.args.sig.now) (c.args.number - 1) c.of-own.result c.of-own.ensures
+      c.in_default.ensures h),
+)
 
 pub returns-then-is_trivial : goal.returns-then-is_trivial
 returns-then-is_trivial c = (
@@ -28,20 +30,22 @@ pub loop-index-preserved : goal.loop-index-preserved
 loop-index-preserved c =
     let same : c.loop-index.index + 1 - 1 ≡ c.loop-index.index = omega arith in
     let other : IsLeadAt c.args.snapshot.now.problem.problem.setting
-        c.args.snapshot.now.state.entries c.loop-index.index c.of.result =
-        subst (λ k. IsLeadAt c.args.snapshot.now.problem.problem.setting
-          c.args.snapshot.now.state.entries k c.of.result) same c.of.ensures in
+    c.args.snapshot.now.state.entries c.loop-index.index c.of.result =
+    subst (λ k. IsLeadAt c.args.snapshot.now.problem.problem.setting
+    c.args.snapshot.now.state.entries k c.of.result) same c.of.ensures in
     none_pair_further c.args.snapshot.now.problem.problem.setting c.args.snapshot.now.state.entries
-        (monomial_of c.args.sig.now) (c.args.number - 1) c.loop-index.index c.loop-index.invariant
+    (monomial_of c.args.sig.now) (c.args.number - 1) c.loop-index.index c.loop-index.invariant
     (λ p. false≢true (sym c.if-is_trivial.false
-            ∙ c.is_trivial.ensures.1 (pair_is c.args.snapshot.now.problem.problem.setting
-              c.args.snapshot.now.state.entries (monomial_of c.args.sig.now) (c.args.number - 1)
-              c.loop-index.index c.of-own.result c.of.result c.of-own.ensures other
-              c.in-Some.before.now c.in-Some.behind.now c.in-Some.ensures p)))
+    ∙ c.is_trivial.ensures.1 (pair_is c.args.snapshot.now.problem.problem.setting
+    c.args.snapshot.now.state.entries (monomial_of c.args.sig.now) (c.args.number - 1)
+    c.loop-index.index c.of-own.result c.of.result c.of-own.ensures other
+    c.in-Some.before.now c.in-Some.behind.now c.in-Some.ensures p)))
 
 pub returns : goal.returns
-returns c =
-    (λ t. absurd (false≢true t), λ h. absurd
+returns c = (
+  λ t. absurd (false≢true t),
+  λ h. absurd
       (none_pair c.args.snapshot.now.problem.problem.setting c.args.snapshot.now.state.entries
-        (monomial_of c.args.sig.now) (c.args.number - 1) c.loop-index.index (omega arith)
-        c.loop-index.invariant h))
+      (monomial_of c.args.sig.now) (c.args.number - 1) c.loop-index.index (omega arith)
+      c.loop-index.invariant h),
+)

@@ -14,39 +14,39 @@ use Rattle.nc_desk.proofs.handling.from_multiple.Goals as goal
 pub leading_word-requires : goal.leading_word-requires
 leading_word-requires c =
     start_readable (setting_of c.args.snapshot.now.problem)
-        c.recall_rule.ensures.snapshot.problem.setting c.args.snapshot.now.state.entries
-        (snapshot_usable c.args.snapshot.now c.recall_rule.ensures.snapshot)
-        (monomial_of c.args.sig.now) c.requires.usable
-        (Start.a_multiple c.around.result.0.now c.args.best.number c.around.result.1.now)
+    c.recall_rule.ensures.snapshot.problem.setting c.args.snapshot.now.state.entries
+    (snapshot_usable c.args.snapshot.now c.recall_rule.ensures.snapshot)
+    (monomial_of c.args.sig.now) c.requires.usable
+    (Start.a_multiple c.around.result.0.now c.args.best.number c.around.result.1.now)
     (best_start c.args.snapshot.now.problem.problem.setting c.args.snapshot.now.state
-          (monomial_of c.args.sig.now) c.args.best c.requires.best c.around.result.0.now
-          c.around.result.1.now c.around.ensures.left c.around.ensures.right)
+    (monomial_of c.args.sig.now) c.args.best c.requires.best c.around.result.0.now
+    c.around.result.1.now c.around.ensures.left c.around.ensures.right)
 
 pub returns-then-not-is_reducible : goal.returns-then-not-is_reducible
 returns-then-not-is_reducible c =
     best_settled c.args.snapshot.now.problem.problem.setting c.args.snapshot.now.state
-        (monomial_of c.args.sig.now) c.args.best c.requires.best c.around.result.0.now
-        c.around.result.1.now c.around.ensures.left c.around.ensures.right
+    (monomial_of c.args.sig.now) c.args.best c.requires.best c.around.result.0.now
+    c.around.result.1.now c.around.ensures.left c.around.ensures.right
     c.best_multiple_law.ensures c.requires.uncovered c.requires.other c.in_ok-word.word
-        c.in_ok-word.ensures (λ r. false≢true (sym c.if-not-is_reducible.true
-            ∙ c.is_reducible.ensures.1 r))
+    c.in_ok-word.ensures (λ r. false≢true (sym c.if-not-is_reducible.true
+    ∙ c.is_reducible.ensures.1 r))
 
 pub reduce-requires-clause-start : goal.reduce-requires-clause-start
 reduce-requires-clause-start c =
     subst (IsStartAt c.args.snapshot.now.problem.problem.setting c.args.snapshot.now.state.entries
-          (monomial_of c.args.sig.now)) (sym c.in_ok-start.ensures)
+    (monomial_of c.args.sig.now)) (sym c.in_ok-start.ensures)
     (best_start c.args.snapshot.now.problem.problem.setting c.args.snapshot.now.state
-          (monomial_of c.args.sig.now) c.args.best c.requires.best c.around.result.0.now
-          c.around.result.1.now c.around.ensures.left c.around.ensures.right)
+    (monomial_of c.args.sig.now) c.args.best c.requires.best c.around.result.0.now
+    c.around.result.1.now c.around.ensures.left c.around.ensures.right)
 
 pub returns : goal.returns
 returns c =
     best_reduced c.args.snapshot.now.problem.problem.setting c.args.snapshot.now.state
-        (monomial_of c.args.sig.now) c.args.best c.requires.best c.around.result.0.now
-        c.around.result.1.now c.around.ensures.left c.around.ensures.right
+    (monomial_of c.args.sig.now) c.args.best c.requires.best c.around.result.0.now
+    c.around.result.1.now c.around.ensures.left c.around.ensures.right
     c.best_multiple_law.ensures c.requires.uncovered c.requires.other c.in_ok-word.word
-        c.in_ok-word.ensures (c.is_reducible.ensures.0 c.if-not-is_reducible.false)
+    c.in_ok-word.ensures (c.is_reducible.ensures.0 c.if-not-is_reducible.false)
     (start_of c.in_ok-start.start) c.in_ok-reduced.reduced.poly c.in_ok-reduced.reduced.trace.steps
-        _ c.in_ok-start.ensures c.in_ok-reduced.ensures.reduction
+    _ c.in_ok-start.ensures c.in_ok-reduced.ensures.reduction
     (c.outcome_from.ensures ∙ ap (λ start. outcome_after start c.in_ok-reduced.reduced.poly
-            c.in_ok-reduced.reduced.trace.steps) c.in_ok-reduced.ensures.start)
+    c.in_ok-reduced.reduced.trace.steps) c.in_ok-reduced.ensures.start)

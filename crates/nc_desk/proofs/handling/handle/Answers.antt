@@ -17,4 +17,4 @@ best_at-best-requires c =
 pub from_multiple-requires-clause-usable : goal.from_multiple-requires-clause-usable
 from_multiple-requires-clause-usable c =
     (facts c.args.snapshot.now c.recall_rule.ensures.snapshot (monomial_of c.args.sig.now)
-      c.requires.candidate).usable
+    c.requires.candidate).usable

@@ -11,15 +11,15 @@ use Rattle.nc_desk.proofs.multiple.is_reducible.Goals as goal
 pub returns : goal.returns
 returns c =
     let found : IsChosen c.args.snapshot.now.problem.problem.setting
-        c.args.snapshot.now.state.entries c.args.word.now c.args.sig.now c.first_regular.result =
+    c.args.snapshot.now.state.entries c.args.word.now c.args.sig.now c.first_regular.result =
     c.leads_law.ensures c.args.snapshot.now.problem.problem.setting
-        c.args.snapshot.now.state.entries c.args.word.now c.args.sig.now c.first_regular.result
+    c.args.snapshot.now.state.entries c.args.word.now c.args.sig.now c.first_regular.result
     (subst (λ (l : List Lead). IsFirstRegular l c.args.word.now c.args.sig.now
-            c.first_regular.result) c.requires.leads
-          (subst (λ (w : Word). IsFirstRegular c.args.leads.now w c.args.sig.now
-              c.first_regular.result) c.letters.ensures.letters c.first_regular.ensures)) in
+    c.first_regular.result) c.requires.leads
+    (subst (λ (w : Word). IsFirstRegular c.args.leads.now w c.args.sig.now
+    c.first_regular.result) c.letters.ensures.letters c.first_regular.ensures)) in
     subst (λ b. IsTrue b ↔ RegularDivisor c.args.snapshot.now.problem.problem.setting
-          c.args.snapshot.now.state.entries (monomial_of c.args.sig.now) c.args.word.now)
-        (sym c.is_some.ensures)
+    c.args.snapshot.now.state.entries (monomial_of c.args.sig.now) c.args.word.now)
+    (sym c.is_some.ensures)
     (chosen_regular c.args.snapshot.now.problem.problem.setting c.args.snapshot.now.state.entries
-          c.args.sig.now c.requires.degree c.args.word.now c.first_regular.result found)
+    c.args.sig.now c.requires.degree c.args.word.now c.first_regular.result found)

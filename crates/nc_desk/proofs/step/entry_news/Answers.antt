@@ -14,11 +14,13 @@ returns c trace handles =
     let is : c.word_of-word.result.now ≡ c.in-Some.lead.now.key = c.word_of-word.ensures in
     let found : List Sig = map arc_value c.in_ok-found.found.items in
     entry_news s c.recall_rule.ensures.snapshot (monomial_of σ) c.requires.next c.args.poly.now
-        trace handles c.in-Some.lead.now c.in-Some.ensures.some.0 c.in-Some.ensures.some.1 σ refl
-        c.requires.degree
+    trace handles c.in-Some.lead.now c.in-Some.ensures.some.0 c.in-Some.ensures.some.1 σ refl
+    c.requires.degree
     c.in_ok-more.more c.add.new.self (c.in_ok-more.ensures ∙ c.requires.leads)
-        (c.in_ok-add.ensures.added ∙ ap (λ (w : Word). c.in_ok-more.more ++ record { word = w;
-              signature = σ } ∷ []) is)
+    (c.in_ok-add.ensures.added ∙ ap (λ (w : Word). c.in_ok-more.more ++ record {
+      word = w;
+      signature = σ;
+    } ∷ []) is)
     found c.in_ok-found.ensures.degrees
-        (subst (λ (w : Word). AreNewSignatures s.problem.problem s.state.entries w (monomial_of σ)
-            found) is c.in_ok-found.ensures.exact)
+    (subst (λ (w : Word). AreNewSignatures s.problem.problem s.state.entries w (monomial_of σ)
+    found) is c.in_ok-found.ensures.exact)

@@ -8,14 +8,20 @@ use Rattle.nc_field.proofs.digits.value_of.Goals as goal
 
 pub overflow_mul-value : goal.overflow_mul-value
 overflow_mul-value c =
-    omega (arith, fits c.loop-digit.value c.loop-digit.digit-index 0 c.loop-digit.invariant.small
-      (omega arith) (omega arith))
+    omega (
+      arith,
+      fits c.loop-digit.value c.loop-digit.digit-index 0 c.loop-digit.invariant.small
+          (omega arith) (omega arith),
+    )
 
 pub overflow_add-value : goal.overflow_add-value
 overflow_add-value c =
-    omega (arith, fits c.loop-digit.value c.loop-digit.digit-index c.from.result
+    omega (
+      arith,
+      fits c.loop-digit.value c.loop-digit.digit-index c.from.result
           c.loop-digit.invariant.small (omega arith)
-          (omega (arith, c.if-not-is_ascii_digit.ensures.cases)))
+          (omega (arith, c.if-not-is_ascii_digit.ensures.cases)),
+    )
 
 pub loop-digit-preserved : goal.loop-digit-preserved
 loop-digit-preserved c =

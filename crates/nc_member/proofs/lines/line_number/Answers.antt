@@ -8,6 +8,6 @@ returns c =
     count_point c.args.number c.args.entries.now c.partition_point.result
     c.partition_point.ensures.bound
     (IsPartitionPoint-from_clause (λ k. nat_le k c.args.number) c.args.entries.now
-      c.partition_point.result c.partition_point.ensures.partitioned
-      (IsPartitionedBy-leb (λ k. k) c.args.entries.now c.args.number
-        (rises c.args.entries.now c.requires.ascending)) (λ a r f' k. search rules))
+    c.partition_point.result c.partition_point.ensures.partitioned
+    (IsPartitionedBy-leb (λ k. k) c.args.entries.now c.args.number
+    (rises c.args.entries.now c.requires.ascending)) (λ a r f' k. search rules))

@@ -16,34 +16,34 @@ pub returns-then-is_zero : goal.returns-then-is_zero
 returns-then-is_zero c =
     let s : Snapshot = c.args.finished.now.snapshot in
     let is : IsSnapshot s =
-        subst IsSnapshot c.snapshot-snapshot.ensures.snapshot c.recall_rule.ensures.snapshot in
+    subst IsSnapshot c.snapshot-snapshot.ensures.snapshot c.recall_rule.ensures.snapshot in
     let steps : List Step = c.in_ok-poly.field-0.steps in
     let rest : IsRestOf s.problem.problem s.handled c.args.claim.now [] steps =
-        subst (λ (g : Polynomial). IsRestOf s.problem.problem s.handled c.args.claim.now g steps)
-        (c.if-is_zero.ensures.0 refl) c.in_ok-poly.ensures.rest in
+    subst (λ (g : Polynomial). IsRestOf s.problem.problem s.handled c.args.claim.now g steps)
+    (c.if-is_zero.ensures.0 refl) c.in_ok-poly.ensures.rest in
     let found : AreProofLines s.problem.problem s.handled steps c.in_ok-lines.lines =
     subst (λ (l : List Step). AreProofLines s.problem.problem s.handled l c.in_ok-lines.lines)
-        c.items.ensures
+    c.items.ensures
     (subst (λ (x : Snapshot). AreProofLines x.problem.problem x.handled c.items.result.now
-            c.in_ok-lines.lines) c.snapshot-snapshot.ensures.snapshot c.in_ok-lines.ensures) in
+    c.in_ok-lines.lines) c.snapshot-snapshot.ensures.snapshot c.in_ok-lines.ensures) in
     proved s.problem is.problem (listed_is_prime s.problem.problem.setting.prime
-          is.problem.setting.prime) s.handled c.args.claim.now c.requires.claim found.needed steps
-        rest found.traces c.in_ok-lines.lines found.are
+    is.problem.setting.prime) s.handled c.args.claim.now c.requires.claim found.needed steps
+    rest found.traces c.in_ok-lines.lines found.are
 
 pub returns : goal.returns
 returns c =
     let s : Snapshot = c.args.finished.now.snapshot in
     let is : IsSnapshot s =
-        subst IsSnapshot c.snapshot-snapshot.ensures.snapshot c.recall_rule.ensures.snapshot in
+    subst IsSnapshot c.snapshot-snapshot.ensures.snapshot c.recall_rule.ensures.snapshot in
     let some : c.in_ok-poly.field-0.poly ≡ [] → ⊥ = λ e. false≢true (c.if-is_zero.ensures.1 e) in
     elim c.match-end.branch [
       | in-Complete w ↦ subst (IsProof c.args.finished.now c.args.claim.now) (sym w.result-is)
           (unrepresented s.problem is.problem s.handled s.state c.args.claim.now
-            c.in_ok-poly.field-0.poly c.in_ok-poly.field-0.steps some c.in_ok-poly.ensures.rest
-            c.args.finished.now.ending c.snapshot-snapshot.ensures.ended
-            (sym c.end.ensures.end ∙ ap end_of w.in-Complete.is))
+          c.in_ok-poly.field-0.poly c.in_ok-poly.field-0.steps some c.in_ok-poly.ensures.rest
+          c.args.finished.now.ending c.snapshot-snapshot.ensures.ended
+          (sym c.end.ensures.end ∙ ap end_of w.in-Complete.is))
       | in-Budget w ↦ subst (IsProof c.args.finished.now c.args.claim.now) (sym w.result-is)
           (undecided s.problem is.problem s.handled s.state c.args.claim.now
-            c.in_ok-poly.field-0.poly c.in_ok-poly.field-0.steps some c.in_ok-poly.ensures.rest
-            c.args.finished.now.ending _ (sym c.end.ensures.end ∙ ap end_of w.in-Budget.is))
+          c.in_ok-poly.field-0.poly c.in_ok-poly.field-0.steps some c.in_ok-poly.ensures.rest
+          c.args.finished.now.ending _ (sym c.end.ensures.end ∙ ap end_of w.in-Budget.is))
     ]

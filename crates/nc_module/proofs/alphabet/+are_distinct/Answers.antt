@@ -9,8 +9,8 @@ returns-then-not-has_name t c =
     let first : List ℕ = c.first-item.result in
     let rest : List (List ℕ) = take (length names - 1) (drop 1 names) in
     let none : list_any (λ n. bytes_eq n first) rest ≡ false =
-        subst (λ (y : List ℕ). list_any (λ n. bytes_eq n y) rest ≡ false) c.bytes.ensures.bytes
-        (sym c.has_name.ensures ∙ c.if-not-has_name.true) in (
+    subst (λ (y : List ℕ). list_any (λ n. bytes_eq n y) rest ≡ false) c.bytes.ensures.bytes
+    (sym c.has_name.ensures ∙ c.if-not-has_name.true) in (
       λ yes. distinct_by_parts names first c.in-len1-up.len_at_least c.first-item.is
           (not_among first rest none) (c.are_distinct.ensures.0 yes),
       λ distinct. c.are_distinct.ensures.1
@@ -23,9 +23,9 @@ returns-else-not-has_name t c =
     let first : List ℕ = c.first-item.result in
     let rest : List (List ℕ) = take (length names - 1) (drop 1 names) in
     let found : list_any (λ n. bytes_eq n first) rest ≡ true =
-        subst (λ (y : List ℕ). list_any (λ n. bytes_eq n y) rest ≡ true) c.bytes.ensures.bytes
-        (sym c.has_name.ensures ∙ c.if-not-has_name.false) in (
+    subst (λ (y : List ℕ). list_any (λ n. bytes_eq n y) rest ≡ true) c.bytes.ensures.bytes
+    (sym c.has_name.ensures ∙ c.if-not-has_name.false) in (
       λ yes. absurd (true≢false (sym c.if-not-has_name.false ∙ not_true c.has_name.result yes)),
       λ distinct. absurd ((parts_of_distinct names first c.in-len1-up.len_at_least c.first-item.is
-              distinct).0 (among first rest found)),
+          distinct).0 (among first rest found)),
     )

@@ -9,7 +9,7 @@ use Rattle.nc_options.proofs.fit.are_fit.Goals as goal
 pub returns : goal.returns
 returns c =
     all_from_yields_List (λ w. is_fit (map (λ (n : Bor (List ℕ)). n.now) c.args.names.now)
-          (string_bytes w)) _ _ _ c.all.ensures.ran (YieldsList-from_slice c.args.words.now cc)
-        (λ x b q k. search (rules, tests))
+    (string_bytes w)) _ _ _ c.all.ensures.ran (YieldsList-from_slice c.args.words.now cc)
+    (λ x b q k. search (rules, tests))
     ∙ sym (list_all-map (is_fit (map (λ (n : Bor (List ℕ)). n.now) c.args.names.now)) string_bytes
-          c.args.words.now)
+    c.args.words.now)

@@ -11,9 +11,9 @@ use Rattle.nc_options.proofs.fit.are_single.Goals as goal
 pub returns : goal.returns
 returns c =
     all_from_yields_List (λ (n : Bor (List ℕ)). nat_le
-          (count_by (names_option n.now) (map string_bytes c.args.words.now)) 1) _ _ _
-        c.all.ensures.ran (YieldsList-from_slice c.args.names.now cc)
-        (λ x b q k. search (rules, tests))
+    (count_by (names_option n.now) (map string_bytes c.args.words.now)) 1) _ _ _
+    c.all.ensures.ran (YieldsList-from_slice c.args.names.now cc)
+    (λ x b q k. search (rules, tests))
     ∙ sym (list_all-map (λ (n : List ℕ). nat_le
-            (count_by (names_option n) (map string_bytes c.args.words.now)) 1)
-          (λ (n : Bor (List ℕ)). n.now) c.args.names.now)
+    (count_by (names_option n) (map string_bytes c.args.words.now)) 1)
+    (λ (n : Bor (List ℕ)). n.now) c.args.names.now)

@@ -21,15 +21,15 @@ past k n e = grind (arith, nat_tests)
 pub returns-in-Some : goal.returns-in-Some
 returns-in-Some c =
     let place =
-        position_from_yields_List (λ b. b == 61) _ _ (Some c.in-Some.at) c.in-Some.ensures.ran
-        (YieldsList-from_slice c.args.text.now cc) (λ x b q k. search (rules, tests)) in
+    position_from_yields_List (λ b. b == 61) _ _ (Some c.in-Some.at) c.in-Some.ensures.ran
+    (YieldsList-from_slice c.args.text.now cc) (λ x b q k. search (rules, tests)) in
     ap (λ k. take k c.args.text.now) (some_place _ c.in-Some.at _ place)
 
 pub returns-in-None : goal.returns-in-None
 returns-in-None c =
     let place =
-        position_from_yields_List (λ b. b == 61) _ _ None c.in-None.ensures.ran
-        (YieldsList-from_slice c.args.text.now cc) (λ x b q k. search (rules, tests)) in
+    position_from_yields_List (λ b. b == 61) _ _ None c.in-None.ensures.ran
+    (YieldsList-from_slice c.args.text.now cc) (λ x b q k. search (rules, tests)) in
     sym (take_all _ c.args.text.now
-          (past (position_or_len (λ b. b == 61) c.args.text.now) (length c.args.text.now)
-            (no_place _ _ place)))
+    (past (position_or_len (λ b. b == 61) c.args.text.now) (length c.args.text.now)
+    (no_place _ _ place)))

@@ -9,16 +9,16 @@ use Rattle.nc_options.proofs.read.read_options.Goals as goal
 no_first : {X : Type 0} (bytes : X → Text) (words : List X) (first : X) (text : Text)
     → Some first ≡ slice_get words 0 → text ≡ bytes first
     → (text ≡ codes "basis" → ⊥) → (text ≡ codes "member" → ⊥) → (text ≡ codes "check" → ⊥)
-        → (text ≡ codes "demo" → ⊥)
+    → (text ≡ codes "demo" → ⊥)
     → options_of (map bytes words) ≡ None
 no_first bytes [] first text is same basis member check demo = cc
 no_first bytes (word ∷ words) first text is same basis member check demo =
     let same_word : text ≡ bytes word = cc in
     ap (λ t. options_of (t ∷ map bytes words)) (sym same_word)
-        ∙ no_command text (map bytes words) basis member check demo
+    ∙ no_command text (map bytes words) basis member check demo
 
 pub returns-in_default-as_str : goal.returns-in_default-as_str
 returns-in_default-as_str c =
     let none = c.in_default-as_str in
     no_first _ c.args.words.now c.in-Some.command.now c.as_str.result.now c.in-Some.ensures.value
-        c.as_str.ensures.value none.not-basis none.not-member none.not-check none.not-demo
+    c.as_str.ensures.value none.not-basis none.not-member none.not-check none.not-demo

@@ -14,21 +14,21 @@ loop-option_name-preserved c =
     ∙ option_added c.args.name.now (map (λ n. n.now) (take i c.args.names.now)) _
     ∙ ap (λ ns. command_for c.args.name.now ns false)
     (sym (map_more (λ (n : Bor (List ℕ)). n.now) c.args.names.now i
-            (record { ref_ptr = (0, 0); now = [] }) (omega arith)))
+    (record { ref_ptr = (0, 0); now = [] }) (omega arith)))
 
 pub returns : goal.returns
 returns c =
     let all : map (λ (n : Bor (List ℕ)). n.now)
-        (take c.loop-option_name.option_name-index c.args.names.now)
-        ≡ map (λ (n : Bor (List ℕ)). n.now) c.args.names.now =
+    (take c.loop-option_name.option_name-index c.args.names.now)
+    ≡ map (λ (n : Bor (List ℕ)). n.now) c.args.names.now =
     ap (map (λ (n : Bor (List ℕ)). n.now))
-        (take_all c.loop-option_name.option_name-index c.args.names.now (omega arith)) in
+    (take_all c.loop-option_name.option_name-index c.args.names.now (omega arith)) in
     elim c.if-takes_number.branch [
       | then-takes_number+in_ok-command-2 w ↦
           ap app_of w.command-is ∙ w.in_ok-command-2.ensures.shape w.number.ensures.local
           ∙ ap₂ with_rule c.loop-option_name.invariant w.number.ensures.rule
           ∙ number_added c.args.name.now
-              (map (λ n. n.now) (take c.loop-option_name.option_name-index c.args.names.now))
+          (map (λ n. n.now) (take c.loop-option_name.option_name-index c.args.names.now))
           ∙ ap₂ (λ ns b. command_for c.args.name.now ns b) all (sym w.if-takes_number.true)
       | else-takes_number w ↦ ap app_of w.command-is ∙ c.loop-option_name.invariant
           ∙ ap₂ (λ ns b. command_for c.args.name.now ns b) all (sym w.if-takes_number.false)

@@ -33,7 +33,7 @@ returns-then-not-are_fit_and_single c =
     let names = map (λ (n : Bor (List ℕ)). n.now) c.args.names.now in
     not_plain names c.args.takes_number (drop 1 (map string_bytes c.args.words.now))
     (ap (are_fit_and_single names) (sym (after_first_word string_bytes c.args.words.now))
-          ∙ sym c.are_fit_and_single.ensures ∙ c.if-not-are_fit_and_single.true)
+    ∙ sym c.are_fit_and_single.ensures ∙ c.if-not-are_fit_and_single.true)
 
 pub returns-in-Ok : goal.returns-in-Ok
 returns-in-Ok c =
@@ -41,12 +41,12 @@ returns-in-Ok c =
     let words = map string_bytes c.args.words.now in
     let fit : list_all (is_fit names) (drop 1 words) ≡ true =
     plain_fit names (drop 1 words)
-        (ap (are_fit_and_single names) (sym (after_first_word string_bytes c.args.words.now))
-          ∙ sym c.are_fit_and_single.ensures ∙ c.if-not-are_fit_and_single.false) in
+    (ap (are_fit_and_single names) (sym (after_first_word string_bytes c.args.words.now))
+    ∙ sym c.are_fit_and_single.ensures ∙ c.if-not-are_fit_and_single.false) in
     let app : app_of c.in_ok-command.command ≡ command_for c.args.name.now names
-        c.args.takes_number = search rules in
+    c.args.takes_number = search rules in
     taken c.args.name.now names c.args.takes_number (app_of c.in_ok-command.command) words
-        (found_of c.in-Ok.matches)
+    (found_of c.in-Ok.matches)
     (simp length-map (omega arith)) c.requires.named c.requires.apart fit app
     (λ e. c.in-Ok.ensures.kinds e) (λ e. (c.in-Ok.ensures.matches e).0)
 
@@ -56,12 +56,12 @@ returns-in-Err c =
     let words = map string_bytes c.args.words.now in
     let fit : list_all (is_fit names) (drop 1 words) ≡ true =
     plain_fit names (drop 1 words)
-        (ap (are_fit_and_single names) (sym (after_first_word string_bytes c.args.words.now))
-          ∙ sym c.are_fit_and_single.ensures ∙ c.if-not-are_fit_and_single.false) in
+    (ap (are_fit_and_single names) (sym (after_first_word string_bytes c.args.words.now))
+    ∙ sym c.are_fit_and_single.ensures ∙ c.if-not-are_fit_and_single.false) in
     let app : app_of c.in_ok-command.command ≡ command_for c.args.name.now names
-        c.args.takes_number = search rules in
+    c.args.takes_number = search rules in
     by_cause _ c.in-Err.error c.cause_of.result c.cause_of.ensures
     (λ other. refused c.args.name.now names c.args.takes_number (app_of c.in_ok-command.command)
-          words
+    words
     (simp length-map (omega arith)) c.requires.named c.requires.apart fit app
     (λ e none. has_fault c.in-Err.error _ other (c.in-Err.ensures.kinds e) none))

@@ -30,5 +30,5 @@ returns c =
     let some : 0 < length c.args.text.now = search rules in
     c.ok.ensures.value
     ∙ ap result_ok (parse_gives own 64 c.args.text.now c.parse.result c.parse.ensures.value.0 digits
-          some (fits _ (digits_value_short own c.args.text.now 18 digits short)))
+    some (fits _ (digits_value_short own c.args.text.now 18 digits short)))
     ∙ sym (tested c.args.text.now some short digits)

@@ -13,15 +13,15 @@ returns-in-Some c =
     let P : Problem = c.args.problem.now.problem in
     on_ok_weaker c.add_side.result
     (λ a e f i j. adds_only P (MeetAt P.setting e f c.args.at)
-          (monomial_of (side_sig c.in-Some.side)) (map arc_value c.args.found.now.items)
-          (map arc_value c.add_side.new.found.items)
-          (c.in-Some.ensures.greater P.setting e f c.requires.first.degree c.requires.second.degree
-            i j) a)
+    (monomial_of (side_sig c.in-Some.side)) (map arc_value c.args.found.now.items)
+    (map arc_value c.add_side.new.found.items)
+    (c.in-Some.ensures.greater P.setting e f c.requires.first.degree c.requires.second.degree
+    i j) a)
     c.add_side.ensures
 
 pub returns-in-None : goal.returns-in-None
 returns-in-None c e f i j =
     let P : Problem = c.args.problem.now.problem in
     adds_none P (MeetAt P.setting e f c.args.at) (map arc_value c.args.found.now.items)
-        (λ ρ w. c.in-None.ensures.greater P.setting e f c.requires.first.degree
-          c.requires.second.degree i j ρ)
+    (λ ρ w. c.in-None.ensures.greater P.setting e f c.requires.first.degree
+    c.requires.second.degree i j ρ)

@@ -19,24 +19,24 @@ loop-index-preserved c new i =
     let y : List Sig = map arc_value c.add_pair.new.found.items in
     let z : List Sig = map arc_value c.add_pair-in-loop-index.new.found.items in
     let is : c.deref-problem.result.now ≡ c.args.snapshot.now.problem =
-        c.deref-problem.ensures ∙ c.problem.ensures.problem in
+    c.deref-problem.ensures ∙ c.problem.ensures.problem in
     let led : IsLedBy P.setting c.lead_of-entry.result (get_or entries k new) =
-        subst (λ (j : ℕ). IsLedBy P.setting c.lead_of-entry.result (get_or entries j new))
-        (omega arith) (c.lead_of-entry.ensures.lead new) in
+    subst (λ (j : ℕ). IsLedBy P.setting c.lead_of-entry.result (get_or entries j new))
+    (omega arith) (c.lead_of-entry.ensures.lead new) in
     let first : AddsMeetings P c.lead_of-entry.result c.args.new.now x y =
-        subst (λ (N : NamedProblem). AddsMeetings N.problem c.lead_of-entry.result c.args.new.now x
-          y) is c.in_ok-add_pair.ensures in
+    subst (λ (N : NamedProblem). AddsMeetings N.problem c.lead_of-entry.result c.args.new.now x
+    y) is c.in_ok-add_pair.ensures in
     let second : AddsMeetings P c.args.new.now c.lead_of-entry.result y z =
-        subst (λ (N : NamedProblem). AddsMeetings N.problem c.args.new.now c.lead_of-entry.result y
-          z) is c.in_ok-add_pair-2.ensures in
+    subst (λ (N : NamedProblem). AddsMeetings N.problem c.args.new.now c.lead_of-entry.result y
+    z) is c.in_ok-add_pair-2.ensures in
     adds_step P (OfEntry entries (λ e ρ. MeetSomewhere P.setting e new ρ
-            ⊎ MeetSomewhere P.setting new e ρ)) k initial x z (c.loop-index.invariant new i)
+    ⊎ MeetSomewhere P.setting new e ρ)) k initial x z (c.loop-index.invariant new i)
     (adds_entry P entries new k x y z (omega arith) (first (get_or entries k new) new led i)
-          (second new (get_or entries k new) i led))
+    (second new (get_or entries k new) i led))
 
 pub returns : goal.returns
 returns c new i =
     let P : Problem = c.args.snapshot.now.problem.problem in
     adds_entries P c.args.snapshot.now.state.entries new c.loop-index.index
-        (map arc_value c.args.found.now.items) (map arc_value c.loop-index.found.items)
-        (omega arith) (c.loop-index.invariant new i)
+    (map arc_value c.args.found.now.items) (map arc_value c.loop-index.found.items)
+    (omega arith) (c.loop-index.invariant new i)

@@ -17,17 +17,17 @@ pub loop-at-preserved : goal.loop-at-preserved
 loop-at-preserved c e f i j =
     let P : Problem = c.args.problem.now.problem in
     adds_step P (MeetAt P.setting e f) c.loop-at.at (map arc_value c.args.found.now.items)
-        (map arc_value c.loop-at.found.items) (map arc_value c.add_at.new.found.items)
-        (c.loop-at.invariant e f i j) (c.in_ok-add_at.ensures e f i j)
+    (map arc_value c.loop-at.found.items) (map arc_value c.add_at.new.found.items)
+    (c.loop-at.invariant e f i j) (c.in_ok-add_at.ensures e f i j)
 
 pub returns : goal.returns
 returns c e f i j =
     let P : Problem = c.args.problem.now.problem in
     adds_places P e f c.loop-at.at (map arc_value c.args.found.now.items)
-        (map arc_value c.loop-at.found.items)
+    (map arc_value c.loop-at.found.items)
     (enough_more P (length c.args.first.now.word.now)
-          (length (leading P.setting.prime e.polynomial)) c.args.second.now.sig.now.degree
-          (degree P.setting f.signature) c.places-at-end.result c.loop-at.at (ap length i.lead)
+    (length (leading P.setting.prime e.polynomial)) c.args.second.now.sig.now.degree
+    (degree P.setting f.signature) c.places-at-end.result c.loop-at.at (ap length i.lead)
     (ap (degree P.setting) j.signed ∙ sym (ap (λ (x : Sig). x.degree) c.requires.second.degree))
-        (omega arith) c.places-at-end.ensures.enough)
+    (omega arith) c.places-at-end.ensures.enough)
     (c.loop-at.invariant e f i j)

@@ -13,11 +13,11 @@ returns-in_ok-push c =
     let σ : Sig = side_sig c.args.side.now in
     let old : List Sig = map arc_value c.args.found.now.items in
     let pushed : map arc_value c.push.new.self.items ≡ old ++ σ ∷ [] =
-        ap (map arc_value) c.in_ok-push.ensures.items
-        ∙ (map-append arc_value c.args.found.now.items (c.in_ok-new.field-0 ∷ [])
-          ∙ ap (λ ρ. old ++ ρ ∷ []) (c.in_ok-new.ensures.ok ∙ c.in_ok-sig.ensures)) in
+    ap (map arc_value) c.in_ok-push.ensures.items
+    ∙ (map-append arc_value c.args.found.now.items (c.in_ok-new.field-0 ∷ [])
+    ∙ ap (λ ρ. old ++ ρ ∷ []) (c.in_ok-new.ensures.ok ∙ c.in_ok-sig.ensures)) in
     subst (AddsAmbiguities c.args.problem.now.problem (λ ρ. ρ ≡ monomial_of σ) old) (sym pushed)
     (adds_one c.args.problem.now.problem old σ
-          (multiple_degree c.args.problem.now.problem.setting c.args.side.now.left.now
-            c.args.side.now.right.now c.args.side.now.sig.now c.requires.over.degree)
-          (c.is_within.ensures.0 c.if-is_within.true))
+    (multiple_degree c.args.problem.now.problem.setting c.args.side.now.left.now
+    c.args.side.now.right.now c.args.side.now.sig.now c.requires.over.degree)
+    (c.is_within.ensures.0 c.if-is_within.true))

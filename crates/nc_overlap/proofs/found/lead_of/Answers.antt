@@ -21,7 +21,7 @@ returns-clause-lead c d =
     let e : Entry = entry_of c.entry-entry.result.now in
     let sig : c.deref.result.now ≡ c.entry-entry.result.now.sig = c.deref.ensures ∙ c.sig.ensures in
     subst (IsLedBy s (record { word = c.letters.result; sig = c.deref.result }))
-        (sym (get_or_from_slice_get x.state.entries (c.args.n - 1) e d c.entry-entry.ensures.entry))
+    (sym (get_or_from_slice_get x.state.entries (c.args.n - 1) e d c.entry-entry.ensures.entry))
     (record {
       lead = leads x c.recall_rule.ensures.snapshot (c.args.n - 1) e c.entry-entry.ensures.entry
           c.in-Some.term.now c.in-Some.ensures.some.0
@@ -38,5 +38,5 @@ returns-clause-over c =
       generator =
           subst (λ (σ : Sig). IsGenerator s σ.generator) (sym sig)
           (over c.args.snapshot.now c.recall_rule.ensures.snapshot (c.args.n - 1)
-            (entry_of c.entry-entry.result.now) c.entry-entry.ensures.entry);
+          (entry_of c.entry-entry.result.now) c.entry-entry.ensures.entry);
     }

@@ -11,31 +11,35 @@ use Rattle.nc_overlap.proofs.meeting.greater_side.Goals as goal
 pub returns-then-ne-clause-greater : goal.returns-then-ne-clause-greater
 returns-then-ne-clause-greater c s e f h j a b =
     apart s e f c.args.first.now.sig.now c.args.second.now.sig.now c.args.first.now.word.now
-        c.args.second.now.word.now c.args.at c.min-shared.result a.lead a.signed b.lead b.signed
-        c.requires
+    c.args.second.now.word.now c.args.at c.min-shared.result a.lead a.signed b.lead b.signed
+    c.requires
     c.split_at.result.1.now c.split_at-2.result.0.now c.split_at-3.result.0.now
-        c.split_at.ensures.back c.min-shared.ensures c.split_at-2.ensures.front
-        c.split_at-3.ensures.front
+    c.split_at.ensures.back c.min-shared.ensures c.split_at-2.ensures.front
+    c.split_at-3.ensures.front
     (words_differ c.split_at-2.result.0.now c.split_at-3.result.0.now c.ne.result c.ne.ensures
-          c.if-ne.true)
+    c.if-ne.true)
 
 pub returns-clause-greater : goal.returns-clause-greater
 returns-clause-greater c s e f h j a b =
     let v : Word = c.args.second.now.word.now in
     let some : 0 < c.args.at + length v =
-        elim c.else-at-eq0.branch [ else-at-eq0-via-then-at-eq0+else-is_empty w ↦ omega (arith,
-            not_empty v w.is_empty.result w.is_empty.ensures w.if-is_empty.false) |
-          else-at-eq0-via-else-at-eq0 w ↦ omega (arith, w.if-at-eq0.false) ] in
+    elim c.else-at-eq0.branch [
+      | else-at-eq0-via-then-at-eq0+else-is_empty w ↦ omega (
+        arith,
+        not_empty v w.is_empty.result w.is_empty.ensures w.if-is_empty.false,
+      )
+      | else-at-eq0-via-else-at-eq0 w ↦ omega (arith, w.if-at-eq0.false)
+    ] in
     meets s e f c.args.first.now.sig.now c.args.second.now.sig.now c.args.first.now.word.now v
-        c.args.at c.min-shared.result a.lead a.signed b.lead b.signed c.requires
+    c.args.at c.min-shared.result a.lead a.signed b.lead b.signed c.requires
     c.split_at.result.1.now c.split_at-2.result.0.now c.split_at-3.result.0.now
-        c.split_at.ensures.back c.min-shared.ensures c.split_at-2.ensures.front
-        c.split_at-3.ensures.front
+    c.split_at.ensures.back c.min-shared.ensures c.split_at-2.ensures.front
+    c.split_at-3.ensures.front
     c.split_at.result.0.now c.split_at-2.result.1.now c.split_at-3.result.1.now
-        c.split_at.ensures.front c.split_at-2.ensures.back c.split_at-3.ensures.back
+    c.split_at.ensures.front c.split_at-2.ensures.back c.split_at-3.ensures.back
     (words_same c.split_at-2.result.0.now c.split_at-3.result.0.now c.ne.result c.ne.ensures
-          c.if-ne.false)
+    c.if-ne.false)
     some (option_map (λ x. monomial_of (side_sig x)) c.greater.result)
     (c.greater.ensures.greater s (multiple_degree s [] c.split_at-3.result.1.now
-            c.args.first.now.sig.now h) (multiple_degree s c.split_at.result.0.now
-            c.split_at-2.result.1.now c.args.second.now.sig.now j))
+    c.args.first.now.sig.now h) (multiple_degree s c.split_at.result.0.now
+    c.split_at-2.result.1.now c.args.second.now.sig.now j))

@@ -4,9 +4,12 @@ use Rattle.nc_poly.proofs.collect.carry.Goals as goal
 
 pub loop-at-init : goal.loop-at-init
 loop-at-init c =
-    record { residues = c.requires;
-      long = refl; carried = λ l. carried_begins c.args.p c.args.terms.now.items
-      (omega (arith, l, c.args.terms.now.ok.0)) }
+    record {
+      residues = c.requires;
+      long = refl;
+      carried = λ l. carried_begins c.args.p c.args.terms.now.items
+          (omega (arith, l, c.args.terms.now.ok.0));
+    }
 
 pub loop-at-preserved : goal.loop-at-preserved
 loop-at-preserved c = record {

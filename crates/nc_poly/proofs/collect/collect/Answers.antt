@@ -14,10 +14,10 @@ carry-requires c =
 pub returns-clause-normal : goal.returns-clause-normal
 returns-clause-normal c =
     c.drop_zeros.ensures ∙ (ap (filter has_coefficient) c.carry.ensures.carried
-      ∙ collected_is c.args.p c.args.terms.now.items c.sort_by_word.new.terms.items c.requires
-      c.sort_by_word.ensures.permutation c.sort_by_word.ensures.falling)
+    ∙ collected_is c.args.p c.args.terms.now.items c.sort_by_word.new.terms.items c.requires
+    c.sort_by_word.ensures.permutation c.sort_by_word.ensures.falling)
 
 pub returns-clause-residues : goal.returns-clause-residues
 returns-clause-residues c =
     rw c.drop_zeros.ensures (All-filter has_coefficient (λ t. t.coefficient < c.args.p) _
-      c.carry.ensures.residues)
+    c.carry.ensures.residues)

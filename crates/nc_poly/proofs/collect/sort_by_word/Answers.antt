@@ -7,4 +7,4 @@ pub returns-clause-falling : goal.returns-clause-falling
 returns-clause-falling c =
     falls_from_sorted c.sort_unstable_by.new.self.items
     (c.sort_unstable_by.ensures.sorted is_before before_order
-      (answers_always _ _ _ (λ f a r g h. search rules)))
+    (answers_always _ _ _ (λ f a r g h. search rules)))

@@ -8,6 +8,6 @@ pub add-requires-clause-first : goal.add-requires-clause-first
 add-requires-clause-first g c =
     subst (λ (s : Slot). s.now < c.args.p)
     (sym (c.or_insert-slot.ensures.value ∙ ap₂ (λ (o : Option Slot) (d : Slot). unwrap_or o d)
-        c.in_ok-map.ensures.value c.fresh.ensures))
+    c.in_ok-map.ensures.value c.fresh.ensures))
     (slot_residue g.met.K.Ord.total c.args.p c.args.pass c.args.key c.args.c c.args.map.now.entries
-      (omega arith) c.requires.residues)
+    (omega arith) c.requires.residues)

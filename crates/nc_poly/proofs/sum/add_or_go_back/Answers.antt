@@ -16,17 +16,17 @@ pub returns-in-Err-clause-residues : goal.returns-in-Err-clause-residues
 returns-in-Err-clause-residues g c =
     subst (AreResiduesBy c.args.p)
     (sym (c.drop_zeros-in-Err.ensures.terms
-        ∙ (c.go_back.ensures.terms ∙ (c.add_each.ensures.before
-            ∙ begun c.args.pass c.args.map.now.entries c.requires.stamps)))) c.requires.residues
+    ∙ (c.go_back.ensures.terms ∙ (c.add_each.ensures.before
+    ∙ begun c.args.pass c.args.map.now.entries c.requires.stamps)))) c.requires.residues
 
 pub returns-in-Err-clause-stamps : goal.returns-in-Err-clause-stamps
 returns-in-Err-clause-stamps g c =
     c.drop_zeros-in-Err.ensures.stamps c.args.pass
     (c.go_back.ensures.stamps (c.add_each.ensures.stamps
-        (stamps_weaker c.args.pass c.args.map.now.entries c.requires.stamps)))
+    (stamps_weaker c.args.pass c.args.map.now.entries c.requires.stamps)))
 
 pub returns-in-Err-clause-err : goal.returns-in-Err-clause-err
 returns-in-Err-clause-err g c =
     c.drop_zeros-in-Err.ensures.terms
     ∙ (c.go_back.ensures.terms ∙ (c.add_each.ensures.before
-        ∙ begun c.args.pass c.args.map.now.entries c.requires.stamps))
+    ∙ begun c.args.pass c.args.map.now.entries c.requires.stamps))

@@ -8,8 +8,8 @@ loop-map-preserved-in-loop-map g c =
     let new = c.pop_last.new.self.entries in
     let last = c.loop-map-test.ensures.yes refl in
     let popped =
-        given _ c.pop_last.result (c.pop_last.ensures.variant.1
-          (some_pushed old last.0 last.1 last.2)) c.pop_last.ensures.removal in
+    given _ c.pop_last.result (c.pop_last.ensures.variant.1
+    (some_pushed old last.0 last.1 last.2)) c.pop_last.ensures.removal in
     record {
       terms = dropped_last old new last.0 popped.0 last.1 popped.2 last.2 last.3
           ∙ c.loop-map.invariant.terms;

@@ -5,10 +5,13 @@ use Rattle.nc_poly.proofs.sum.ends_in_zero.Goals as goal
 pub returns-in-Some-clause-yes : goal.returns-in-Some-clause-yes
 returns-in-Some-clause-yes g c zero =
     let parts =
-        split_last c.args.map.now.entries (c.in-Some.field-0-0.now, c.in-Some.slot.now)
-        c.in-Some.ensures.last in
-    (parts.0, (c.in-Some.field-0-0.now, c.in-Some.slot.now), parts.1,
-          eqb-true c.in-Some.slot.now.now 0 zero)
+    split_last c.args.map.now.entries (c.in-Some.field-0-0.now, c.in-Some.slot.now)
+    c.in-Some.ensures.last in (
+      parts.0,
+      (c.in-Some.field-0-0.now, c.in-Some.slot.now),
+      parts.1,
+      eqb-true c.in-Some.slot.now.now 0 zero,
+    )
 
 pub returns-in-Some-clause-no : goal.returns-in-Some-clause-no
 returns-in-Some-clause-no g c other front e is =

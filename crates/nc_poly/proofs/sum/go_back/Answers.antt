@@ -14,6 +14,6 @@ pub returns-clause-stamps : goal.returns-clause-stamps
 returns-clause-stamps g c a =
     All-from_recursion (λ e. e.1.pass ≤ c.args.pass) c.retain.new.self.entries
     (retained_all _ (λ f. f.0.now ≡ c.args.pass) (λ s. s.pass ≤ c.args.pass)
-      (λ s. s.pass ≤ c.args.pass) (λ f k v b w f' i t. search rules) _ c.args.map.now.entries
-      c.retain.new.self.entries refl c.retain.ensures.filtered
-      (recursion_from_All (λ e. e.1.pass ≤ c.args.pass) c.args.map.now.entries a))
+    (λ s. s.pass ≤ c.args.pass) (λ f k v b w f' i t. search rules) _ c.args.map.now.entries
+    c.retain.new.self.entries refl c.retain.ensures.filtered
+    (recursion_from_All (λ e. e.1.pass ≤ c.args.pass) c.args.map.now.entries a))

@@ -13,6 +13,6 @@ pub returns-clause-stamps : goal.returns-clause-stamps
 returns-clause-stamps g c =
     All-from_recursion (λ e. e.1.pass < 1) c.retain.new.self.entries
     (retained_all _ (λ f. Unit {0}) (λ s. s.pass ≤ c.args.pass) (λ s. s.pass < 1)
-      (λ f k v b w f' i t. search rules) _ c.args.map.now.entries c.retain.new.self.entries tt
-      c.retain.ensures.filtered (recursion_from_All (λ e. e.1.pass ≤ c.args.pass)
-        c.args.map.now.entries c.requires))
+    (λ f k v b w f' i t. search rules) _ c.args.map.now.entries c.retain.new.self.entries tt
+    c.retain.ensures.filtered (recursion_from_All (λ e. e.1.pass ≤ c.args.pass)
+    c.args.map.now.entries c.requires))

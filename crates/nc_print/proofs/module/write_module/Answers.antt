@@ -8,21 +8,21 @@ use Rattle.nc_print.proofs.module.write_module.Goals as goal
 pub write_term-requires-clause-left : goal.write_term-requires-clause-left
 write_term-requires-clause-left c =
     All-head (λ (t : Term Sig). All (λ x. x.index < length c.args.names.now) t.key.left) _ _
-        (All-same (λ (t : Term Sig). All (λ x. x.index < length c.args.names.now) t.key.left) _ _
-          (sym (sym c.terms.ensures.terms ∙ c.in-Some.ensures.cases.0)) c.requires.left)
+    (All-same (λ (t : Term Sig). All (λ x. x.index < length c.args.names.now) t.key.left) _ _
+    (sym (sym c.terms.ensures.terms ∙ c.in-Some.ensures.cases.0)) c.requires.left)
 
 pub write_term-requires-clause-right : goal.write_term-requires-clause-right
 write_term-requires-clause-right c =
     All-head (λ (t : Term Sig). All (λ x. x.index < length c.args.names.now) t.key.right) _ _
-        (All-same (λ (t : Term Sig). All (λ x. x.index < length c.args.names.now) t.key.right) _ _
-          (sym (sym c.terms.ensures.terms ∙ c.in-Some.ensures.cases.0)) c.requires.right)
+    (All-same (λ (t : Term Sig). All (λ x. x.index < length c.args.names.now) t.key.right) _ _
+    (sym (sym c.terms.ensures.terms ∙ c.in-Some.ensures.cases.0)) c.requires.right)
 
 pub write_others-requires-clause-left : goal.write_others-requires-clause-left
 write_others-requires-clause-left c =
     All-rest (λ (t : Term Sig). All (λ x. x.index < length c.args.names.now) t.key.left) _ _ _
-        (sym c.terms.ensures.terms ∙ c.in-Some.ensures.cases.0) c.requires.left
+    (sym c.terms.ensures.terms ∙ c.in-Some.ensures.cases.0) c.requires.left
 
 pub write_others-requires-clause-right : goal.write_others-requires-clause-right
 write_others-requires-clause-right c =
     All-rest (λ (t : Term Sig). All (λ x. x.index < length c.args.names.now) t.key.right) _ _ _
-        (sym c.terms.ensures.terms ∙ c.in-Some.ensures.cases.0) c.requires.right
+    (sym c.terms.ensures.terms ∙ c.in-Some.ensures.cases.0) c.requires.right

@@ -5,8 +5,8 @@ use Rattle.nc_print.proofs.terms.write_each.Goals as goal
 pub loop-t-preserved : goal.loop-t-preserved
 loop-t-preserved c =
     written_more (bare_line c.args.names.now) c.args.terms.now c.loop-t.t-index c.t-item.result
-        c.args.out.now.items c.loop-t.out.items _ (omega arith) c.t-item.is c.loop-t.invariant
-        c.in_ok-write_term.ensures
+    c.args.out.now.items c.loop-t.out.items _ (omega arith) c.t-item.is c.loop-t.invariant
+    c.in_ok-write_term.ensures
 
 pub returns : goal.returns
 returns c =

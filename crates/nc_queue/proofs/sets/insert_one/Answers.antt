@@ -13,9 +13,9 @@ returns-clause-added c =
     λ τ. with_one sigs_order sigs_same c.args.sig.value τ (map arc_value c.args.kept.now.keys)
     (map arc_value c.insert.new.self.keys)
     (sym (any_map arc_value (λ y. is_eq (compare_sigs τ y)) c.insert.new.self.keys)
-      ∙ (c.in_ok-insert.ensures.updates.0 (arc_with_value c.args.sig τ)
-        ∙ ap (cond (is_eq (compare_sigs c.args.sig.value τ)) true)
-        (any_map arc_value (λ y. is_eq (compare_sigs τ y)) c.args.kept.now.keys)))
+    ∙ (c.in_ok-insert.ensures.updates.0 (arc_with_value c.args.sig τ)
+    ∙ ap (cond (is_eq (compare_sigs c.args.sig.value τ)) true)
+    (any_map arc_value (λ y. is_eq (compare_sigs τ y)) c.args.kept.now.keys)))
 
 pub returns-clause-ascending : goal.returns-clause-ascending
 returns-clause-ascending c =

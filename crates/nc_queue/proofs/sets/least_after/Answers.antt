@@ -11,5 +11,5 @@ returns c =
     c.range.result c.next.new.self c.next.result
     (sorted_map arc_value compare_sigs c.args.kept.now.keys c.range.ensures.ordered)
     (ap (map arc_value) (c.range.ensures.between tt)
-      ∙ map_filter arc_value (is_after c.args.sig.now.value) c.args.kept.now.keys)
+    ∙ map_filter arc_value (is_after c.args.sig.now.value) c.args.kept.now.keys)
     c.next.ensures.steps

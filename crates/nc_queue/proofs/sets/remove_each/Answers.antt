@@ -17,4 +17,4 @@ loop-sig-preserved c = record {
 pub returns-clause-rest : goal.returns-clause-rest
 returns-clause-rest c =
     subst (λ xs. IsDifference (map arc_value c.args.kept.now.keys) (map arc_value xs)
-      (map arc_value c.loop-sig.kept.keys)) (take_all _ _ (omega arith)) c.loop-sig.invariant.rest
+    (map arc_value c.loop-sig.kept.keys)) (take_all _ _ (omega arith)) c.loop-sig.invariant.rest

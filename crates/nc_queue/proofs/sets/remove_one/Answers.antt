@@ -13,9 +13,9 @@ returns-clause-rest c =
     λ τ. without_one sigs_order sigs_same c.args.sig.now.value τ
     (map arc_value c.args.kept.now.keys) (map arc_value c.remove.new.self.keys)
     (sym (any_map arc_value (λ y. is_eq (compare_sigs τ y)) c.remove.new.self.keys)
-      ∙ (c.remove.ensures.updates.0 (arc_with_value c.args.sig.now τ)
-        ∙ ap (cond (is_eq (compare_sigs c.args.sig.now.value τ)) false)
-        (any_map arc_value (λ y. is_eq (compare_sigs τ y)) c.args.kept.now.keys)))
+    ∙ (c.remove.ensures.updates.0 (arc_with_value c.args.sig.now τ)
+    ∙ ap (cond (is_eq (compare_sigs c.args.sig.now.value τ)) false)
+    (any_map arc_value (λ y. is_eq (compare_sigs τ y)) c.args.kept.now.keys)))
 
 pub returns-clause-ascending : goal.returns-clause-ascending
 returns-clause-ascending c =

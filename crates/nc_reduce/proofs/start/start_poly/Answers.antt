@@ -11,33 +11,35 @@ use Rattle.nc_reduce.proofs.start.start_poly.Goals as goal
 pub shifted-requires : goal.shifted-requires
 shifted-requires c =
     let readable : IsReadable c.args.snapshot.now.problem.problem.setting
-        c.args.snapshot.now.state.entries
-        (start_of (Multiple c.in-Multiple.left c.in-Multiple.number c.in-Multiple.right)) =
+    c.args.snapshot.now.state.entries
+    (start_of (Multiple c.in-Multiple.left c.in-Multiple.number c.in-Multiple.right)) =
     subst (λ (x : Start). IsReadable c.args.snapshot.now.problem.problem.setting
-          c.args.snapshot.now.state.entries (start_of x)) c.in-Multiple.is c.requires in
+    c.args.snapshot.now.state.entries (start_of x)) c.in-Multiple.is c.requires in
     let read : polynomial_of c.args.snapshot.now.state.entries c.in-Multiple.number
-        ≡ c.poly-f.result.now =
-        polynomial_at c.args.snapshot.now.state.entries c.in-Multiple.number
-        (entry_of c.entry.result.now) readable.0 c.entry.ensures.entry ∙ sym c.poly-f.ensures in
-    record { few = rw (c.letters.ensures.letters, c.letters-in-Multiple.ensures.letters, ← read)
-          readable.2 }
+    ≡ c.poly-f.result.now =
+    polynomial_at c.args.snapshot.now.state.entries c.in-Multiple.number
+    (entry_of c.entry.result.now) readable.0 c.entry.ensures.entry ∙ sym c.poly-f.ensures in
+    record {
+      few = rw (c.letters.ensures.letters, c.letters-in-Multiple.ensures.letters, ← read)
+          readable.2;
+    }
 
 pub returns-in-Multiple : goal.returns-in-Multiple
 returns-in-Multiple c =
     let readable : IsReadable c.args.snapshot.now.problem.problem.setting
-        c.args.snapshot.now.state.entries
-        (start_of (Multiple c.in-Multiple.left c.in-Multiple.number c.in-Multiple.right)) =
+    c.args.snapshot.now.state.entries
+    (start_of (Multiple c.in-Multiple.left c.in-Multiple.number c.in-Multiple.right)) =
     subst (λ (x : Start). IsReadable c.args.snapshot.now.problem.problem.setting
-          c.args.snapshot.now.state.entries (start_of x)) c.in-Multiple.is c.requires in
+    c.args.snapshot.now.state.entries (start_of x)) c.in-Multiple.is c.requires in
     let read : polynomial_of c.args.snapshot.now.state.entries c.in-Multiple.number
-        ≡ c.poly-f.result.now =
-        polynomial_at c.args.snapshot.now.state.entries c.in-Multiple.number
-        (entry_of c.entry.result.now) readable.0 c.entry.ensures.entry ∙ sym c.poly-f.ensures in
+    ≡ c.poly-f.result.now =
+    polynomial_at c.args.snapshot.now.state.entries c.in-Multiple.number
+    (entry_of c.entry.result.now) readable.0 c.entry.ensures.entry ∙ sym c.poly-f.ensures in
     let shifted : polynomial_times c.letters.result.now c.poly-f.result.now
-        c.letters-in-Multiple.result.now ≡ start_polynomial
-        c.args.snapshot.now.problem.problem.setting c.args.snapshot.now.state.entries
-        (start_of c.args.start.now) =
+    c.letters-in-Multiple.result.now ≡ start_polynomial
+    c.args.snapshot.now.problem.problem.setting c.args.snapshot.now.state.entries
+    (start_of c.args.start.now) =
     rw (c.letters.ensures.letters, c.letters-in-Multiple.ensures.letters, ← read)
-        (ap (λ (x : Start). start_polynomial c.args.snapshot.now.problem.problem.setting
-            c.args.snapshot.now.state.entries (start_of x)) (sym c.in-Multiple.is)) in
+    (ap (λ (x : Start). start_polynomial c.args.snapshot.now.problem.problem.setting
+    c.args.snapshot.now.state.entries (start_of x)) (sym c.in-Multiple.is)) in
     subst (λ g. IfOk c.shifted.result (λ f. f ≡ g)) shifted c.shifted.ensures

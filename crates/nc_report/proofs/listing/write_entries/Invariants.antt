@@ -11,4 +11,4 @@ invariant-loop-index l =
     (run : State) → IsRunAt l.snapshot run
     → l.out.items ≡ l.initial.out.items
     ++ ended (numbered (entry_lines (kind_of l.shown) l.snapshot.problem.alphabet.names
-        (labels_in l.shown)) 1 (take l.index run.entries))
+    (labels_in l.shown)) 1 (take l.index run.entries))

@@ -12,13 +12,13 @@ pub returns : goal.returns
 returns c =
     on_ok_weaker c.write_shown.result (λ f run e a at.
     behind c.args.out.now.items c.write_syzygy.new.out.items c.write_shown.new.out.items
-        (syzygy_line c.args.snapshot.now.problem.alphabet.names c.args.n e)
+    (syzygy_line c.args.snapshot.now.problem.alphabet.names c.args.n e)
     (cofactor_lines (kind_of c.args.shown.now) c.args.snapshot.now.problem.alphabet.names e.trace
-          (labels_in c.args.shown.now (ItemOf c.args.n)))
+    (labels_in c.args.shown.now (ItemOf c.args.n)))
     (subst (λ (names : List (List ℕ)). c.write_syzygy.new.out.items ≡ c.args.out.now.items
-            ++ (syzygy_line names c.args.n e ++ 10 ∷ [])) c.names_of-names.ensures
+    ++ (syzygy_line names c.args.n e ++ 10 ∷ [])) c.names_of-names.ensures
     (subst (λ (x : Syzygy). c.write_syzygy.new.out.items ≡ c.args.out.now.items
-            ++ (syzygy_line c.names_of-names.result.now c.args.n x ++ 10 ∷ []))
-          (sym (syzygy_alike c.args.snapshot.now c.recall_rule.ensures.snapshot run a (c.args.n - 1)
-              e _ at c.syzygy_at.ensures.syzygy)) c.in_ok-write_syzygy.ensures))
+    ++ (syzygy_line c.names_of-names.result.now c.args.n x ++ 10 ∷ []))
+    (sym (syzygy_alike c.args.snapshot.now c.recall_rule.ensures.snapshot run a (c.args.n - 1)
+    e _ at c.syzygy_at.ensures.syzygy)) c.in_ok-write_syzygy.ensures))
     (f run e.trace a (e, c.requires.some, at, refl))) c.write_shown.ensures

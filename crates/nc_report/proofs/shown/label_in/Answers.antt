@@ -22,9 +22,14 @@ returns-in-Syzygy-clause-left c =
     c.args.syzygies.now c.requires.labels c.in-Syzygy.k c.index-syzygies-k.result
     (subst (IsListed c.args.snapshot.now.state) c.in-Syzygy.is c.requires.listed).0
     (slice_get_read c.args.syzygies.now _ (c.in-Syzygy.k - 1) c.index-syzygies-k.result refl
-      (omega (arith, (subst (IsListed c.args.snapshot.now.state) c.in-Syzygy.is
-            c.requires.listed).0, (subst (IsListed c.args.snapshot.now.state) c.in-Syzygy.is
-            c.requires.listed).1, c.requires.labels.each_syzygy)) c.index-syzygies-k.is)
+    (omega (
+      arith,
+      (subst (IsListed c.args.snapshot.now.state) c.in-Syzygy.is
+          c.requires.listed).0,
+      (subst (IsListed c.args.snapshot.now.state) c.in-Syzygy.is
+          c.requires.listed).1,
+      c.requires.labels.each_syzygy,
+    )) c.index-syzygies-k.is)
 
 pub returns-in-Syzygy-clause-right : goal.returns-in-Syzygy-clause-right
 returns-in-Syzygy-clause-right c =
@@ -32,6 +37,11 @@ returns-in-Syzygy-clause-right c =
     c.args.syzygies.now c.requires.labels c.in-Syzygy.k c.index-syzygies-k.result
     (subst (IsListed c.args.snapshot.now.state) c.in-Syzygy.is c.requires.listed).0
     (slice_get_read c.args.syzygies.now _ (c.in-Syzygy.k - 1) c.index-syzygies-k.result refl
-      (omega (arith, (subst (IsListed c.args.snapshot.now.state) c.in-Syzygy.is
-            c.requires.listed).0, (subst (IsListed c.args.snapshot.now.state) c.in-Syzygy.is
-            c.requires.listed).1, c.requires.labels.each_syzygy)) c.index-syzygies-k.is)
+    (omega (
+      arith,
+      (subst (IsListed c.args.snapshot.now.state) c.in-Syzygy.is
+          c.requires.listed).0,
+      (subst (IsListed c.args.snapshot.now.state) c.in-Syzygy.is
+          c.requires.listed).1,
+      c.requires.labels.each_syzygy,
+    )) c.index-syzygies-k.is)

@@ -11,18 +11,18 @@ pub returns-in-Traces : goal.returns-in-Traces
 returns-in-Traces c =
     on_ok_weaker c.write_trace_line.result (λ f run t a is.
     subst (λ (x : Shown). c.write_trace_line.new.out.items ≡ c.args.out.now.items
-          ++ ended (cofactor_lines (kind_of x) c.args.snapshot.now.problem.alphabet.names t
-            (labels_in x c.args.listed))) (sym c.in-Traces.is) (f run t [] a is))
-      c.write_trace_line.ensures
+    ++ ended (cofactor_lines (kind_of x) c.args.snapshot.now.problem.alphabet.names t
+    (labels_in x c.args.listed))) (sym c.in-Traces.is) (f run t [] a is))
+    c.write_trace_line.ensures
 
 pub returns-in-Labelled : goal.returns-in-Labelled
 returns-in-Labelled c =
     on_ok_weaker c.write_label_line.result (λ f run t a is.
     subst (λ (x : Shown). c.write_label_line.new.out.items ≡ c.args.out.now.items
-          ++ ended (cofactor_lines (kind_of x) c.args.snapshot.now.problem.alphabet.names t
-            (labels_in x c.args.listed))) (sym c.in-Labelled.is)
+    ++ ended (cofactor_lines (kind_of x) c.args.snapshot.now.problem.alphabet.names t
+    (labels_in x c.args.listed))) (sym c.in-Labelled.is)
     (f t ∙ (λ j. c.args.out.now.items
-            ++ ended (cofactor_lines Full (c.names_of.ensures j) t
-              ((c.label_in-label.ensures.label
-                ∙ ap (λ hs. label_among c.in-Labelled.entries hs c.args.listed)
-                c.deref.ensures.value) j))))) c.write_label_line.ensures
+    ++ ended (cofactor_lines Full (c.names_of.ensures j) t
+    ((c.label_in-label.ensures.label
+    ∙ ap (λ hs. label_among c.in-Labelled.entries hs c.args.listed)
+    c.deref.ensures.value) j))))) c.write_label_line.ensures

@@ -9,8 +9,8 @@ use Rattle.std.proofs.lemmas.Result.{err_from_is_err_and}
 pub terms-init : goal.terms-init
 terms-init c =
     rw c.empty-line.ensures (begin
-      (all_terms c.args.setting.now.setting.prime c.args.setting.now.alphabet
-        (length c.args.setting.now.setting.generators)) 0 _)
+    (all_terms c.args.setting.now.setting.prime c.args.setting.now.alphabet
+    (length c.args.setting.now.setting.generators)) 0 _)
 
 pub returns-in_err-part : goal.returns-in_err-part
 returns-in_err-part c =
@@ -18,7 +18,7 @@ returns-in_err-part c =
     let read = at_gives (λ (q : Part). q) _ _ _ _ c.at.ensures c.term_of.ensures in
     let s = c.args.setting.now in
     rw (p.1, p.2) (fails _ _ _ (are_lines s.setting.prime s.alphabet (length s.setting.generators))
-          _ _ _ _ _ _ c.in-Some.ensures (rw c.in_err-part.was at read) c.terms.invariant)
+    _ _ _ _ _ _ c.in-Some.ensures (rw c.in_err-part.was at read) c.terms.invariant)
 
 pub terms-smaller : goal.terms-smaller
 terms-smaller c = fewer _ _ _ c.in-Some.ensures
@@ -28,12 +28,12 @@ terms-preserved c =
     let read = at_gives (λ (q : Part). q) _ _ _ _ c.at.ensures c.term_of.ensures in
     let s = c.args.setting.now in
     rw c.in_ok-push.ensures.added (goes_on _ _ _
-          (are_lines s.setting.prime s.alphabet (length s.setting.generators)) _ _ _ _ _ _
-          c.in-Some.ensures (rw c.in_ok-part.was at read) c.terms.invariant)
+    (are_lines s.setting.prime s.alphabet (length s.setting.generators)) _ _ _ _ _ _
+    c.in-Some.ensures (rw c.in_ok-part.was at read) c.terms.invariant)
 
 pub returns : goal.returns
 returns c =
     let s = c.args.setting.now in
     ends _ _ _ (are_lines s.setting.prime s.alphabet (length s.setting.generators)) _ _ _ _
-        c.in_default.ensures.0 c.terms.invariant
+    c.in_default.ensures.0 c.terms.invariant
     ∙ ap (λ w. Ok (c.terms.line, w)) (sym c.in_default.ensures.1)

@@ -9,9 +9,9 @@ use Rattle.std.proofs.Common.{length}
 abbrev pub invariant-terms : goal.invariant-terms
 invariant-terms l =
     IsOnTheWay (all_terms l.setting.setting.prime l.setting.alphabet
-      (length l.setting.setting.generators)) l.line 0 (left l.text)
+    (length l.setting.setting.generators)) l.line 0 (left l.text)
     (term_lines l.setting.setting.prime l.setting.alphabet (length l.setting.setting.generators)
-          (left l.fn.text))
+    (left l.fn.text))
 
 abbrev pub decreases-terms : goal.decreases-terms
 decreases-terms l = lines_left (left l.text)

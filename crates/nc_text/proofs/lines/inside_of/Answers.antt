@@ -10,7 +10,7 @@ pub returns-in-Generator-clause-value : goal.returns-in-Generator-clause-value
 returns-in-Generator-clause-value c =
     let s = c.args.setting.now.setting in
     let g : IsGenerator s c.in-Generator.i =
-        subst (λ (o : Of). IsFactor s (length c.args.reaches.now) (factor_of o)) c.in-Generator.is
-        c.requires.factor in
+    subst (λ (o : Of). IsFactor s (length c.args.reaches.now) (factor_of o)) c.in-Generator.is
+    c.requires.factor in
     generator_reach s c.in-Generator.i c.args.longest.now c.requires.generators g
-        ∙ sym (ap (λ (o : Of). factor_reach s c.args.reaches.now (factor_of o)) c.in-Generator.is)
+    ∙ sym (ap (λ (o : Of). factor_reach s c.args.reaches.now (factor_of o)) c.in-Generator.is)

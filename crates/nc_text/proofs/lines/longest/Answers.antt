@@ -10,13 +10,13 @@ pub terms-preserved : goal.terms-preserved
 terms-preserved c =
     let f : Polynomial = c.args.f.now in
     let within =
-        subst (λ (g : Polynomial). c.terms.t-index < length g) c.terms-t-items.ensures.terms
-        c.terms-test.true in
+    subst (λ (g : Polynomial). c.terms.t-index < length g) c.terms-t-items.ensures.terms
+    c.terms-test.true in
     let is =
-        c.t-item.is ∙ ap (λ (g : Polynomial). get_or g c.terms.t-index c.t-item.result)
-        c.terms-t-items.ensures.terms in
+    c.t-item.is ∙ ap (λ (g : Polynomial). get_or g c.terms.t-index c.t-item.result)
+    c.terms-t-items.ensures.terms in
     c.max-most.ensures ∙ ap (λ (w : List _). max (length w) c.terms.most) c.letters.ensures.letters
-        ∙ longest_more f c.terms.t-index c.t-item.result c.terms.most within is c.terms.invariant
+    ∙ longest_more f c.terms.t-index c.t-item.result c.terms.most within is c.terms.invariant
 
 pub returns : goal.returns
 returns c =

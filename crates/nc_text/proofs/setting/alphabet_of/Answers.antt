@@ -8,5 +8,5 @@ pub of-requires : goal.of-requires
 of-requires c =
     is_alphabet _ _ _ _ _ c.in_ok-names.ensures.reads
     (subst (λ (names : List (List ℕ)). weights_line (length names) (left c.letters_line.new.text)
-        ≡ Ok (c.in_ok-weights.weights.items, left c.weights_line.new.text)) c.as_slice.ensures.value
-      c.in_ok-weights.ensures)
+    ≡ Ok (c.in_ok-weights.weights.items, left c.weights_line.new.text)) c.as_slice.ensures.value
+    c.in_ok-weights.ensures)

@@ -4,7 +4,8 @@ use Rattle.nc_theory.proofs.Windows.{own_work}
 use Rattle.nc_theory.proofs.desks.own_work_stands.Goals as goal
 
 pub returns : goal.returns
-returns c P prime capacity events d plays τ n w ready e =
-    (own_work P capacity (field_from_prime P.problem.setting.prime prime) plays τ n w ready e,
-      λ u d' a. ready_commits P.problem a u τ n w ready
-      (own_work P capacity (field_from_prime P.problem.setting.prime prime) plays τ n w ready e))
+returns c P prime capacity events d plays τ n w ready e = (
+  own_work P capacity (field_from_prime P.problem.setting.prime prime) plays τ n w ready e,
+  λ u d' a. ready_commits P.problem a u τ n w ready
+      (own_work P capacity (field_from_prime P.problem.setting.prime prime) plays τ n w ready e),
+)

@@ -7,11 +7,16 @@ use Rattle.nc_theory.proofs.runs.closure_theorem.Goals as goal
 
 pub returns : goal.returns
 returns c s prime state sound = (
-  (λ b closed. (basis_below s field state sound (IsWithinBound s b) (bound_down s b) (λ σ w. w.0)
-          closed, syzygies_below s field state sound (IsWithinBound s b) (bound_down s b)
-          (λ σ w. w.0) closed)),
-  (λ β closed. (basis_below s field state sound (IsUnder s β) (under_down s β) (λ σ w. w.0) closed,
-          syzygies_below s field state sound (IsUnder s β) (under_down s β) (λ σ w. w.0) closed)),
+  (λ b closed. (
+    basis_below s field state sound (IsWithinBound s b) (bound_down s b) (λ σ w. w.0)
+        closed,
+    syzygies_below s field state sound (IsWithinBound s b) (bound_down s b)
+        (λ σ w. w.0) closed,
+  )),
+  (λ β closed. (
+    basis_below s field state sound (IsUnder s β) (under_down s β) (λ σ w. w.0) closed,
+    syzygies_below s field state sound (IsUnder s β) (under_down s β) (λ σ w. w.0) closed,
+  )),
 )
   where
     field : IsField s.prime

@@ -22,7 +22,8 @@ entry_limited P field run e k = go ((invariant P field run).sound.entries e k)
     go (α, l) = labelled_limited P.setting e.signature e.polynomial α l
 
 pub returns : goal.returns
-returns c P prime n state last run =
-    (entry_limited P (field_from_prime P.setting.prime prime) run,
-      limited P.setting (field_from_prime P.setting.prime prime) state.entries
-      (invariant P (field_from_prime P.setting.prime prime) run).sound.entries)
+returns c P prime n state last run = (
+  entry_limited P (field_from_prime P.setting.prime prime) run,
+  limited P.setting (field_from_prime P.setting.prime prime) state.entries
+      (invariant P (field_from_prime P.setting.prime prime) run).sound.entries,
+)

@@ -8,10 +8,14 @@ use Rattle.nc_theory.proofs.runs.items_are_reached.Goals as goal
 
 pub returns : goal.returns
 returns c P prime n state last run = (
-  (λ e k. ((invariant P field run).within e k,
-          λ τ a. reached_less P last e.signature τ ((invariant P field run).below_last e k) a)),
-  (λ h k. (syzygies_are P (IsWithin P) (λ k before since r σ d. d.0) run h k,
-          λ τ a. reached_less P last h.signature τ ((rebuilt P field run).reached h k) a)),
+  (λ e k. (
+    (invariant P field run).within e k,
+    λ τ a. reached_less P last e.signature τ ((invariant P field run).below_last e k) a,
+  )),
+  (λ h k. (
+    syzygies_are P (IsWithin P) (λ k before since r σ d. d.0) run h k,
+    λ τ a. reached_less P last h.signature τ ((rebuilt P field run).reached h k) a,
+  )),
 )
   where
     field : IsField P.setting.prime

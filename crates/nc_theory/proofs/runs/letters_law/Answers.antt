@@ -10,7 +10,7 @@ returns c P prime letters inputs n state last run = (
   run_over P field letters inputs run,
   syzygies_are P (λ σ. IsOver letters σ.left × IsOver letters σ.right)
       (λ k before since r. candidate_over P field letters inputs before
-        (invariant P field r).sound.nonzero (run_over P field letters inputs r)) run,
+      (invariant P field r).sound.nonzero (run_over P field letters inputs r)) run,
   candidate_over P field letters inputs state (invariant P field run).sound.nonzero
       (run_over P field letters inputs run),
   divisor_over P.setting letters inputs state.entries (invariant P field run).sound.nonzero

@@ -19,17 +19,21 @@ forth : (P : Problem) → IsField P.setting.prime → {n : ℕ} {state : State}
     → HasRepresentation P.setting (IsWithin P) f
 forth P field {state = state} (IsEnd.is_complete l run none) {f} {rest} reduction e =
     go (representation P.setting field state (invariant P field run).sound (IsWithin P)
-      (within_down P) reduction)
+    (within_down P) reduction)
   where
     go : (α : Element) × IsIn P.setting α (IsWithin P)
         × ((y : Word) → coefficient f y % P.setting.prime
-          ≡ (coefficient (evaluation P.setting α) y + coefficient rest y) % P.setting.prime)
+        ≡ (coefficient (evaluation P.setting α) y + coefficient rest y) % P.setting.prime)
         → HasRepresentation P.setting (IsWithin P) f
-    go (α, lies, value) =
-        (α, lies, record { at = λ y. sym (value y
-              ∙ ap (λ n. n % P.setting.prime)
-              (ap (λ g. coefficient (evaluation P.setting α) y + coefficient g y) e ∙ omega arith))
-            })
+    go (α, lies, value) = (
+      α,
+      lies,
+      record {
+        at = λ y. sym (value y
+            ∙ ap (λ n. n % P.setting.prime)
+            (ap (λ g. coefficient (evaluation P.setting α) y + coefficient g y) e ∙ omega arith));
+      },
+    )
 
 back : (P : Problem) → IsField P.setting.prime → {n : ℕ} {state : State}
     → IsEnd P n state End.complete → {f rest : Polynomial} {steps : List Step}
@@ -40,6 +44,7 @@ back P field {state = state} (IsEnd.is_complete l run none) reduction has =
     (enough_at_end P field run none).0 reduction has
 
 pub returns : goal.returns
-returns c P prime n state end f rest steps reduction =
-    (forth P (field_from_prime P.setting.prime prime) end reduction,
-      back P (field_from_prime P.setting.prime prime) end reduction)
+returns c P prime n state end f rest steps reduction = (
+  forth P (field_from_prime P.setting.prime prime) end reduction,
+  back P (field_from_prime P.setting.prime prime) end reduction,
+)

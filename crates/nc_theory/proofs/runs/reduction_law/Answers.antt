@@ -46,12 +46,13 @@ once P field {state = state} run set dec = record {
   where
     same : (w : Word) (d e : Divisor P.setting state.entries w) → (d.listed.0 ≡ e.listed.0)
         × (d.left ≡ e.left) → (number_of P.setting state.entries w d ≡ number_of P.setting
-          state.entries w e) × (d.left ≡ e.left) × (d.right ≡ e.right)
+        state.entries w e) × (d.left ≡ e.left) × (d.right ≡ e.right)
     same w d e (k, l) =
         (ap (λ n. n + 1) k, l, (parts_same P.setting field state.entries w d e k l).1)
 
 pub returns : goal.returns
-returns c P prime n state last run =
-    (λ τ. once P (field_from_prime P.setting.prime prime) run (λ σ. IsLess P.setting σ τ)
+returns c P prime n state last run = (
+  λ τ. once P (field_from_prime P.setting.prime prime) run (λ σ. IsLess P.setting σ τ)
       (λ σ. less_dec P.setting σ τ),
-      once P (field_from_prime P.setting.prime prime) run (IsWithin P) (within_dec P state))
+  once P (field_from_prime P.setting.prime prime) run (IsWithin P) (within_dec P state),
+)

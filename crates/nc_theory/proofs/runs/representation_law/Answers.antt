@@ -22,18 +22,22 @@ both : (P : Problem) → IsField P.setting.prime → {n : ℕ} {state : State} {
     → Reduction P.setting state.entries (IsWithin P) f rest steps
     → IsIn P.setting (step_multiples (labels_of P.setting.prime state.entries) steps) (IsWithin P)
     × SamePolynomial P.setting (evaluation P.setting
-      (step_multiples (labels_of P.setting.prime state.entries) steps) ++ rest) f
-both P field {state = state} run {f} {rest} {steps} r =
-    (t.0, record { at = λ y. ap (λ m. m % P.setting.prime)
+    (step_multiples (labels_of P.setting.prime state.entries) steps) ++ rest) f
+both P field {state = state} run {f} {rest} {steps} r = (
+  t.0,
+  record {
+    at = λ y. ap (λ m. m % P.setting.prime)
         (linear_sum-append (is_at same_word y)
-          (evaluation P.setting (step_multiples (labels_of P.setting.prime state.entries) steps))
-          rest) ∙ sym (t.1 y) })
+        (evaluation P.setting (step_multiples (labels_of P.setting.prime state.entries) steps))
+        rest) ∙ sym (t.1 y);
+  },
+)
   where
     t : IsIn P.setting (step_multiples (labels_of P.setting.prime state.entries) steps) (IsWithin P)
         × ((y : Word) → coefficient f y % P.setting.prime
-          ≡ (coefficient (evaluation P.setting
-              (step_multiples (labels_of P.setting.prime state.entries) steps)) y + coefficient rest
-            y) % P.setting.prime)
+        ≡ (coefficient (evaluation P.setting
+        (step_multiples (labels_of P.setting.prime state.entries) steps)) y + coefficient rest
+        y) % P.setting.prime)
     t = represents P.setting field state (invariant P field run).sound (IsWithin P) (within_down P)
         (labels_of P.setting.prime state.entries) (labels_hold P field run).entries r
 

@@ -21,15 +21,21 @@ leading_differ P field run e e' k k' l i =
     (invariant P field run).clear e' k' (leading P.setting.prime e'.polynomial)
     (lead_leads P.setting.prime e'.polynomial ((invariant P field run).sound.nonzero e' k')).nonzero
     (record {
-  divisor =
-      record { entry = e; listed = k;
-        left = []; right = []; spells = append-nil (leading P.setting.prime e.polynomial) ∙ i };
-  below = subst (λ σ. IsLess P.setting σ e'.signature) (sym (whole_multiple e.signature))
-      ((rebuilt P field run).entries_ascend e e' k k' l);
-})
+      divisor =
+          record {
+            entry = e;
+            listed = k;
+            left = [];
+            right = [];
+            spells = append-nil (leading P.setting.prime e.polynomial) ∙ i;
+          };
+      below = subst (λ σ. IsLess P.setting σ e'.signature) (sym (whole_multiple e.signature))
+          ((rebuilt P field run).entries_ascend e e' k k' l);
+    })
 
 pub returns : goal.returns
-returns c P prime n state last run =
-    ((rebuilt P (field_from_prime P.setting.prime prime) run).entries_ascend,
-      (rebuilt P (field_from_prime P.setting.prime prime) run).syzygies_ascend,
-      leading_differ P (field_from_prime P.setting.prime prime) run)
+returns c P prime n state last run = (
+  (rebuilt P (field_from_prime P.setting.prime prime) run).entries_ascend,
+  (rebuilt P (field_from_prime P.setting.prime prime) run).syzygies_ascend,
+  leading_differ P (field_from_prime P.setting.prime prime) run,
+)

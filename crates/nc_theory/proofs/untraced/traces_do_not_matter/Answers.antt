@@ -15,8 +15,10 @@ use Rattle.nc_theory.proofs.untraced.traces_do_not_matter.Goals as goal
 same_searches : (s : Setting) (state run : State) → SameStates state run → SameSearches s state run
 same_searches s state run same = record {
   divisors =
-      λ w d. (moved s state.entries run.entries es w d,
-        moved_same s state.entries run.entries es w d);
+      λ w d. (
+        moved s state.entries run.entries es w d,
+        moved_same s state.entries run.entries es w d,
+      );
   divisors_back = λ w d. (moved s run.entries state.entries (sym es) w d, back_same d);
   signatures = λ w d d' k. same_signature s state.entries run.entries w d d' k;
   chosen = λ τ w d d' k. (
@@ -30,34 +32,48 @@ same_searches s state run same = record {
         (other_side s state.entries run.entries w d d' k),
   );
   multiples =
-      λ τ w m. (moved_multiple s state.entries run.entries es τ w m,
-        moved_same s state.entries run.entries es w m.divisor);
+      λ τ w m. (
+        moved_multiple s state.entries run.entries es τ w m,
+        moved_same s state.entries run.entries es w m.divisor,
+      );
   multiples_back =
       λ τ w m. (moved_multiple s run.entries state.entries (sym es) τ w m, back_same m.divisor);
   regular =
-      λ τ w r. (moved_regular s state.entries run.entries es τ w r,
-        moved_same s state.entries run.entries es w r.divisor);
+      λ τ w r. (
+        moved_regular s state.entries run.entries es τ w r,
+        moved_same s state.entries run.entries es w r.divisor,
+      );
   regular_back =
       λ τ w r. (moved_regular s run.entries state.entries (sym es) τ w r, back_same r.divisor);
   reductions =
-      λ τ f kept steps. (moved_reduction s state.entries run.entries es (λ σ. IsLess s σ τ),
-        moved_reduction s run.entries state.entries (sym es) (λ σ. IsLess s σ τ));
+      λ τ f kept steps. (
+        moved_reduction s state.entries run.entries es (λ σ. IsLess s σ τ),
+        moved_reduction s run.entries state.entries (sym es) (λ σ. IsLess s σ τ),
+      );
   covered = λ τ. (moved_covered s state run same τ, moved_covered s run state (sym same) τ);
   handles = λ τ o. (moved_handles s state run same τ o, moved_handles s run state (sym same) τ o);
   ambiguities =
-      λ ρ w. (moved_ambiguity s state.entries run.entries es ρ w,
-        moved_ambiguity s run.entries state.entries (sym es) ρ w);
+      λ ρ w. (
+        moved_ambiguity s state.entries run.entries es ρ w,
+        moved_ambiguity s run.entries state.entries (sym es) ρ w,
+      );
   new_ambiguities =
-      λ new ρ. (moved_new s state.entries run.entries (untraced_entry new) new es refl ρ,
-        moved_new s run.entries state.entries new (untraced_entry new) (sym es) refl ρ);
+      λ new ρ. (
+        moved_new s state.entries run.entries (untraced_entry new) new es refl ρ,
+        moved_new s run.entries state.entries new (untraced_entry new) (sym es) refl ρ,
+      );
   brings =
       λ τ o ρ. (moved_brings s state run same τ o ρ, moved_brings s run state (sym same) τ o ρ);
   after = λ τ o. same_after state run same τ o;
-  bases = λ b. (moved_bases s state run same (IsWithinBound s b),
-        moved_bases s run state (sym same) (IsWithinBound s b));
+  bases = λ b. (
+    moved_bases s state run same (IsWithinBound s b),
+    moved_bases s run state (sym same) (IsWithinBound s b),
+  );
   bases_under =
-      λ β. (moved_bases s state run same (IsUnder s β),
-        moved_bases s run state (sym same) (IsUnder s β));
+      λ β. (
+        moved_bases s state run same (IsUnder s β),
+        moved_bases s run state (sym same) (IsUnder s β),
+      );
   canonical = (moved_canonical s state run same, moved_canonical s run state (sym same));
 }
   where
@@ -80,11 +96,15 @@ same_candidates P state run same = record {
         (other_side P.setting state.entries run.entries w d d' k),
   );
   reductions =
-      λ f kept steps. (moved_reduction P.setting state.entries run.entries es (IsWithin P),
-        moved_reduction P.setting run.entries state.entries (sym es) (IsWithin P));
+      λ f kept steps. (
+        moved_reduction P.setting state.entries run.entries es (IsWithin P),
+        moved_reduction P.setting run.entries state.entries (sym es) (IsWithin P),
+      );
   candidates = λ τ. (moved_candidate P state run same τ, moved_candidate P run state (sym same) τ);
-  waits = λ last τ. (λ c. (moved_candidate P state run same τ c.0, c.1),
-        λ c. (moved_candidate P run state (sym same) τ c.0, c.1));
+  waits = λ last τ. (
+    λ c. (moved_candidate P state run same τ c.0, c.1),
+    λ c. (moved_candidate P run state (sym same) τ c.0, c.1),
+  );
   none = λ last. (moved_none P state run same last, moved_none P run state (sym same) last);
   next = λ last τ. (moved_next P state run same last τ, moved_next P run state (sym same) last τ);
   bases = λ e. (moved_bases_at P state run same e, moved_bases_at P run state (sym same) e);
@@ -94,6 +114,7 @@ same_candidates P state run same = record {
     es = same_entries state run same
 
 pub returns : goal.returns
-returns c run =
-    (λ s. same_searches s (untraced run) run (untraced_twice run),
-      λ P. same_candidates P (untraced run) run (untraced_twice run))
+returns c run = (
+  λ s. same_searches s (untraced run) run (untraced_twice run),
+  λ P. same_candidates P (untraced run) run (untraced_twice run),
+)

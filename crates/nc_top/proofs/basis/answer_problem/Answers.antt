@@ -12,28 +12,28 @@ pub returns-in-Ok : goal.returns-in-Ok
 returns-in-Ok c =
     IfOk-weaker c.answer_run.result _ _ (λ r told.
     answer_at c.in_ok-finished.finished.snapshot
-        (subst IsSnapshot c.snapshot-snapshot.ensures.snapshot c.recall_rule-2.ensures.snapshot)
-        c.args.options c.args.bytes.now c.args.problem c.requires.text
-        c.in_ok-finished.ensures.problem c.in_ok-finished.finished.ending
-        c.in_ok-finished.ensures.ended
+    (subst IsSnapshot c.snapshot-snapshot.ensures.snapshot c.recall_rule-2.ensures.snapshot)
+    c.args.options c.args.bytes.now c.args.problem c.requires.text
+    c.in_ok-finished.ensures.problem c.in_ok-finished.finished.ending
+    c.in_ok-finished.ensures.ended
     c.in-Ok.shown (subst (λ (s : Snapshot). IsShownOf s c.in-Ok.shown)
-          c.snapshot-snapshot.ensures.snapshot c.in-Ok.ensures.shown) c.in-Ok.ensures.kind
+    c.snapshot-snapshot.ensures.snapshot c.in-Ok.ensures.shown) c.in-Ok.ensures.kind
     (subst (λ (s : Snapshot). (run : State) → IsRunAt s run
-            → AreShort c.args.options s.problem.problem.setting run)
-          c.snapshot-snapshot.ensures.snapshot c.in-Ok.ensures.short) r.0 r.1.items told.0 told.1)
-      c.answer_run.ensures
+    → AreShort c.args.options s.problem.problem.setting run)
+    c.snapshot-snapshot.ensures.snapshot c.in-Ok.ensures.short) r.0 r.1.items told.0 told.1)
+    c.answer_run.ensures
 
 pub returns-in-Err-TooMany : goal.returns-in-Err-TooMany
 returns-in-Err-TooMany c =
     many_at c.in_ok-finished.finished.snapshot
-        (subst IsSnapshot c.snapshot-snapshot.ensures.snapshot c.recall_rule-2.ensures.snapshot)
-        c.args.options c.args.bytes.now c.args.problem c.requires.text
-        c.in_ok-finished.ensures.problem c.in_ok-finished.finished.ending
-        c.in_ok-finished.ensures.ended
+    (subst IsSnapshot c.snapshot-snapshot.ensures.snapshot c.recall_rule-2.ensures.snapshot)
+    c.args.options c.args.bytes.now c.args.problem c.requires.text
+    c.in_ok-finished.ensures.problem c.in_ok-finished.finished.ending
+    c.in_ok-finished.ensures.ended
     c.in-Err-TooMany.listed c.in-Err-TooMany.terms
-        c.in_ok-too_many_report-in-Err-TooMany.field-0.items c.in-Err-TooMany.ensures.full
+    c.in_ok-too_many_report-in-Err-TooMany.field-0.items c.in-Err-TooMany.ensures.full
     (subst (λ (f : CofactorFault). FailsToShow c.in_ok-finished.finished.snapshot
-            c.args.options.limit f) c.in-Err-TooMany.field-0-is
+    c.args.options.limit f) c.in-Err-TooMany.field-0-is
     (subst (λ (s : Snapshot). FailsToShow s c.args.options.limit c.in-Err-TooMany.field-0)
-          c.snapshot-snapshot.ensures.snapshot c.in-Err-TooMany.ensures.fault))
-      c.in_ok-too_many_report-in-Err-TooMany.ensures
+    c.snapshot-snapshot.ensures.snapshot c.in-Err-TooMany.ensures.fault))
+    c.in_ok-too_many_report-in-Err-TooMany.ensures

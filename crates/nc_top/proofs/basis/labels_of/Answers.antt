@@ -9,21 +9,21 @@ pub returns-in-Err-clause-fault : goal.returns-in-Err-clause-fault
 returns-in-Err-clause-fault c =
     subst (λ (n : ℕ). FailsToShow c.args.snapshot.now n c.in-Err.fault) c.from-limit.ensures
     (entry_fault c.args.snapshot.now c.recall_rule.ensures.snapshot c.from-limit.result
-      c.in-Err.fault c.in-Err.ensures.fault)
+    c.in-Err.fault c.in-Err.ensures.fault)
 
 pub returns-in-Ok-syzygies-clause-short : goal.returns-in-Ok-syzygies-clause-short
 returns-in-Ok-syzygies-clause-short c =
     subst (λ (n : ℕ). (run : State) → IsRunAt c.args.snapshot.now run
-          → AllWithin c.args.snapshot.now.problem.problem.setting.prime run n) c.from-limit.ensures
+    → AllWithin c.args.snapshot.now.problem.problem.setting.prime run n) c.from-limit.ensures
     (all_short c.args.snapshot.now c.recall_rule.ensures.snapshot c.from-limit.result
-          c.in-Ok.entries c.in-Ok.ensures.labels c.in-Ok.ensures.all c.in-Ok.ensures.few
-          c.in-Ok-syzygies.syzygies.items c.in-Ok-syzygies.ensures.labels
-          c.in-Ok-syzygies.ensures.all c.in-Ok-syzygies.ensures.few)
+    c.in-Ok.entries c.in-Ok.ensures.labels c.in-Ok.ensures.all c.in-Ok.ensures.few
+    c.in-Ok-syzygies.syzygies.items c.in-Ok-syzygies.ensures.labels
+    c.in-Ok-syzygies.ensures.all c.in-Ok-syzygies.ensures.few)
 
 pub returns-in-Err-syzygies-clause-fault : goal.returns-in-Err-syzygies-clause-fault
 returns-in-Err-syzygies-clause-fault c =
     subst (λ (n : ℕ). FailsToShow c.args.snapshot.now n c.in-Err-syzygies.fault)
-        c.from-limit.ensures
+    c.from-limit.ensures
     (syzygy_fault c.args.snapshot.now c.recall_rule.ensures.snapshot c.from-limit.result
-          c.in-Ok.entries c.in-Ok.ensures.labels c.in-Ok.ensures.all c.in-Ok.ensures.few
-          c.in-Err-syzygies.fault c.in-Err-syzygies.ensures.fault)
+    c.in-Ok.entries c.in-Ok.ensures.labels c.in-Ok.ensures.all c.in-Ok.ensures.few
+    c.in-Err-syzygies.fault c.in-Err-syzygies.ensures.fault)

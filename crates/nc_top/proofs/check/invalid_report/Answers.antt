@@ -9,11 +9,11 @@ pub write_poly-requires : goal.write_poly-requires
 write_poly-requires c =
     let whole : Certificate = c.args.certificate.now in
     let names =
-        c.names.ensures.names ∙ ap (λ (d : Certificate). d.setting.alphabet.names)
-        c.certificate.view_is in
+    c.names.ensures.names ∙ ap (λ (d : Certificate). d.setting.alphabet.names)
+    c.certificate.view_is in
     subst (λ (ns : List (List ℕ)). All (λ t. All (λ x. x.index < length ns) t.key) c.args.rest.now)
-        (sym names)
+    (sym names)
     (subst (λ (f : Polynomial). All
-            (λ t. All (λ x. x.index < length whole.setting.alphabet.names) t.key) f)
-          (sym c.requires) (rest_named whole
-            (subst IsCertificate c.certificate.view_is c.certificate.invariant)))
+    (λ t. All (λ x. x.index < length whole.setting.alphabet.names) t.key) f)
+    (sym c.requires) (rest_named whole
+    (subst IsCertificate c.certificate.view_is c.certificate.invariant)))

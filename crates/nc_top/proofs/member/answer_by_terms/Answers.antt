@@ -22,15 +22,15 @@ pub returns-in_ok-too_many_report-in-Err-TooMany : goal.returns-in_ok-too_many_r
 returns-in_ok-too_many_report-in-Err-TooMany c =
     as_too_many c.args.options c.args.bytes.now _ _ _ c.requires.form (
     many_at c.args.finished.now.snapshot
-        (subst IsSnapshot c.snapshot-snapshot.ensures.snapshot c.recall_rule.ensures.snapshot)
-        c.args.finished.now.ending c.snapshot-snapshot.ensures.ended c.args.bytes.now
-        c.args.claim.now c.requires.text
+    (subst IsSnapshot c.snapshot-snapshot.ensures.snapshot c.recall_rule.ensures.snapshot)
+    c.args.finished.now.ending c.snapshot-snapshot.ensures.ended c.args.bytes.now
+    c.args.claim.now c.requires.text
     c.args.options.limit _ _ c.in_ok-too_many_report-in-Err-TooMany.field-0.items
     (subst₂ (λ (l : Listed) (n : ℕ). FailsToAnswer c.args.finished.now c.args.claim.now
-            c.args.options.limit (TooMany l n)) (sym c.in-Err-TooMany.listed-is)
-          (sym c.in-Err-TooMany.terms-is)
+    c.args.options.limit (TooMany l n)) (sym c.in-Err-TooMany.listed-is)
+    (sym c.in-Err-TooMany.terms-is)
     (subst (λ (f : CofactorFault). FailsToAnswer c.args.finished.now c.args.claim.now
-            c.args.options.limit f) c.in-Err-TooMany.field-0-is
+    c.args.options.limit f) c.in-Err-TooMany.field-0-is
     (subst (λ (n : ℕ). FailsToAnswer c.args.finished.now c.args.claim.now n
-            c.in-Err-TooMany.field-0) c.from-limit.ensures c.in-Err-TooMany.ensures.fault)))
+    c.in-Err-TooMany.field-0) c.from-limit.ensures c.in-Err-TooMany.ensures.fault)))
     c.in_ok-too_many_report-in-Err-TooMany.ensures)

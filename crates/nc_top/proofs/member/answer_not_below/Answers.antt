@@ -6,18 +6,18 @@ use Rattle.nc_top.proofs.member.answer_not_below.Goals as goal
 pub not_below_report-requires : goal.not_below_report-requires
 not_below_report-requires c =
     unrepresented_names c.args.finished.now.snapshot
-        (subst IsSnapshot c.snapshot-snapshot.ensures.snapshot c.recall_rule.ensures.snapshot)
-        c.args.finished.now.ending c.snapshot-snapshot.ensures.ended c.args.bytes.now
-        c.args.claim.now c.requires.text
+    (subst IsSnapshot c.snapshot-snapshot.ensures.snapshot c.recall_rule.ensures.snapshot)
+    c.args.finished.now.ending c.snapshot-snapshot.ensures.ended c.args.bytes.now
+    c.args.claim.now c.requires.text
     c.names_of.result.now (c.names_of.ensures ∙ ap (λ (s : Snapshot). s.problem.alphabet.names)
-          c.snapshot-snapshot.ensures.snapshot) c.args.rest.now c.requires.rest
+    c.snapshot-snapshot.ensures.snapshot) c.args.rest.now c.requires.rest
 
 pub returns : goal.returns
 returns c =
     not_below_at c.args.finished.now.snapshot
-        (subst IsSnapshot c.snapshot-snapshot.ensures.snapshot c.recall_rule.ensures.snapshot)
-        c.args.finished.now.ending c.snapshot-snapshot.ensures.ended c.args.bytes.now
-        c.args.claim.now c.requires.text
+    (subst IsSnapshot c.snapshot-snapshot.ensures.snapshot c.recall_rule.ensures.snapshot)
+    c.args.finished.now.ending c.snapshot-snapshot.ensures.ended c.args.bytes.now
+    c.args.claim.now c.requires.text
     c.names_of.result.now (c.names_of.ensures ∙ ap (λ (s : Snapshot). s.problem.alphabet.names)
-          c.snapshot-snapshot.ensures.snapshot) c.args.rest.now c.in_ok-report.report.items
-        c.requires.rest c.in_ok-report.ensures
+    c.snapshot-snapshot.ensures.snapshot) c.args.rest.now c.in_ok-report.report.items
+    c.requires.rest c.in_ok-report.ensures

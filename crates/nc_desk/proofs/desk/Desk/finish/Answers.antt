@@ -13,10 +13,12 @@ of-requires c = record {
   ends = budget_end c.self.inside.snapshot c.recall_rule.ensures.snapshot c.self.inside.waiting
       c.self.invariant.left c.take_least.ensures.ascending c.in-Some.sig.value c.take_least.new.self
       c.in-Some.ensures.taken
-      (λ l. c.requires.ended (subst (λ (d : DeskValue). MayStep d.snapshot) c.self.view_is
-              (one_waits c.self.inside.snapshot c.recall_rule.ensures.snapshot c.self.inside.waiting
-                c.self.invariant.left c.take_least.ensures.ascending c.in-Some.sig.value
-                c.take_least.new.self c.in-Some.ensures.taken, l)));
+      (λ l. c.requires.ended (subst (λ (d : DeskValue). MayStep d.snapshot) c.self.view_is (
+        one_waits c.self.inside.snapshot c.recall_rule.ensures.snapshot c.self.inside.waiting
+            c.self.invariant.left c.take_least.ensures.ascending c.in-Some.sig.value
+            c.take_least.new.self c.in-Some.ensures.taken,
+        l,
+      )));
   degree =
       least_degree c.self.inside.snapshot c.recall_rule.ensures.snapshot c.self.inside.waiting
       c.self.invariant.left c.take_least.ensures.ascending c.in-Some.sig.value c.take_least.new.self
@@ -34,14 +36,16 @@ of-requires-in-None c = record {
 pub returns-in-Some-clause-bases : goal.returns-in-Some-clause-bases
 returns-in-Some-clause-bases c =
     subst (λ (f : Finished). HasBasesAt f.snapshot.problem.problem f.snapshot.state f.ending)
-        (sym c.of.ensures)
+    (sym c.of.ensures)
     (budget_bases c.self.inside.snapshot c.recall_rule.ensures.snapshot c.self.inside.waiting
+    c.self.invariant.left c.take_least.ensures.ascending c.in-Some.sig.value
+    c.take_least.new.self c.in-Some.ensures.taken
+    (λ l. c.requires.ended (subst (λ (d : DeskValue). MayStep d.snapshot) c.self.view_is (
+      one_waits c.self.inside.snapshot c.recall_rule.ensures.snapshot c.self.inside.waiting
           c.self.invariant.left c.take_least.ensures.ascending c.in-Some.sig.value
-          c.take_least.new.self c.in-Some.ensures.taken
-    (λ l. c.requires.ended (subst (λ (d : DeskValue). MayStep d.snapshot) c.self.view_is
-            (one_waits c.self.inside.snapshot c.recall_rule.ensures.snapshot c.self.inside.waiting
-              c.self.invariant.left c.take_least.ensures.ascending c.in-Some.sig.value
-              c.take_least.new.self c.in-Some.ensures.taken, l))))
+          c.take_least.new.self c.in-Some.ensures.taken,
+      l,
+    ))))
 
 pub returns-in-Some-clause-canonical : goal.returns-in-Some-clause-canonical
 returns-in-Some-clause-canonical c =
@@ -51,12 +55,12 @@ returns-in-Some-clause-canonical c =
 pub returns-clause-bases : goal.returns-clause-bases
 returns-clause-bases c =
     subst (λ (f : Finished). HasBasesAt f.snapshot.problem.problem f.snapshot.state f.ending)
-        (sym c.of-in-None.ensures)
+    (sym c.of-in-None.ensures)
     (complete_bases c.self.inside.snapshot c.recall_rule.ensures.snapshot c.self.inside.waiting
-          c.self.invariant.left (c.in-None.ensures.none.0 refl))
+    c.self.invariant.left (c.in-None.ensures.none.0 refl))
 
 pub returns-clause-canonical : goal.returns-clause-canonical
 returns-clause-canonical c =
     subst (λ (f : Finished). AreCanonical f.snapshot.problem.problem.setting f.snapshot.state)
     (sym c.of-in-None.ensures) (snapshot_canonical c.self.inside.snapshot
-      c.recall_rule.ensures.snapshot)
+    c.recall_rule.ensures.snapshot)

@@ -13,14 +13,20 @@ invariant_of-result c =
     let P : NamedProblem = c.args.problem.value in
     let first : Snapshot = record { problem = P; handled = 0; state = opening } in
     let units : (σ : Sig) → Contains c.in_ok-waiting.waiting σ ↔ IsUnitWithin P.problem σ =
-        subst (λ (Q : NamedProblem). (σ : Sig) → Contains c.in_ok-waiting.waiting σ
-          ↔ IsUnitWithin Q.problem σ) c.deref.ensures c.in_ok-waiting.ensures.units in
+    subst (λ (Q : NamedProblem). (σ : Sig) → Contains c.in_ok-waiting.waiting σ
+    ↔ IsUnitWithin Q.problem σ) c.deref.ensures c.in_ok-waiting.ensures.units in
     subst (λ (s : Snapshot). IsDesk s c.empty-2.result c.in_ok-waiting.waiting c.args.window)
-        (sym c.empty.ensures) (record {
+    (sym c.empty.ensures) (record {
       listed = c.empty-2.ensures;
-      left = record { last = None; run = record { run = opening;
-              runs = SequentialRun.opened; stands = refl };
-            exact = left_at_first P.problem c.in_ok-waiting.waiting units };
+      left = record {
+        last = None;
+        run = record {
+          run = opening;
+          runs = SequentialRun.opened;
+          stands = refl;
+        };
+        exact = left_at_first P.problem c.in_ok-waiting.waiting units;
+      };
       some = c.requires.some;
       few = c.requires.few;
     })

@@ -9,7 +9,7 @@ returns-then-contains-clause-fails c = (
     elim c.if-self-eq0.branch [
       | then-self-eq0 w ↦ inl (omega arith)
       | else-self-eq0 w ↦ inr (let yes : w.contains.result ≡ true = sym w.value-is
-            ∙ c.if-contains.true in search rules)
+          ∙ c.if-contains.true in search rules)
     ],
   )),
   (λ _. refl),

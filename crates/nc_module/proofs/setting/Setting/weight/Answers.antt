@@ -13,20 +13,24 @@ returns-clause-weight c =
     let s = c.args.self.now in
     let first = c.in-Some.ensures.some in
     let text =
-        subst (IsTextGenerator s.alphabet s.setting.prime) c.generator.ensures.generator
-        c.generator.ensures.text in
+    subst (IsTextGenerator s.alphabet s.setting.prime) c.generator.ensures.generator
+    c.generator.ensures.text in
     c.weight.ensures.weight ∙ (ap (λ (t : Term Word). word_weight t.key) c.term.view_is
-          ∙ sym (weight_first s c.args.i c.in-Some.term.now first.0 text
-            (sym c.generator.ensures.generator ∙ first.1)))
+    ∙ sym (weight_first s c.args.i c.in-Some.term.now first.0 text
+    (sym c.generator.ensures.generator ∙ first.1)))
 
 pub returns-clause-few : goal.returns-clause-few
 returns-clause-few c =
     let s = c.args.self.now in
     let first = c.in-Some.ensures.some in
     let text =
-        subst (IsTextGenerator s.alphabet s.setting.prime) c.generator.ensures.generator
-        c.generator.ensures.text in
+    subst (IsTextGenerator s.alphabet s.setting.prime) c.generator.ensures.generator
+    c.generator.ensures.text in
     let weight : c.weight.result ≡ word_weight c.in-Some.term.now.key =
-        c.weight.ensures.weight ∙ ap (λ (t : Term Word). word_weight t.key) c.term.view_is in
-    omega (arith, weight, first_is_short s c.args.i c.in-Some.term.now first.0
-          c.generator.ensures.setting text (sym c.generator.ensures.generator ∙ first.1))
+    c.weight.ensures.weight ∙ ap (λ (t : Term Word). word_weight t.key) c.term.view_is in
+    omega (
+      arith,
+      weight,
+      first_is_short s c.args.i c.in-Some.term.now first.0
+          c.generator.ensures.setting text (sym c.generator.ensures.generator ∙ first.1),
+    )

@@ -11,13 +11,13 @@ returns-in-Ok c =
     let f : Polynomial = c.as_slice-terms.result.now in
     let is : f ≡ c.args.self.now = c.as_slice-terms.ensures.value ∙ c.self.view_is in
     let falls : IsDescending f =
-        subst (λ (g : Polynomial). IsDescending g) (sym c.as_slice-terms.ensures.value)
-        c.self.invariant in
+    subst (λ (g : Polynomial). IsDescending g) (sym c.as_slice-terms.ensures.value)
+    c.self.invariant in
     let r : IsBinarySearchResult (beside w) f (Ok c.in-Ok.at) =
-        c.in-Ok.ensures.position (beside w) (always_returns_same _ _ _ (λ a r g h. search rules)) in
+    c.in-Ok.ensures.position (beside w) (always_returns_same _ _ _ (λ a r g h. search rules)) in
     ap (λ t. t.coefficient) c.term.view_is
-        ∙ (found w f falls c.in-Ok.at c.in-Ok.ensures.bound r c.index-terms-at.result
-          c.index-terms-at.is ∙ ap (λ (g : Polynomial). coefficient g w) is)
+    ∙ (found w f falls c.in-Ok.at c.in-Ok.ensures.bound r c.index-terms-at.result
+    c.index-terms-at.is ∙ ap (λ (g : Polynomial). coefficient g w) is)
 
 pub returns-in-Err : goal.returns-in-Err
 returns-in-Err c =
@@ -25,9 +25,9 @@ returns-in-Err c =
     let f : Polynomial = c.as_slice-terms.result.now in
     let is : f ≡ c.args.self.now = c.as_slice-terms.ensures.value ∙ c.self.view_is in
     let falls : IsDescending f =
-        subst (λ (g : Polynomial). IsDescending g) (sym c.as_slice-terms.ensures.value)
-        c.self.invariant in
+    subst (λ (g : Polynomial). IsDescending g) (sym c.as_slice-terms.ensures.value)
+    c.self.invariant in
     let r : IsBinarySearchResult (beside w) f (Err c.in-Err.field-0) =
-        c.in-Err.ensures.position (beside w)
-        (always_returns_same _ _ _ (λ a r g h. search rules)) in
+    c.in-Err.ensures.position (beside w)
+    (always_returns_same _ _ _ (λ a r g h. search rules)) in
     sym (missed w f falls c.in-Err.field-0 r) ∙ ap (λ (g : Polynomial). coefficient g w) is

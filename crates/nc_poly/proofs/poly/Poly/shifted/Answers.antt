@@ -10,9 +10,9 @@ invariant_of-result c =
     let v = c.args.v.now in
     let f : Polynomial = c.self.inside.kept.items in
     let is : c.push_shifted.new.out.items ≡ polynomial_times u f v =
-        c.in_ok-push_shifted.ensures.appended
-        ∙ (ap₂ (λ (a b : Polynomial). a ++ map (shifted_of u v) b) c.in_ok-kept.ensures.items
-          c.as_slice.ensures.value ∙ shifted_is u v f) in
+    c.in_ok-push_shifted.ensures.appended
+    ∙ (ap₂ (λ (a b : Polynomial). a ++ map (shifted_of u v) b) c.in_ok-kept.ensures.items
+    c.as_slice.ensures.value ∙ shifted_is u v f) in
     subst (λ (g : Polynomial). IsDescending g) (sym is) (shifted_descends u v f c.self.invariant)
 
 pub returns : goal.returns
@@ -21,6 +21,6 @@ returns c =
     let v = c.args.v.now in
     let f : Polynomial = c.self.inside.kept.items in
     c.in_ok-push_shifted.ensures.appended
-        ∙ (ap₂ (λ (a b : Polynomial). a ++ map (shifted_of u v) b) c.in_ok-kept.ensures.items
-          c.as_slice.ensures.value ∙ (shifted_is u v f
-            ∙ ap (λ (g : Polynomial). polynomial_times u g v) c.self.view_is))
+    ∙ (ap₂ (λ (a b : Polynomial). a ++ map (shifted_of u v) b) c.in_ok-kept.ensures.items
+    c.as_slice.ensures.value ∙ (shifted_is u v f
+    ∙ ap (λ (g : Polynomial). polynomial_times u g v) c.self.view_is))

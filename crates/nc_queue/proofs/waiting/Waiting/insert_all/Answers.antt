@@ -11,10 +11,10 @@ returns-in-Ok-clause-all c =
     let old : List Value = map arc_value c.self.inside.kept.keys in
     let new : List Value = map arc_value c.insert_each.new.kept.keys in
     let fresh : IsDifference more old (map arc_value c.as_slice.result.now) =
-        subst (λ xs. IsDifference more old (map arc_value xs)) (sym c.as_slice.ensures.value)
-        c.without-fresh.ensures in
+    subst (λ xs. IsDifference more old (map arc_value xs)) (sym c.as_slice.ensures.value)
+    c.without-fresh.ensures in
     subst (λ ss. IsUnion ss more new) c.self.view_is
-        (union_fresh old more (map arc_value c.as_slice.result.now) new fresh c.in-Ok.ensures.all)
+    (union_fresh old more (map arc_value c.as_slice.result.now) new fresh c.in-Ok.ensures.all)
 
 pub returns-clause-none : goal.returns-clause-none
 returns-clause-none c =
@@ -25,13 +25,13 @@ returns-clause-none c =
     let fresh : List Value = map arc_value c.as_slice-in-Err.result.now in
     let some = c.insert_each.ensures.some in
     let difference : IsDifference more old fresh =
-        subst (λ xs. IsDifference more old (map arc_value xs)) (sym c.as_slice-in-Err.ensures.value)
-        c.without-fresh.ensures in
+    subst (λ xs. IsDifference more old (map arc_value xs)) (sym c.as_slice-in-Err.ensures.value)
+    c.without-fresh.ensures in
     let among : (σ : Value) → Contains (map arc_value (take some.0 c.as_slice.result.now)) σ
-        → Contains fresh σ =
-        λ σ h. subst (λ xs. Contains (map arc_value xs) σ)
-        (c.as_slice.ensures.value ∙ sym c.as_slice-in-Err.ensures.value)
-        (first_ones arc_value some.0 c.as_slice.result.now σ h) in
+    → Contains fresh σ =
+    λ σ h. subst (λ xs. Contains (map arc_value xs) σ)
+    (c.as_slice.ensures.value ∙ sym c.as_slice-in-Err.ensures.value)
+    (first_ones arc_value some.0 c.as_slice.result.now σ h) in
     undone old more fresh (map arc_value (take some.0 c.as_slice.result.now)) mid new
-        c.self.invariant c.remove_each.ensures.ascending difference among some.1
-        c.remove_each.ensures.rest ∙ c.self.view_is
+    c.self.invariant c.remove_each.ensures.ascending difference among some.1
+    c.remove_each.ensures.rest ∙ c.self.view_is

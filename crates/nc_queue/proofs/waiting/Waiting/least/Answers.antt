@@ -8,4 +8,4 @@ pub returns-clause-least : goal.returns-clause-least
 returns-clause-least c =
     subst (λ l. IfSome c.first.result (λ s. (x : List Value) × (l ≡ arc_value s.now ∷ x)))
     c.self.view_is (first_map arc_value c.self.inside.kept.keys c.first.result
-      c.first.ensures.first)
+    c.first.ensures.first)

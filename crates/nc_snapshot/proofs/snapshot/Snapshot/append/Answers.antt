@@ -36,12 +36,15 @@ returns-clause-state c =
 
 pub returns-clause-canonical : goal.returns-clause-canonical
 returns-clause-canonical c =
-    snapshot_canonical (record { problem = c.self.inside.problem.value;
-            handled = c.self.inside.handled + 1; state = state_of c.add.new.self })
+    snapshot_canonical (record {
+      problem = c.self.inside.problem.value;
+      handled = c.self.inside.handled + 1;
+      state = state_of c.add.new.self;
+    })
     (added_stands c.self.inside.problem.value c.self.inside.handled c.self.inside.found
-          c.add.new.self c.args.sig.value c.args.outcome c.args.self.now c.self.view_is
-          c.self.invariant.0 c.self.invariant.1 c.requires.degree c.requires.next c.requires.steps
-          c.requires.outcome c.in_ok-add.ensures.added)
+    c.add.new.self c.args.sig.value c.args.outcome c.args.self.now c.self.view_is
+    c.self.invariant.0 c.self.invariant.1 c.requires.degree c.requires.next c.requires.steps
+    c.requires.outcome c.in_ok-add.ensures.added)
 
 pub returns-clause-ascent : goal.returns-clause-ascent
 returns-clause-ascent c =

@@ -9,8 +9,8 @@ returns-else-not-is_empty-2-clause-same c =
     let a : Word = c.args.self.now.first.now in
     let b : Word = c.args.self.now.second.now in
     let first : a ≡ [] =
-        no_length a (eqb-true (length a) 0 (sym c.is_empty.ensures ∙ c.if-not-is_empty.false)) in
+    no_length a (eqb-true (length a) 0 (sym c.is_empty.ensures ∙ c.if-not-is_empty.false)) in
     let second : b ≡ [] =
-        no_length b (eqb-true (length b) 0 (sym c.is_empty-else-not-is_empty.ensures
-            ∙ c.if-not-is_empty-2.false)) in
+    no_length b (eqb-true (length b) 0 (sym c.is_empty-else-not-is_empty.ensures
+    ∙ c.if-not-is_empty-2.false)) in
     c.of_word.ensures.word ∙ sym (ap₂ (λ x y. x ++ (y ++ c.args.self.now.third.now)) first second)

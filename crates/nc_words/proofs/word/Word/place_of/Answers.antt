@@ -6,16 +6,16 @@ pub returns-then-eq : goal.returns-then-eq
 returns-then-eq c =
     place_found c.args.factor.now c.args.word.now c.args.from c.loop-at.at c.loop-at.invariant.later
     c.loop-at.invariant.none (tested_occurs c.args.factor.now c.args.word.now c.loop-at.at
-      (c.loop-at.at + length c.args.factor.now - c.loop-at.at) c.eq.result (omega arith)
-      (omega arith) c.eq.ensures c.if-eq.true)
+    (c.loop-at.at + length c.args.factor.now - c.loop-at.at) c.eq.result (omega arith)
+    (omega arith) c.eq.ensures c.if-eq.true)
 
 pub loop-at-preserved : goal.loop-at-preserved
 loop-at-preserved c = record {
   later = omega arith;
   none = none_further c.args.factor.now c.args.word.now c.args.from c.loop-at.at
       c.loop-at.invariant.none (tested_apart c.args.factor.now c.args.word.now c.loop-at.at
-        (c.loop-at.at + length c.args.factor.now - c.loop-at.at) c.eq.result (omega arith)
-        c.eq.ensures c.if-eq.false);
+      (c.loop-at.at + length c.args.factor.now - c.loop-at.at) c.eq.result (omega arith)
+      c.eq.ensures c.if-eq.false);
 }
 
 pub returns : goal.returns
