@@ -5,7 +5,7 @@ pub mod Pieces
 pub mod Turns
 pub mod Walks
 pub mod Parses
-pub mod Fit
+pub mod Fitting
 pub mod Growing
 pub mod Caller
 pub mod Orders

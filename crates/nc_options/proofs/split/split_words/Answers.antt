@@ -5,7 +5,7 @@ use Rattle.nc_options.specs.Uses.{Use}
 use Rattle.nc_options.specs.Fit.{is_fit, are_fit_and_single}
 use Rattle.nc_options.specs.Commands.{command_for}
 use Rattle.clap.specs.declared.error.ErrorKind.TheVariants.{OutOfMemory}
-use Rattle.nc_options.proofs.Fit.{not_plain, plain_fit}
+use Rattle.nc_options.proofs.Fitting.{not_plain, plain_fit}
 use Rattle.nc_options.proofs.Caller.{after_first_word, taken, refused}
 use Rattle.clap.specs.Words.{app_of, found_of, kind_of, HasKind}
 use Rattle.clap.specs.Kinds.{Kinds, IsAmong}

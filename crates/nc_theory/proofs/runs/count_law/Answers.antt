@@ -1,5 +1,0 @@
-use Rattle.nc_theory.proofs.Counting.{counts}
-use Rattle.nc_theory.proofs.runs.count_law.Goals as goal
-
-pub returns : goal.returns
-returns c P n state last run = counts P run

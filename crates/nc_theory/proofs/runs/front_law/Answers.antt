@@ -1,6 +1,0 @@
-use Rattle.nc_theory.proofs.Rebuilding.{reduction_front, regular_front}
-use Rattle.nc_theory.proofs.runs.front_law.Goals as goal
-
-pub returns : goal.returns
-returns c s first rest τ others =
-    (regular_front s first rest τ others, reduction_front s first rest τ others)

@@ -1,5 +1,0 @@
-use Rattle.nc_theory.proofs.Ends.{next_exists}
-use Rattle.nc_theory.proofs.runs.runs_go_on.Goals as goal
-
-pub returns : goal.returns
-returns c P prime n state last run = next_exists P state last

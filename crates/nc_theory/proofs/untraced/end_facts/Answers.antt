@@ -1,5 +1,0 @@
-use Rattle.nc_theory.proofs.UntracedEnds.{end_facts}
-use Rattle.nc_theory.proofs.untraced.end_facts.Goals as goal
-
-pub returns : goal.returns
-returns c P prime n state ending e = end_facts P prime n state ending e
