@@ -13,7 +13,7 @@ use Rattle.nc_reduce.specs.Leads.{LeadsOf}
 use Rattle.nc_theory.specs.Untraced.{IsNextOfRun, IsRunTo}
 use Rattle.nc_snapshot.specs.Snapshots.{Snapshot}
 use Rattle.nc_theory.specs.Runs.{IsNext, IsWaiting}
-use Rattle.std.specs.Prelude.{Contains, List, Option, ℕ, ◌<◌, ◌↔◌, ◌≤◌}
+use Rattle.std.specs.Prelude.{Contains, List, Option, ℕ, ◌<◌, ◌↔◌, ◌≡◌, ◌≤◌}
 
 -- a snapshot, and how many signatures may be claimed at once
 pub record DeskValue : Type 0 where

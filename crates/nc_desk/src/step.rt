@@ -50,7 +50,6 @@ fn entry_news(
         (Result.an_entry poly.now trace) r.0 (map arc_value r.1.items)) }
 {
     snapshot.recall_rule();
-    snapshot.recall_rule();
     let Some(lead) = poly.lead() else {
         unreachable!()
     };

@@ -71,7 +71,7 @@ end_again n = rw (taken (codes "end") (codes "end") (tokens []) n [] end_is, not
 module _ (s : NamedSetting) (is : IsSetting s) (claim : Polynomial) (text : IsText s is claim) where
   -- the lines behind the line `certificate`, with these behind the claim
   abbrev with_body : List (List ℕ) → List (List ℕ)
-  with_body body = printing.setting_lines s ++ claim_text s is claim ∷ (body ++ the_last)
+  with_body body = printing.printed_setting s ++ claim_text s is claim ∷ (body ++ the_last)
 
   -- a form that is read, and lines behind the claim
   again : (form : ℕ) (first : List ℕ) (body : List (List ℕ)) (lines : List certificates.Line)
@@ -82,7 +82,7 @@ module _ (s : NamedSetting) (is : IsSetting s) (claim : Polynomial) (text : IsTe
       → certificate_at (written 1 (first ∷ with_body body))
       ≡ Ok (record { setting = s; claim = claim; lines = lines })
   again form first body lines form_again body_again =
-      let m = 1 + 1 + 1 + length (printing.alphabet_lines s.alphabet)
+      let m = 1 + 1 + 1 + length (printing.printed_alphabet s.alphabet)
       + length s.setting.generators in
       certificate_is (written 1 (first ∷ with_body body)) (written (1 + 1) (with_body body))
       (written m (claim_text s is claim ∷ (body ++ the_last)))
@@ -95,7 +95,7 @@ module _ (s : NamedSetting) (is : IsSetting s) (claim : Polynomial) (text : IsTe
   all_are_printed : (body : List (List ℕ)) → AllByRecursion IsPrintedLine body
       → AllByRecursion IsPrintedLine (with_body body)
   all_are_printed body h =
-      all_printed (printing.setting_lines s) (claim_text s is claim ∷ (body ++ the_last))
+      all_printed (printing.printed_setting s) (claim_text s is claim ∷ (body ++ the_last))
       (setting_printed s is) (
         (claim_is s is claim text).printed,
         all_printed body the_last h (end_is.printed, tt),

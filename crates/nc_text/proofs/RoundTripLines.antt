@@ -109,7 +109,7 @@ module _ (s : NamedSetting) (is : IsSetting s) where
 
   -- the lines `line` and `part`
   abbrev pub printed : List certificates.Line → List (List ℕ)
-  printed lines = flat_map (printing.line_lines names) lines
+  printed lines = flat_map (printing.printed_line names) lines
 
   regrouped : (line : List Part) (lines : List certificates.Line)
       → printed (line ∷ lines) ++ the_last ≡ codes "line"

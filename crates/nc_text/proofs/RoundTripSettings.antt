@@ -82,7 +82,7 @@ module _ (s : NamedSetting) (is : IsSetting s) where
       (names_plain names each_name)
 
   weights_is : IsLineOf (codes "weights") (tokens (weights_text a.weights))
-      (printing.weights_line a.weights)
+      (printing.printed_weights a.weights)
   weights_is =
       keyword_line (codes "weights") (weights_text a.weights)
       (record { name = refl; begun = λ rest. refl }) (weights_break a.weights)
@@ -122,12 +122,12 @@ module _ (s : NamedSetting) (is : IsSetting s) where
       ) refl
 
   weights_again_line : (n : ℕ) (ls : List (List ℕ))
-      → weights_line (length names) (written n (printing.weights_line a.weights ∷ ls))
+      → weights_line (length names) (written n (printing.printed_weights a.weights ∷ ls))
       ≡ Ok (a.weights, written (n + 1) ls)
   unfolding weights_line
   weights_again_line n ls =
-      ap (weights_in (length names) (written n (printing.weights_line a.weights ∷ ls)))
-      (found (codes "weights") (printing.weights_line a.weights)
+      ap (weights_in (length names) (written n (printing.printed_weights a.weights ∷ ls)))
+      (found (codes "weights") (printing.printed_weights a.weights)
       (tokens (weights_text a.weights)) n ls weights_is)
       ∙ rw (← is.alphabet.each, weights_again a.weights each_weight) refl
 
@@ -143,17 +143,17 @@ module _ (s : NamedSetting) (is : IsSetting s) where
   -- the lines `letters` and `weights`, which no line `weights` follows
   alphabet_again : (n : ℕ) (ls : List (List ℕ))
       → a_line (codes "weights") (written (n + 1) ls) ≡ None
-      → alphabet_lines (written n (printing.alphabet_lines a ++ ls))
-      ≡ Ok (a, written (n + length (printing.alphabet_lines a)) ls)
+      → alphabet_lines (written n (printing.printed_alphabet a ++ ls))
+      ≡ Ok (a, written (n + length (printing.printed_alphabet a)) ls)
   alphabet_again n ls none = by_test (list_all (λ m. eqb m 1) a.weights) refl
     where
       by_test : (b : Bool) → list_all (λ m. eqb m 1) a.weights ≡ b
           → alphabet_lines (written n ((names_line names ∷ cond b []
-          (printing.weights_line a.weights ∷ [])) ++ ls))
+          (printing.printed_weights a.weights ∷ [])) ++ ls))
           ≡ Ok (
             a,
             written (n + length (names_line names ∷ cond b []
-                (printing.weights_line a.weights ∷ []))) ls,
+                (printing.printed_weights a.weights ∷ []))) ls,
           )
       by_test true e =
           alphabet_is names a.weights (written n (names_line names ∷ ls)) (written (n + 1) ls)
@@ -161,9 +161,9 @@ module _ (s : NamedSetting) (is : IsSetting s) where
       by_test false e =
           let k : n + 1 + 1 ≡ n + 2 = omega arith in
           alphabet_is names a.weights (written n
-          (names_line names ∷ printing.weights_line a.weights ∷ ls))
-          (written (n + 1) (printing.weights_line a.weights ∷ ls)) (written (n + 1 + 1) ls)
-          (letters_again_line n (printing.weights_line a.weights ∷ ls))
+          (names_line names ∷ printing.printed_weights a.weights ∷ ls))
+          (written (n + 1) (printing.printed_weights a.weights ∷ ls)) (written (n + 1 + 1) ls)
+          (letters_again_line n (printing.printed_weights a.weights ∷ ls))
           (weights_again_line (n + 1) ls)
           ∙ ap (λ (m : ℕ). Ok (a, written m ls)) k
 
@@ -212,16 +212,16 @@ module _ (s : NamedSetting) (is : IsSetting s) where
 
   -- the lines of the setting, before a line `claim`
   pub setting_again : (n : ℕ) (claim : Polynomial) (ls : List (List ℕ)) → IsText claim
-      → setting_lines (written n (printing.setting_lines s ++ claim_text claim ∷ ls))
+      → setting_lines (written n (printing.printed_setting s ++ claim_text claim ∷ ls))
       ≡ Ok (
         s,
-        written (n + 1 + length (printing.alphabet_lines a)
+        written (n + 1 + length (printing.printed_alphabet a)
             + length s.setting.generators) (claim_text claim ∷ ls),
       )
   setting_again n claim ls text =
       let behind = claim_text claim ∷ ls in
       let generators = map (generator_line names) s.setting.generators in
-      let letters = printing.alphabet_lines a in
+      let letters = printing.printed_alphabet a in
       let stops =
       (λ (m : ℕ). not_found (codes "claim") (claim_text claim) (tokens (poly_text names claim))
       m ls (codes "generator") (claim_is claim text) refl) in
@@ -246,18 +246,18 @@ module _ (s : NamedSetting) (is : IsSetting s) where
   generators_printed (f ∷ fs) h =
       ((generator_is f h.0.polynomial).printed, generators_printed fs h.1)
 
-  alphabet_printed : AllByRecursion IsPrintedLine (printing.alphabet_lines a)
+  alphabet_printed : AllByRecursion IsPrintedLine (printing.printed_alphabet a)
   alphabet_printed = (letters_is.printed, by_test (list_all (λ m. eqb m 1) a.weights))
     where
       by_test : (b : Bool) → AllByRecursion IsPrintedLine
-          (cond b [] (printing.weights_line a.weights ∷ []))
+          (cond b [] (printing.printed_weights a.weights ∷ []))
       by_test true = tt
       by_test false = (weights_is.printed, tt)
 
-  pub setting_printed : AllByRecursion IsPrintedLine (printing.setting_lines s)
+  pub setting_printed : AllByRecursion IsPrintedLine (printing.printed_setting s)
   setting_printed = (
     field_is.printed,
-    all_printed (printing.alphabet_lines a)
+    all_printed (printing.printed_alphabet a)
         (map (generator_line names) s.setting.generators) alphabet_printed
         (generators_printed s.setting.generators generators_are),
   )

@@ -1,11 +1,24 @@
 use Rattle.nc_algebra.specs.Monomials.{Sig, monomial_of}
 use Rattle.nc_algebra.specs.Words.{Word}
 use Rattle.nc_desk.proofs.News.{entry_news}
+use Rattle.nc_index.specs.Chosen.{lead_of}
 use Rattle.nc_overlap.specs.Overlaps.{AreNewSignatures}
+use Rattle.nc_snapshot.proofs.Limits.{snapshot_counts}
 use Rattle.nc_snapshot.specs.Snapshots.{Snapshot}
 use Rattle.std.specs.Arc.{arc_value}
-use Rattle.std.proofs.Common.{List, [], ap, map, refl, subst, ◌++◌, ◌∙◌, ◌∷◌, ◌≡◌}
+use Rattle.std.proofs.Common.{List, [], ap, arith, length, map, refl, subst, ◌++◌, ◌∙◌, ◌∷◌, ◌≡◌}
+use Rattle.std.proofs.lemmas.List.{length-map}
 use Rattle.nc_desk.proofs.step.entry_news.Goals as goal
+
+pub add-requires : goal.add-requires
+add-requires c =
+    let s : Snapshot = c.args.snapshot.now in
+    omega (
+      arith,
+      ap length (c.in_ok-more.ensures ∙ c.requires.leads),
+      length-map s.state.entries (lead_of s.problem.problem.setting),
+      snapshot_counts s c.recall_rule.ensures.snapshot,
+    )
 
 pub returns : goal.returns
 returns c trace handles =
