@@ -3,10 +3,8 @@
 -- took are too many as well, so their answer is that of all bytes (`same_answer`). Where no failure
 -- was counted, no fault can end the run (`not_risen`). With as many steps as the bound has
 -- monomials each end is complete (`complete_end`).
-use Rattle.nc_algebra.specs.Finite.{monomials_within}
 use Rattle.nc_algebra.specs.Polynomials.{Polynomial}
-use Rattle.nc_algebra.specs.Problems.{IsProblem, IsWithin, NamedProblem}
-use Rattle.nc_io.specs.Adds.{Adds}
+use Rattle.nc_algebra.specs.Problems.{IsProblem, NamedProblem}
 use Rattle.nc_io.specs.Causes.{Rose}
 use Rattle.nc_io.specs.Pieces.{TakesWhole}
 use Rattle.nc_module.specs.Modules.{element_of}
@@ -17,9 +15,7 @@ use Rattle.nc_options.specs.declared.options.MemberOptions.{MemberOptions}
 use Rattle.nc_options.specs.declared.options.Options.{Options}
 use Rattle.nc_options.specs.declared.options.Options.TheVariants.{Basis, Check, Demo, Member}
 use Rattle.nc_theory.proofs.Named.{complete}
-use Rattle.nc_theory.specs.Named.{alphabet_letters}
 use Rattle.nc_theory.specs.Untraced.{untraced}
-use Rattle.nc_theory.specs.Bases.{HasRepresentation}
 use Rattle.nc_theory.specs.Runs.{End, IsEnd}
 use Rattle.nc_top.proofs.BasisAnswers.{Known, basis_answer, known, one_basis, prime_of, problem_of_text, same_problem}
 use Rattle.nc_top.proofs.CheckAnswers.{check_answer, one_check}
@@ -30,8 +26,8 @@ use Rattle.nc_top.proofs.Remainders.{is_represented}
 use Rattle.nc_top.specs.Member.{ClaimAtEnd, IsCertified, IsCertifiedAs, IsClaimText, IsClaimAtEnd, IsMemberAnswer, IsNotBelow, IsTooManyAs, IsTooManyTermsOf}
 use Rattle.nc_snapshot.specs.declared.outcome.Listed.{Listed}
 use Rattle.nc_top.specs.Basis.{IsBasis, IsComplete, IsProblemText, IsTooManyTerms, status_at}
-use Rattle.nc_top.specs.Laws.{CompleteMembers, CompleteRuns, FaultlessRuns, OneAnswer}
-use Rattle.nc_top.specs.Run.{IsAnswer, IsReported, Runs}
+use Rattle.nc_top.specs.Laws.{CompleteMembers, CompleteRuns, FaultlessRuns, HasEnoughSteps, IsBelow, OneAnswer, RanWell, WroteSome}
+use Rattle.nc_top.specs.Run.{HasWritten, IsAnswer, IsReported, LackedMemory, Ran, Runs, SinkUse, SourceUse}
 use Rattle.nc_top.specs.declared.status.Status.{Status}
 use Rattle.nc_top.specs.declared.status.Status.TheVariants.{BadText, Budget, Done, Invalid, NotBelow, OutOfMemory, ReadFault, TooLarge, TooMany, TooMuch, Usage, WriteFault}
 use Rattle.std.proofs.Common.{List, None, Some, [], ap, append-nil, arith, codes, inl, inr, length, length-append, refl, subst, subst₂, sym, ℕ, ◌+◌, ◌++◌, ◌∙◌, ◌<◌, ◌≡◌, ◌≤◌, ◌⊎◌}
@@ -82,37 +78,43 @@ same_answer options runs bytes taken (Some ys) h status report a =
         (subst (λ (r : List ℕ). IsAnswer options bytes TooLarge r) one.1
         (large_answer options runs bytes (omega (arith, all, long))))
 
-not_risen : (n : ℕ) → Rose n n → ⊥
-not_risen n rose = absurd (omega (arith, rose))
+not_risen : (before now : ℕ) → now ≡ before → Rose before now → ⊥
+not_risen before now same rose = absurd (omega (arith, same, rose))
+
+module _ (options : Options) (runs : Runs options) (bytes : List ℕ) (source : SourceUse)
+    (sink : SinkUse) (result : Status) (well : RanWell options bytes source sink result) where
+  abbrev Answers : Type 0
+  Answers = LackedMemory sink result ⊎ WroteSome sink (IsAnswer options bytes result)
+
+  by_report : (status : Status) (report : List ℕ) → IsAnswer options bytes status report
+      → IsReported sink report status result → Answers
+  by_report status report answer (inl (is, written)) =
+      inr (
+        report,
+        subst (λ (s : Status). IsAnswer options bytes s report) (sym is) answer,
+        written,
+      )
+  by_report status report answer (inr (is, rose, front)) =
+      absurd (not_risen sink.faults_before sink.faults_after well.wrote_well rose)
+
+  by_run : Ran options source sink result → Answers
+  by_run (inl (told, rose, nothing)) =
+      absurd (not_risen source.faults_before source.faults_after well.read_well rose)
+  by_run (inr (inl memory)) = inl memory
+  by_run (inr (inr h)) =
+      by_report h.status h.report
+      (same_answer options runs bytes h.bytes source.left_after
+      (subst (λ (l : Option (List ℕ)). TakesWhole l source.left_after h.bytes 16777217) well.told
+      h.taken) h.status h.report h.answer) h.reported
 
 pub faultless_runs : FaultlessRuns
-faultless_runs options runs bytes left_after written_before written_after source sink result
-    (inl (told, rose, nothing)) = absurd (not_risen source rose)
-faultless_runs options runs bytes left_after written_before written_after source sink result
-    (inr (inl memory)) = inl memory
-faultless_runs options runs bytes left_after written_before written_after source sink result
-    (inr (inr h)) = by_report h.reported
-  where
-    here : IsAnswer options bytes h.status h.report
-    here = same_answer options runs bytes h.bytes left_after h.taken h.status h.report h.answer
-
-    by_report : IsReported written_before written_after sink sink h.report h.status result
-        → ((result ≡ OutOfMemory) × Adds written_before written_after [])
-        ⊎ ((report : List ℕ) × IsAnswer options bytes result report
-        × Adds written_before written_after report)
-    by_report (inl (is, adds)) =
-        inr (
-          h.report,
-          subst (λ (s : Status). IsAnswer options bytes s h.report) (sym is) here,
-          adds,
-        )
-    by_report (inr (is, rose, front)) = absurd (not_risen sink rose)
+faultless_runs options runs bytes source sink result well =
+    by_run options runs bytes source sink result well well.ran
 
 -- ---- runs with enough steps
 
 module _ (options : BasisOptions) (bytes : List ℕ) (P : NamedProblem) (text : IsProblemText bytes P)
-    (enough : length (monomials_within P.problem.setting P.problem.bound
-    (alphabet_letters P.alphabet)) ≤ P.problem.steps) where
+    (enough : HasEnoughSteps P) where
   complete_end : (e : End) (report : List ℕ) → IsBasis options bytes e report → e ≡ End.complete
   complete_end e report h =
       subst Ends (same_problem bytes h.problem P h.text text)
@@ -121,9 +123,7 @@ module _ (options : BasisOptions) (bytes : List ℕ) (P : NamedProblem) (text : 
       enough
     where
       Ends : NamedProblem → Type 0
-      Ends Q =
-          IsProblem Q → length (monomials_within Q.problem.setting Q.problem.bound
-          (alphabet_letters Q.alphabet)) ≤ Q.problem.steps → e ≡ End.complete
+      Ends Q = IsProblem Q → HasEnoughSteps Q → e ≡ End.complete
 
   abbrev Whole : Status → List ℕ → Type 0
   Whole status report =
@@ -143,45 +143,35 @@ module _ (options : BasisOptions) (bytes : List ℕ) (P : NamedProblem) (text : 
       )
   whole status report (Known.is_many named terms h) = inr (named, terms, refl, h)
 
-  module _ (result : Status) (written_before written_after : Option (List ℕ)) where
+  module _ (sink : SinkUse) (result : Status) where
     abbrev Wanted : Type 0
     Wanted =
-        ((result ≡ OutOfMemory) × Adds written_before written_after [])
-        ⊎ (((result ≡ Done) × ((report : List ℕ) × IsComplete options bytes report
-        × Adds written_before written_after report))
+        LackedMemory sink result
+        ⊎ (((result ≡ Done) × WroteSome sink (IsComplete options bytes))
         ⊎ ((named : Listed) × (terms : ℕ) × (result ≡ TooMany named terms)
-        × ((report : List ℕ) × IsTooManyTerms options bytes named terms report
-        × Adds written_before written_after report)))
+        × WroteSome sink (IsTooManyTerms options bytes named terms)))
 
-    by_whole : (report : List ℕ) → Adds written_before written_after report → Whole result report
-        → Wanted
-    by_whole report adds (inl (is, h)) = inr (inl (is, (report, h, adds)))
-    by_whole report adds (inr (named, terms, is, h)) =
-        inr (inr (named, terms, is, (report, h, adds)))
+    by_whole : (report : List ℕ) → HasWritten sink report → Whole result report → Wanted
+    by_whole report written (inl (is, h)) = inr (inl (is, (report, h, written)))
+    by_whole report written (inr (named, terms, is, h)) =
+        inr (inr (named, terms, is, (report, h, written)))
 
-    by_answer : ((result ≡ OutOfMemory) × Adds written_before written_after [])
-        ⊎ ((report : List ℕ) × IsAnswer (Basis options) bytes result report
-        × Adds written_before written_after report) → Wanted
+    by_answer : LackedMemory sink result
+        ⊎ WroteSome sink (IsAnswer (Basis options) bytes result) → Wanted
     by_answer (inl memory) = inl memory
-    by_answer (inr (report, a, adds)) =
-        by_whole report adds (whole result report (known options bytes result report a))
+    by_answer (inr (report, a, written)) =
+        by_whole report written (whole result report (known options bytes result report a))
 
 pub complete_runs : CompleteRuns
-complete_runs options bytes P text enough left_after written_before written_after source sink result
-    ran = by_answer options bytes P text enough result written_before written_after
-    (faultless_runs (Basis options) tt bytes left_after written_before written_after source sink
-    result ran)
+complete_runs options bytes P text enough source sink result well =
+    by_answer options bytes P text enough sink result
+    (faultless_runs (Basis options) tt bytes source sink result well)
 
 -- ---- claims of problems with enough steps
 
 module _ (options : MemberOptions) (bytes : List ℕ) (P : NamedProblem) (claim : Polynomial)
     (text : IsClaimText bytes P claim)
-    (enough : length (monomials_within P.problem.setting P.problem.bound
-    (alphabet_letters P.alphabet)) ≤ P.problem.steps) where
-  -- the claim has a representation within the bound
-  abbrev IsBelow : Type 0
-  IsBelow = HasRepresentation P.problem.setting (IsWithin P.problem) claim
-
+    (enough : HasEnoughSteps P) where
   module _ (e : ClaimAtEnd) (is : IsClaimAtEnd bytes e) where
     same : (e.problem ≡ P) × (e.claim ≡ claim)
     same = same_claims bytes e.problem P e.claim claim is.text text
@@ -197,43 +187,35 @@ module _ (options : MemberOptions) (bytes : List ℕ) (P : NamedProblem) (claim 
       where
         Ends : NamedProblem → Type 0
         Ends Q =
-            IsProblem Q → length (monomials_within Q.problem.setting Q.problem.bound
-            (alphabet_letters Q.alphabet)) ≤ Q.problem.steps
-            → IsEnd Q.problem e.handled is.run e.ending → e.ending ≡ End.complete
+            IsProblem Q → HasEnoughSteps Q → IsEnd Q.problem e.handled is.run e.ending
+            → e.ending ≡ End.complete
 
-        enough_there : length (monomials_within e.problem.problem.setting e.problem.problem.bound
-            (alphabet_letters e.problem.alphabet)) ≤ e.problem.problem.steps
-        enough_there =
-            subst (λ (Q : NamedProblem). length (monomials_within Q.problem.setting Q.problem.bound
-            (alphabet_letters Q.alphabet)) ≤ Q.problem.steps) (sym same.0) enough
+        enough_there : HasEnoughSteps e.problem
+        enough_there = subst (λ (Q : NamedProblem). HasEnoughSteps Q) (sym same.0) enough
 
-    moved : HasRepresentation e.problem.problem.setting (IsWithin e.problem.problem) e.claim
-        → IsBelow
+    moved : IsBelow e.problem e.claim → IsBelow P claim
     moved has =
-        subst₂ (λ (Q : NamedProblem) (f : Polynomial). HasRepresentation Q.problem.setting
-        (IsWithin Q.problem) f) same.0 same.1 has
+        subst₂ (λ (Q : NamedProblem) (f : Polynomial). IsBelow Q f) same.0 same.1 has
 
-    moved_back : IsBelow → HasRepresentation e.problem.problem.setting (IsWithin e.problem.problem)
-        e.claim
+    moved_back : IsBelow P claim → IsBelow e.problem e.claim
     moved_back has =
-        subst₂ (λ (Q : NamedProblem) (f : Polynomial). HasRepresentation Q.problem.setting
-        (IsWithin Q.problem) f) (sym same.0) (sym same.1) has
+        subst₂ (λ (Q : NamedProblem) (f : Polynomial). IsBelow Q f) (sym same.0) (sym same.1) has
 
   abbrev IsDecided : Status → List ℕ → Type 0
   IsDecided status report =
-      (IsBelow × (status ≡ Done) × IsCertified options bytes report)
-      ⊎ ((IsBelow × ((named : Listed) × (terms : ℕ) × (status ≡ TooMany named terms)
+      (IsBelow P claim × (status ≡ Done) × IsCertified options bytes report)
+      ⊎ ((IsBelow P claim × ((named : Listed) × (terms : ℕ) × (status ≡ TooMany named terms)
       × IsTooManyTermsOf options bytes named terms report))
-      ⊎ (¬ IsBelow × (status ≡ NotBelow) × IsNotBelow bytes report))
+      ⊎ (¬ IsBelow P claim × (status ≡ NotBelow) × IsNotBelow bytes report))
 
   done_below : (form : Form) (report : List ℕ) → IsCertifiedAs form options.limit bytes report
-      → IsBelow
+      → IsBelow P claim
   done_below Terms report t =
       moved t.at_end t.is (element_of t.m, t.represented.lies, t.represented.evaluates)
   done_below Lines report t = moved t.at_end t.is t.proved.has
 
   many_below : (form : Form) (named : Listed) (terms : ℕ) (report : List ℕ)
-      → IsTooManyAs form options.limit bytes named terms report → IsBelow
+      → IsTooManyAs form options.limit bytes named terms report → IsBelow P claim
   many_below Terms named terms report t =
       moved t.at_end t.is (is_represented t.at_end.problem (here t.at_end t.is) t.many.rest.runs
       t.at_end.claim [] t.many.steps t.many.rest.reduces refl)
@@ -257,36 +239,28 @@ module _ (options : MemberOptions) (bytes : List ℕ) (P : NamedProblem) (claim 
   decided WriteFault report h = absurd h
   decided OutOfMemory report h = absurd h
 
-  module _ (result : Status) (written_before written_after : Option (List ℕ)) where
+  module _ (sink : SinkUse) (result : Status) where
     abbrev Decides : Type 0
     Decides =
-        ((result ≡ OutOfMemory) × Adds written_before written_after [])
-        ⊎ ((IsBelow × (result ≡ Done) × ((report : List ℕ) × IsCertified options bytes report
-        × Adds written_before written_after report))
-        ⊎ ((IsBelow × ((named : Listed) × (terms : ℕ) × (result ≡ TooMany named terms)
-        × ((report : List ℕ) × IsTooManyTermsOf options bytes named terms report
-        × Adds written_before written_after report)))
-        ⊎ (¬ IsBelow × (result ≡ NotBelow)
-        × ((report : List ℕ) × IsNotBelow bytes report
-        × Adds written_before written_after report))))
+        LackedMemory sink result
+        ⊎ ((IsBelow P claim × (result ≡ Done) × WroteSome sink (IsCertified options bytes))
+        ⊎ ((IsBelow P claim × ((named : Listed) × (terms : ℕ) × (result ≡ TooMany named terms)
+        × WroteSome sink (IsTooManyTermsOf options bytes named terms)))
+        ⊎ (¬ IsBelow P claim × (result ≡ NotBelow) × WroteSome sink (IsNotBelow bytes))))
 
-    by_decided : (report : List ℕ) → Adds written_before written_after report
-        → IsDecided result report → Decides
-    by_decided report adds (inl (has, told, h)) = inr (inl (has, told, (report, h, adds)))
-    by_decided report adds (inr (inl (has, (named, terms, told, h)))) =
-        inr (inr (inl (has, (named, terms, told, (report, h, adds)))))
-    by_decided report adds (inr (inr (none, told, h))) =
-        inr (inr (inr (none, told, (report, h, adds))))
+    by_decided : (report : List ℕ) → HasWritten sink report → IsDecided result report → Decides
+    by_decided report written (inl (has, told, h)) = inr (inl (has, told, (report, h, written)))
+    by_decided report written (inr (inl (has, (named, terms, told, h)))) =
+        inr (inr (inl (has, (named, terms, told, (report, h, written)))))
+    by_decided report written (inr (inr (none, told, h))) =
+        inr (inr (inr (none, told, (report, h, written))))
 
-    by_member : ((result ≡ OutOfMemory) × Adds written_before written_after [])
-        ⊎ ((report : List ℕ) × IsAnswer (Member options) bytes result report
-        × Adds written_before written_after report) → Decides
+    by_member : LackedMemory sink result
+        ⊎ WroteSome sink (IsAnswer (Member options) bytes result) → Decides
     by_member (inl memory) = inl memory
-    by_member (inr (report, a, adds)) = by_decided report adds (decided result report a)
+    by_member (inr (report, a, written)) = by_decided report written (decided result report a)
 
 pub complete_members : CompleteMembers
-complete_members options bytes P claim text enough left_after written_before written_after source
-    sink result ran =
-    by_member options bytes P claim text enough result written_before written_after
-    (faultless_runs (Member options) tt bytes left_after written_before written_after source sink
-    result ran)
+complete_members options bytes P claim text enough source sink result well =
+    by_member options bytes P claim text enough sink result
+    (faultless_runs (Member options) tt bytes source sink result well)

@@ -81,7 +81,7 @@ module _ (bytes : List ℕ) (P : NamedProblem) (claim : Polynomial) (text : IsCl
     pub problem_is : IsProblem P
     problem_is = reads_problems true bytes (record { problem = P; claim = Some claim }) text.read
 
-    text_claim : IsTextPolynomial P.alphabet P.problem.setting.prime claim
+    pub text_claim : IsTextPolynomial P.alphabet P.problem.setting.prime claim
     text_claim = go (has_claim bytes (record { problem = P; claim = Some claim }) text.read)
       where
         go : (f : Polynomial) × IsClaimOf (record { problem = P; claim = Some claim }) f
@@ -142,9 +142,9 @@ module _ (P : NamedProblem) (is : IsProblem P) {n : ℕ} {run : State} {last : O
   module _ (m : List (Term Sig))
       (sum : IsSum P.problem.setting
       (step_multiples (labels_of P.problem.setting.prime run.entries) steps) m) where
-    terms : All (λ t. IsWordIn P.alphabet t.key.left) m
+    pub terms_in : All (λ t. IsWordIn P.alphabet t.key.left) m
         × All (λ t. IsWordIn P.alphabet t.key.right) m
-    terms = sum_over P (step_multiples (labels_of P.problem.setting.prime run.entries) steps)
+    terms_in = sum_over P (step_multiples (labels_of P.problem.setting.prime run.entries) steps)
         (multiples_over P.problem field letters inputs runs (IsWithin P.problem) reduces claim_over)
         m sum
 
@@ -152,10 +152,10 @@ module _ (P : NamedProblem) (is : IsProblem P) {n : ℕ} {run : State} {last : O
     terms_left =
         All-weaker (λ (t : Term Sig). IsWordIn P.alphabet t.key.left)
         (λ (t : Term Sig). IsNamed P.alphabet t.key.left) (λ t k. named P.alphabet t.key.left k) m
-        terms.0
+        terms_in.0
 
     pub terms_right : All (λ t. IsNamed P.alphabet t.key.right) m
     terms_right =
         All-weaker (λ (t : Term Sig). IsWordIn P.alphabet t.key.right)
         (λ (t : Term Sig). IsNamed P.alphabet t.key.right) (λ t k. named P.alphabet t.key.right k) m
-        terms.1
+        terms_in.1

@@ -7,9 +7,11 @@ pub mod Ending
 pub mod Claims
 pub mod Needed
 pub mod Sums
+pub mod TermLines
 pub mod Forms
 pub mod AtEnd
 pub mod MemberEnds
 pub mod MemberLines
 pub mod Remainders
 pub mod MemberAnswers
+pub mod Checked

@@ -39,6 +39,7 @@ use Rattle.nc_top.proofs.Remainders.{not_represented, rest_exists, rest_once, te
 use Rattle.nc_top.proofs.AtEnd.{AreProof, IsRemainder, Remainder, Represents, remainder_at, claim_at_end, is_remainder_at, is_claim_at_end, many_at_end, many_of, open_of, proof_at_end, proved_of, represented_of, terms_at_end, unrepresented_of}
 use Rattle.nc_top.proofs.Sums.{first_or_within, never_both, too_many_once}
 use Rattle.nc_top.specs.Inputs.{IsBadText, IsTooLarge}
+use Rattle.nc_top.proofs.TermLines.{terms_keep}
 use Rattle.nc_top.specs.Member.{IsCertifiedAs, IsClaimText, IsMemberAnswer, IsTooManyAs, certificate_with, reads_claim}
 use Rattle.nc_top.specs.Reports.{bad_text_report, not_below_report, too_many_report, undecided_report}
 use Rattle.nc_top.specs.declared.status.Status.{Status}
@@ -193,6 +194,10 @@ answered options bytes s report r is (Told.by_terms form nothing m represents wr
       is = is_claim_at_end bytes r is;
       m = m;
       represented = represented_of bytes r is nothing options.limit m represents;
+      keeps =
+          terms_keep r.problem (problem_is bytes r.problem r.claim is.text)
+          (ended_run r.problem.problem is.ends).1 r.claim (claim_in bytes r.problem r.claim is.text)
+          is.reduces m represents.is represents.lies;
       written = written;
     })
 answered options bytes s report r is (Told.by_lines form nothing needed lines proof written) =
@@ -262,13 +267,14 @@ module _ (options : MemberOptions) (r : Remainder) (some : 0 < r.problem.problem
 
     told_once : (s s' : Status) (report report' : List ℕ) → Told options r s report
         → Told options r s' report' → (s ≡ s') × (report ≡ report')
-    told_once s s' q q' (Told.by_terms form nothing m a w) (Told.by_terms form' nothing' m' a' w') = (
-      refl,
-      w ∙ (ap (λ (x : List (Term Sig)). terms_text (setting_of r.problem) r.claim
-          (element_of x)) (sum_once r.problem.problem.setting
-          (step_multiples (labels_of r.problem.problem.setting.prime r.run.entries) r.steps) m m'
-          a.is a'.is) ∙ sym w'),
-    )
+    told_once s s' q q' (Told.by_terms form nothing m a w)
+        (Told.by_terms form' nothing' m' a' w') = (
+          refl,
+          w ∙ (ap (λ (x : List (Term Sig)). terms_text (setting_of r.problem) r.claim
+              (element_of x)) (sum_once r.problem.problem.setting
+              (step_multiples (labels_of r.problem.problem.setting.prime r.run.entries) r.steps) m m'
+              a.is a'.is) ∙ sym w'),
+        )
     told_once s s' q q' (Told.by_terms form nothing m a w)
         (Told.by_lines form' nothing' needed lines b w') = absurd (other_form form form')
     told_once s s' q q' (Told.by_terms form nothing m a w)

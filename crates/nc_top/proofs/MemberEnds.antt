@@ -1,4 +1,6 @@
--- The answer of `member` from the end of a run.
+-- What the answers of `member` need of a run that has come to its end: the letters of what is
+-- printed have names, and what is printed is the answer. One lemma for each answer gives a record
+-- of these facts.
 use Rattle.nc_algebra.specs.Certificates.{Line}
 use Rattle.nc_algebra.specs.Monomials.{Monomial, Sig}
 use Rattle.nc_algebra.specs.Polynomials.{Polynomial}
@@ -6,180 +8,200 @@ use Rattle.nc_algebra.specs.Problems.{setting_of}
 use Rattle.nc_algebra.specs.Settings.{NamedSetting}
 use Rattle.nc_algebra.specs.Sums.{Term}
 use Rattle.nc_cofactor.specs.Sums.{IsSum}
-use Rattle.nc_desk.specs.Ends.{IsEndAt}
-use Rattle.nc_member.specs.Members.{IsOpen, IsProved, IsRepresented, IsRestOf, IsTooManyOf, IsUnrepresented}
+use Rattle.nc_desk.specs.Ends.{Finished, IsEndAt}
+use Rattle.nc_member.specs.Members.{IsRestOf, IsTooManyOf}
 use Rattle.nc_module.specs.Modules.{element_of}
 use Rattle.nc_print.proofs.Writing.{words_named as parts_named}
 use Rattle.nc_print.specs.Printing.{certificate_text, terms_text}
+use Rattle.nc_report.proofs.Showing.{one_run}
 use Rattle.nc_snapshot.specs.Snapshots.{IsSnapshot, Snapshot}
 use Rattle.nc_snapshot.specs.declared.outcome.Listed.{Listed}
 use Rattle.nc_theory.specs.Labels.{labels_of, step_multiples}
 use Rattle.nc_theory.specs.Runs.{End}
 use Rattle.nc_theory.specs.States.{State, Step}
 use Rattle.nc_top.proofs.Claims.{claim_in, claim_named, rest_named, terms_left, terms_right}
-use Rattle.nc_report.proofs.Showing.{one_run}
-use Rattle.nc_top.specs.Member.{ClaimAtEnd, IsClaimText, IsClaimAtEnd, IsLines, IsNotBelow, IsTerms, IsTooManyInSum, IsUndecided}
+use Rattle.nc_top.proofs.Forms.{as_lines, as_terms, as_too_many}
+use Rattle.nc_top.proofs.TermLines.{terms_keep}
+use Rattle.nc_options.specs.declared.options.Form.TheVariants.{Lines, Terms}
+use Rattle.nc_top.specs.Asked.{AreLinesOf, AreTermsOf, IsAsked, IsAskedAnswer, LeavesRest, StaysOpen}
+use Rattle.nc_top.specs.Member.{ClaimAtEnd, IsClaimAtEnd}
 use Rattle.nc_top.specs.Reports.{not_below_report, too_many_report, undecided_report}
+use Rattle.nc_top.specs.declared.member.Asked.{Asked}
+use Rattle.nc_top.specs.declared.status.Status.TheVariants.{Budget, Done, NotBelow, TooMany}
 use Rattle.std.proofs.Common.{All, List, [], ap, length, refl, subst, sym, ℕ, ◌++◌, ◌<◌, ◌∙◌, ◌≡◌}
 
 -- what is written into a report that is empty
 pub written_new : (new old text : List ℕ) → new ≡ old ++ text → old ≡ [] → new ≡ text
 written_new new old text is empty = is ∙ ap (λ (l : List ℕ). l ++ text) empty
 
-module _ (s : Snapshot) (h : IsSnapshot s) (ending : End) (e : IsEndAt s ending) (bytes : List ℕ)
-    (claim : Polynomial) (text : IsClaimText bytes s.problem claim) where
+-- the letters of the words have names
+abbrev HasNames : List (List ℕ) → Polynomial → Type 0
+HasNames names f = All (λ t. All (λ x. x.index < length names) t.key) f
+
+-- ---- the facts
+
+pub record RestFacts (a : Asked) (names : List (List ℕ)) (rest : Polynomial) : Type 0 where
+  pub named : HasNames names rest
+  pub answer : (report : List ℕ) → report ≡ not_below_report names rest
+      → IsAskedAnswer a NotBelow report
+
+pub record OpenFacts (a : Asked) (names : List (List ℕ)) (rest : Polynomial) : Type 0 where
+  pub named : HasNames names rest
+  pub answer : (τ : Monomial) (report : List ℕ) → End.budget τ ≡ a.finished.now.ending
+      → report ≡ undecided_report names τ rest → IsAskedAnswer a Budget report
+
+pub record LinesFacts (a : Asked) (setting : NamedSetting) (lines : List Line) : Type 0 where
+  pub claim : HasNames setting.alphabet.names a.claim.now
+  pub left : All (λ line. All
+      (λ part. All (λ x. x.index < length setting.alphabet.names) part.left) line) lines
+  pub right : All (λ line. All
+      (λ part. All (λ x. x.index < length setting.alphabet.names) part.right) line) lines
+  pub answer : (report : List ℕ)
+      → report ≡ certificate_text (record { setting = setting; claim = a.claim.now; lines = lines })
+      → IsAskedAnswer a Done report
+
+pub record TermsFacts (a : Asked) (setting : NamedSetting) (m : List (Term Sig)) : Type 0 where
+  pub claim : HasNames setting.alphabet.names a.claim.now
+  pub left : All (λ t. All (λ x. x.index < length setting.alphabet.names) t.key.left) m
+  pub right : All (λ t. All (λ x. x.index < length setting.alphabet.names) t.key.right) m
+  pub answer : (report : List ℕ) → report ≡ terms_text setting a.claim.now (element_of m)
+      → IsAskedAnswer a Done report
+
+-- ---- how they follow
+
+module _ (a : Asked) (text : IsAsked a) (h : IsSnapshot a.finished.now.snapshot)
+    (e : IsEndAt a.finished.now.snapshot a.finished.now.ending) where
+  abbrev s : Snapshot
+  s = a.finished.now.snapshot
+
   abbrev p : ℕ
   p = s.problem.problem.setting.prime
 
   abbrev at_end : ClaimAtEnd
-  at_end = record { problem = s.problem; claim = claim; handled = s.handled; ending = ending }
+  at_end = record {
+    problem = s.problem;
+    claim = a.claim.now;
+    handled = s.handled;
+    ending = a.finished.now.ending;
+  }
 
-  is_at_end : IsClaimAtEnd bytes at_end
+  is_at_end : IsClaimAtEnd a.bytes.now at_end
   is_at_end = record { text = text; run = e.run; ends = e.ends }
 
-  -- ---- letters
-
   module _ (names : List (List ℕ)) (same : names ≡ s.problem.alphabet.names) where
-    abbrev HasNames : Polynomial → Type 0
-    HasNames f = All (λ t. All (λ x. x.index < length names) t.key) f
-
-    pub claim_has_names : HasNames claim
+    claim_has_names : HasNames names a.claim.now
     claim_has_names =
-        subst (λ (ns : List (List ℕ)). All (λ t. All (λ x. x.index < length ns) t.key) claim)
-        (sym same) (claim_named bytes s.problem claim text)
+        subst (λ (ns : List (List ℕ)). HasNames ns a.claim.now) (sym same)
+        (claim_named a.bytes.now s.problem a.claim.now text)
 
     rest_has_names : (rest : Polynomial) (steps : List Step)
-        → IsRestOf s.problem.problem s.handled claim rest steps → HasNames rest
+        → IsRestOf s.problem.problem s.handled a.claim.now rest steps → HasNames names rest
     rest_has_names rest steps r =
-        subst (λ (ns : List (List ℕ)). All (λ t. All (λ x. x.index < length ns) t.key) rest)
-        (sym same) (rest_named s.problem h.problem r.runs claim
-        (claim_in bytes s.problem claim text) r.reduces)
+        subst (λ (ns : List (List ℕ)). HasNames ns rest) (sym same)
+        (rest_named s.problem h.problem r.runs a.claim.now
+        (claim_in a.bytes.now s.problem a.claim.now text) r.reduces)
 
-    pub unrepresented_names : (rest : Polynomial)
-        → IsUnrepresented s.problem.problem s.handled ending claim rest → HasNames rest
-    unrepresented_names rest u = rest_has_names rest u.steps u.is
-
-    pub open_names : (rest : Polynomial) → IsOpen s.problem.problem s.handled ending claim rest
-        → HasNames rest
-    open_names rest o = rest_has_names rest o.steps o.is
-
-    -- ---- where something is left
-
-    pub not_below_at : (rest : Polynomial) (report : List ℕ)
-        → IsUnrepresented s.problem.problem s.handled ending claim rest
-        → report ≡ not_below_report names rest → IsNotBelow bytes report
-    not_below_at rest report u written = record {
-      at_end = at_end;
-      is = is_at_end;
-      rest = rest;
-      left = u;
-      written = written ∙ ap (λ (ns : List (List ℕ)). not_below_report ns rest) same;
+    -- something is left
+    pub rest_facts : (rest : Polynomial) → LeavesRest a rest → RestFacts a names rest
+    rest_facts rest u = record {
+      named = rest_has_names rest u.steps u.is;
+      answer = λ report written. record {
+        at_end = at_end;
+        is = is_at_end;
+        rest = rest;
+        left = u;
+        written = written ∙ ap (λ (ns : List (List ℕ)). not_below_report ns rest) same;
+      };
     }
 
-    pub undecided_at : (rest : Polynomial) (τ : Monomial) (report : List ℕ)
-        → IsOpen s.problem.problem s.handled ending claim rest → End.budget τ ≡ ending
-        → report ≡ undecided_report names τ rest → IsUndecided bytes report
-    undecided_at rest τ report o budget written = record {
-      at_end = at_end;
-      is = is_at_end;
-      rest = rest;
-      left = o;
-      written =
-          written ∙ (ap (λ (ns : List (List ℕ)). undecided_report ns τ rest) same
-          ∙ ap (λ (σ : Monomial). undecided_report s.problem.alphabet.names σ rest) next);
+    pub open_facts : (rest : Polynomial) → StaysOpen a rest → OpenFacts a names rest
+    open_facts rest o = record {
+      named = rest_has_names rest o.steps o.is;
+      answer = λ τ report budget written. record {
+        at_end = at_end;
+        is = is_at_end;
+        rest = rest;
+        left = o;
+        written =
+            written ∙ (ap (λ (ns : List (List ℕ)). undecided_report ns τ rest) same
+            ∙ ap (λ (σ : Monomial). undecided_report s.problem.alphabet.names σ rest)
+            (next τ (budget ∙ o.budget)));
+      };
     }
       where
-        both : End.budget τ ≡ End.budget o.next
-        both = budget ∙ o.budget
+        next : (τ : Monomial) → End.budget τ ≡ End.budget o.next → τ ≡ o.next
+        next τ both = cc
 
-        next : τ ≡ o.next
-        next = cc
+  module _ (setting : NamedSetting) (same : setting ≡ setting_of s.problem) where
+    same_names : setting.alphabet.names ≡ s.problem.alphabet.names
+    same_names = ap (λ (x : NamedSetting). x.alphabet.names) same
 
-  -- ---- form 2
-
-  module _ (lines : List Line) (proved : IsProved s.problem s.handled claim lines) where
-    module _ (setting : NamedSetting) (same : setting ≡ setting_of s.problem) where
-      pub lines_claim : All (λ t. All (λ x. x.index < length setting.alphabet.names) t.key) claim
-      lines_claim =
-          claim_has_names setting.alphabet.names (ap (λ (x : NamedSetting). x.alphabet.names) same)
-
-      pub lines_left : All (λ line. All
-          (λ part. All (λ x. x.index < length setting.alphabet.names) part.left) line) lines
-      lines_left =
+    -- form 2
+    pub lines_facts : a.options.form ≡ Lines → (lines : List Line) → AreLinesOf a lines
+        → LinesFacts a setting lines
+    lines_facts form lines proved = record {
+      claim = claim_has_names setting.alphabet.names same_names;
+      left =
           parts_named (setting_of s.problem) (λ part. part.left) (λ reaches part k. k.left)
-          setting.alphabet.names lines lines (ap (λ (x : NamedSetting). x.alphabet.names) same) refl
-          proved.keeps
-
-      pub lines_right : All (λ line. All
-          (λ part. All (λ x. x.index < length setting.alphabet.names) part.right) line) lines
-      lines_right =
+          setting.alphabet.names lines lines same_names refl proved.keeps;
+      right =
           parts_named (setting_of s.problem) (λ part. part.right) (λ reaches part k. k.right)
-          setting.alphabet.names lines lines (ap (λ (x : NamedSetting). x.alphabet.names) same) refl
-          proved.keeps
-
-      pub lines_at : (report : List ℕ)
-          → report ≡ certificate_text (record { setting = setting; claim = claim; lines = lines })
-          → IsLines bytes report
-      lines_at report written = record {
+          setting.alphabet.names lines lines same_names refl proved.keeps;
+      answer = λ report written. as_lines a.options a.bytes.now report form (record {
         at_end = at_end;
         is = is_at_end;
         lines = lines;
         proved = proved;
         keeps = record {
           setting = h.problem.setting;
-          claim = claim_in bytes s.problem claim text;
+          claim = claim_in a.bytes.now s.problem a.claim.now text;
           lines = proved.keeps;
         };
         written =
             written ∙ ap (λ (x : NamedSetting). certificate_text
-            (record { setting = x; claim = claim; lines = lines })) same;
-      }
+            (record { setting = x; claim = a.claim.now; lines = lines })) same;
+      });
+    }
 
-  -- ---- form 1
-
-  module _ (limit : ℕ) (m : List (Term Sig))
-      (represented : IsRepresented s.problem.problem s.handled claim limit m) where
-    sum : IsSum s.problem.problem.setting
-        (step_multiples (labels_of p represented.rest.run.entries) represented.steps) m
-    sum = subst (λ (run : State). IsSum s.problem.problem.setting
-        (step_multiples (labels_of p run.entries) represented.steps) m)
-        (one_run s h represented.is.run represented.rest.run (
-          represented.is.last,
-          represented.is.runs,
-        ) (represented.rest.last, represented.rest.runs)) represented.is.is
-
-    module _ (setting : NamedSetting) (same : setting ≡ setting_of s.problem) where
-      names_same : setting.alphabet.names ≡ s.problem.alphabet.names
-      names_same = ap (λ (x : NamedSetting). x.alphabet.names) same
-
-      pub terms_claim : All (λ t. All (λ x. x.index < length setting.alphabet.names) t.key) claim
-      terms_claim = claim_has_names setting.alphabet.names names_same
-
-      pub terms_on_left : All (λ t. All (λ x. x.index < length setting.alphabet.names) t.key.left) m
-      terms_on_left =
+    -- form 1
+    pub terms_facts : a.options.form ≡ Terms → (m : List (Term Sig)) → AreTermsOf a m
+        → TermsFacts a setting m
+    terms_facts form m represented = record {
+      claim = claim_has_names setting.alphabet.names same_names;
+      left =
           subst (λ (ns : List (List ℕ)). All (λ t. All (λ x. x.index < length ns) t.key.left) m)
-          (sym names_same) (terms_left s.problem h.problem represented.rest.runs claim
-          (claim_in bytes s.problem claim text) represented.rest.reduces m sum)
-
-      pub terms_on_right : All (λ t. All (λ x. x.index < length setting.alphabet.names) t.key.right)
-          m
-      terms_on_right =
+          (sym same_names) (terms_left s.problem h.problem represented.rest.runs a.claim.now
+          (claim_in a.bytes.now s.problem a.claim.now text) represented.rest.reduces m sum);
+      right =
           subst (λ (ns : List (List ℕ)). All (λ t. All (λ x. x.index < length ns) t.key.right) m)
-          (sym names_same) (terms_right s.problem h.problem represented.rest.runs claim
-          (claim_in bytes s.problem claim text) represented.rest.reduces m sum)
-
-      pub terms_at : (report : List ℕ) → report ≡ terms_text setting claim (element_of m)
-          → IsTerms limit bytes report
-      terms_at report written = record {
+          (sym same_names) (terms_right s.problem h.problem represented.rest.runs a.claim.now
+          (claim_in a.bytes.now s.problem a.claim.now text) represented.rest.reduces m sum);
+      answer = λ report written. as_terms a.options a.bytes.now report form (record {
         at_end = at_end;
         is = is_at_end;
         m = m;
         represented = represented;
-        written = written ∙ ap (λ (x : NamedSetting). terms_text x claim (element_of m)) same;
-      }
+        keeps =
+            terms_keep s.problem h.problem represented.rest.runs a.claim.now
+            (claim_in a.bytes.now s.problem a.claim.now text) represented.rest.reduces m sum
+            represented.lies;
+        written = written ∙ ap (λ (x : NamedSetting). terms_text x a.claim.now (element_of m)) same;
+      });
+    }
+      where
+        sum : IsSum s.problem.problem.setting
+            (step_multiples (labels_of p represented.rest.run.entries) represented.steps) m
+        sum = subst (λ (run : State). IsSum s.problem.problem.setting
+            (step_multiples (labels_of p run.entries) represented.steps) m)
+            (one_run s h represented.is.run represented.rest.run (
+              represented.is.last,
+              represented.is.runs,
+            ) (represented.rest.last, represented.rest.runs)) represented.is.is
 
-  pub many_at : (limit : ℕ) (named : Listed) (terms : ℕ) (report : List ℕ)
-      → IsTooManyOf s.problem.problem s.handled claim limit named terms
-      → report ≡ too_many_report named terms → IsTooManyInSum limit bytes named terms report
-  many_at limit named terms report many written =
-      record { at_end = at_end; is = is_at_end; many = many; written = written }
+  -- a label, or the representation, has more terms than the limit
+  pub too_many_answer : a.options.form ≡ Terms → (named : Listed) (terms : ℕ) (report : List ℕ)
+      → IsTooManyOf s.problem.problem s.handled a.claim.now a.options.limit named terms
+      → report ≡ too_many_report named terms → IsAskedAnswer a (TooMany named terms) report
+  too_many_answer form named terms report many written =
+      as_too_many a.options a.bytes.now report named terms form
+      (record { at_end = at_end; is = is_at_end; many = many; written = written })

@@ -4,5 +4,6 @@ pub mod Inputs
 pub mod Check
 pub mod Basis
 pub mod Member
+pub mod Asked
 pub mod Run
 pub mod Laws

@@ -9,7 +9,7 @@
 --
 -- A certificate that is printed can be checked by `check`, which knows nothing of runs. Only form 1
 -- needs labels, and so has a limit on terms.
-use Rattle.nc_algebra.specs.Certificates.{Certificate, IsCertificate, Line}
+use Rattle.nc_algebra.specs.Certificates.{Certificate, IsCertificate, Line, element_lines}
 use Rattle.nc_algebra.specs.Monomials.{Sig}
 use Rattle.nc_algebra.specs.Polynomials.{Polynomial}
 use Rattle.nc_algebra.specs.Problems.{NamedProblem, setting_of}
@@ -72,12 +72,13 @@ pub record IsLines (bytes report : List ℕ) : Type 0 where
   pub keeps : IsCertificate (certificate_with at_end lines)
   pub written : report ≡ certificate_text (certificate_with at_end lines)
 
--- the report is the certificate with the terms of a representation of the claim
+-- the report is the certificate with the terms of a representation of the claim: one line
 pub record IsTerms (limit : ℕ) (bytes report : List ℕ) : Type 0 where
   pub at_end : ClaimAtEnd
   pub is : IsClaimAtEnd bytes at_end
   pub m : List (Term Sig)
   pub represented : IsRepresented at_end.problem.problem at_end.handled at_end.claim limit m
+  pub keeps : IsCertificate (certificate_with at_end (element_lines (element_of m)))
   pub written : report ≡ terms_text (setting_of at_end.problem) at_end.claim (element_of m)
 
 -- the label of this entry that is needed, or else the representation, has more terms than the limit

@@ -47,38 +47,56 @@ IsAnswer (Demo options) bytes status report = ⊥
 
 -- ---- what was read and written
 
--- the report was written, or the count of the sink's failures rose and a front of it was written
-abbrev pub IsReported : Option (List ℕ) → Option (List ℕ) → ℕ → ℕ → List ℕ → Status → Status
-    → Type 0
-IsReported old new before now report status result =
-    ((result ≡ status) × Adds old new report)
-    ⊎ ((result ≡ WriteFault) × Rose before now × AddsFront old new report)
+-- a call's use of its source: what the source tells of the bytes that are left, and how many
+-- failures it has counted
+pub record SourceUse : Type 0 where
+  pub left_before : Option (List ℕ)
+  pub left_after : Option (List ℕ)
+  pub faults_before : ℕ
+  pub faults_after : ℕ
 
--- `usage` was reported, or memory ran out while the words were read, with nothing written
-abbrev pub IsRefused : Option (List ℕ) → Option (List ℕ) → ℕ → ℕ → Status → Type 0
-IsRefused old new before now result =
-    ((result ≡ OutOfMemory) × Adds old new [])
-    ⊎ IsReported old new before now (codes "usage\n") Usage result
+-- its use of its sink: what the sink tells of the bytes that were written, and its failures
+pub record SinkUse : Type 0 where
+  pub written_before : Option (List ℕ)
+  pub written_after : Option (List ℕ)
+  pub faults_before : ℕ
+  pub faults_after : ℕ
+
+-- this text was written, and nothing else
+abbrev pub HasWritten : SinkUse → List ℕ → Type 0
+HasWritten sink text = Adds sink.written_before sink.written_after text
+
+-- memory ran out, with nothing written
+abbrev pub LackedMemory : SinkUse → Status → Type 0
+LackedMemory sink result = (result ≡ OutOfMemory) × HasWritten sink []
+
+-- the report was written, or the count of the sink's failures rose and a front of it was written
+abbrev pub IsReported : SinkUse → List ℕ → Status → Status → Type 0
+IsReported sink report status result =
+    ((result ≡ status) × HasWritten sink report)
+    ⊎ ((result ≡ WriteFault) × Rose sink.faults_before sink.faults_after
+    × AddsFront sink.written_before sink.written_after report)
+
+-- `usage` was reported, or memory ran out while the words were read
+abbrev pub IsRefused : SinkUse → Status → Type 0
+IsRefused sink result =
+    LackedMemory sink result ⊎ IsReported sink (codes "usage\n") Usage result
 
 -- the source was read to its end, or as far as 16,777,217 bytes, and status and report are those of
 -- its bytes
-pub record IsAnswered (options : Options)
-    (left_before left_after written_before written_after : Option (List ℕ)) (before now : ℕ)
-    (result : Status) : Type 0 where
+pub record IsAnswered (options : Options) (source : SourceUse) (sink : SinkUse) (result : Status)
+    : Type 0 where
   pub bytes : List ℕ
-  pub taken : TakesWhole left_before left_after bytes 16777217
+  pub taken : TakesWhole source.left_before source.left_after bytes 16777217
   pub status : Status
   pub report : List ℕ
   pub answer : IsAnswer options bytes status report
-  pub reported : IsReported written_before written_after before now report status result
+  pub reported : IsReported sink report status result
 
 -- a read fault only where the count of the source's failures rose, with nothing written; want of
--- memory, with nothing written; or an answer
-abbrev pub Ran : Options → Option (List ℕ) → Option (List ℕ) → Option (List ℕ) → Option (List ℕ) → ℕ
-    → ℕ → ℕ → ℕ → Status → Type 0
-Ran options left_before left_after written_before written_after source_before source_now sink_before
-    sink_now result =
-    ((result ≡ ReadFault) × Rose source_before source_now × Adds written_before written_after [])
-    ⊎ (((result ≡ OutOfMemory) × Adds written_before written_after [])
-    ⊎ IsAnswered options left_before left_after written_before written_after sink_before
-    sink_now result)
+-- memory; or an answer
+abbrev pub Ran : Options → SourceUse → SinkUse → Status → Type 0
+Ran options source sink result =
+    ((result ≡ ReadFault) × Rose source.faults_before source.faults_after × HasWritten sink [])
+    ⊎ (LackedMemory sink result
+    ⊎ IsAnswered options source sink result)

@@ -2,7 +2,7 @@
 //! over a source and a sink.
 #![tactic(auto)]
 
-ghost use Rattle.nc_top.specs.Laws.{CompleteMembers, CompleteRuns, FaultlessRuns, OneAnswer};
+ghost use Rattle.nc_top.specs.Laws.{CompleteMembers, CompleteRuns, FaultlessRuns, MembersCheck, OneAnswer};
 
 mod basis;
 mod check;
@@ -34,4 +34,11 @@ pub fn complete_runs()
 /// there is none.
 pub fn complete_members()
     ensures { CompleteMembers }
+{}
+
+/// What `member` prints of a claim that has a representation is a certificate of the claim. If its words have at most 255
+/// letters, its text is not too long and its check stays within the limit on work, then `check` reads it and answers that it
+/// is valid.
+pub fn members_check()
+    ensures { MembersCheck }
 {}

@@ -1,7 +1,7 @@
 //! The answer of `member`.
 
-ghost use Rattle.nc_member.specs.Members.{IsMember, IsOpen, IsProved, IsRepresented, IsUnrepresented};
 ghost use Rattle.nc_options.specs.declared.options.Form.TheVariants.{Lines as AsLines, Terms as AsTerms};
+ghost use Rattle.nc_top.specs.Asked.{AreLinesOf, AreTermsOf, IsAsked, IsAskedAnswer, IsFoundOf, LeavesRest, StaysOpen};
 ghost use Rattle.nc_top.specs.Member.{IsClaimText, IsMemberAnswer, reads_claim};
 ghost use Rattle.nc_algebra.specs.Monomials.{monomial_of};
 ghost use Rattle.nc_top.specs.Reports.{not_below_report, remainder_line, undecided_report};
@@ -21,6 +21,15 @@ use nc_report::names_of;
 use nc_sig::Sig;
 use nc_text::{ProblemText, ReadFault, read_problem};
 use std::alloc::{AllocError, Global};
+
+/// A claim with the bytes that it was read from, and the run of its problem, which has come to its end.
+#[derive(Drop)]
+struct Asked<'a> {
+    bytes: &'a [u8],
+    finished: &'a Finished,
+    claim: &'a Poly,
+    options: MemberOptions,
+}
 
 /// Appends what is left of a claim.
 fn write_remainder(out: &mut Vec<u8>, names: &[Name], rest: &Poly) -> Result<(), AllocError>
@@ -65,18 +74,14 @@ fn undecided_report(
 /// Status and report where the run is complete and something is left of the claim.
 fn answer_not_below(
     alloc: Global,
-    bytes: &[u8],
-    finished: &Finished,
-    claim: &Poly,
+    asked: &Asked<'_>,
     rest: &Poly,
-    options: MemberOptions,
 ) -> Result<(Status, Vec<u8>), AllocError>
-    requires text { IsClaimText bytes.now finished.now.snapshot.problem claim.now }
-    requires rest { IsUnrepresented finished.now.snapshot.problem.problem
-        finished.now.snapshot.handled finished.now.ending claim.now rest.now }
-    ensures { IfOk result (λ r. IsMemberAnswer options bytes.now r.0 r.1.items) }
+    requires asked { IsAsked asked.now }
+    requires rest { LeavesRest asked.now rest.now }
+    ensures { IfOk result (λ r. IsAskedAnswer asked.now r.0 r.1.items) }
 {
-    let snapshot = finished.snapshot();
+    let snapshot = asked.finished.snapshot();
     snapshot.recall_rule();
     let report = not_below_report(alloc, names_of(snapshot), rest)?;
     Ok((Status::NotBelow, report))
@@ -85,17 +90,14 @@ fn answer_not_below(
 /// Status and report where the steps were used up and something is left of the claim.
 fn answer_undecided(
     alloc: Global,
-    bytes: &[u8],
-    finished: &Finished,
-    claim: &Poly,
+    asked: &Asked<'_>,
     rest: &Poly,
-    options: MemberOptions,
 ) -> Result<(Status, Vec<u8>), AllocError>
-    requires text { IsClaimText bytes.now finished.now.snapshot.problem claim.now }
-    requires rest { IsOpen finished.now.snapshot.problem.problem finished.now.snapshot.handled
-        finished.now.ending claim.now rest.now }
-    ensures { IfOk result (λ r. IsMemberAnswer options bytes.now r.0 r.1.items) }
+    requires asked { IsAsked asked.now }
+    requires rest { StaysOpen asked.now rest.now }
+    ensures { IfOk result (λ r. IsAskedAnswer asked.now r.0 r.1.items) }
 {
+    let finished = asked.finished;
     let snapshot = finished.snapshot();
     snapshot.recall_rule();
     match finished.end() {
@@ -110,112 +112,80 @@ fn answer_undecided(
 /// Status and report for a representation as lines.
 fn answer_lines(
     alloc: Global,
-    bytes: &[u8],
-    finished: &Finished,
-    claim: &Poly,
+    asked: &Asked<'_>,
     lines: &Lines,
-    options: MemberOptions,
 ) -> Result<(Status, Vec<u8>), AllocError>
-    requires text { IsClaimText bytes.now finished.now.snapshot.problem claim.now }
-    requires form { options.form ≡ AsLines }
-    requires lines { IsProved finished.now.snapshot.problem finished.now.snapshot.handled claim.now
-        lines.now }
-    ensures { IfOk result (λ r. IsMemberAnswer options bytes.now r.0 r.1.items) }
+    requires asked { IsAsked asked.now }
+    requires form { asked.now.options.form ≡ AsLines }
+    requires lines { AreLinesOf asked.now lines.now }
+    ensures { IfOk result (λ r. IsAskedAnswer asked.now r.0 r.1.items) }
 {
-    let snapshot = finished.snapshot();
-    let problem = snapshot.problem();
+    let problem = asked.finished.snapshot().problem();
     let mut report = Vec::new(alloc);
-    write_proof(&mut report, problem.setting(), claim, lines)?;
+    write_proof(&mut report, problem.setting(), asked.claim, lines)?;
     Ok((Status::Done, report))
 }
 
 /// Status and report for a representation as a module element.
 fn answer_terms(
     alloc: Global,
-    bytes: &[u8],
-    finished: &Finished,
-    claim: &Poly,
+    asked: &Asked<'_>,
     m: &Module,
-    options: MemberOptions,
 ) -> Result<(Status, Vec<u8>), AllocError>
-    requires text { IsClaimText bytes.now finished.now.snapshot.problem claim.now }
-    requires form { options.form ≡ AsTerms }
-    requires m { IsRepresented finished.now.snapshot.problem.problem finished.now.snapshot.handled
-        claim.now options.limit m.now }
-    ensures { IfOk result (λ r. IsMemberAnswer options bytes.now r.0 r.1.items) }
+    requires asked { IsAsked asked.now }
+    requires form { asked.now.options.form ≡ AsTerms }
+    requires m { AreTermsOf asked.now m.now }
+    ensures { IfOk result (λ r. IsAskedAnswer asked.now r.0 r.1.items) }
 {
-    let snapshot = finished.snapshot();
-    let problem = snapshot.problem();
+    let problem = asked.finished.snapshot().problem();
     let mut report = Vec::new(alloc);
-    write_terms(&mut report, problem.setting(), claim, m)?;
+    write_terms(&mut report, problem.setting(), asked.claim, m)?;
     Ok((Status::Done, report))
 }
 
 /// Status and report where lines are wanted.
-fn answer_by_lines(
-    alloc: Global,
-    bytes: &[u8],
-    finished: &Finished,
-    claim: &Poly,
-    options: MemberOptions,
-) -> Result<(Status, Vec<u8>), AllocError>
-    requires text { IsClaimText bytes.now finished.now.snapshot.problem claim.now }
-    requires form { options.form ≡ AsLines }
-    ensures { IfOk result (λ r. IsMemberAnswer options bytes.now r.0 r.1.items) }
+fn answer_by_lines(alloc: Global, asked: &Asked<'_>) -> Result<(Status, Vec<u8>), AllocError>
+    requires asked { IsAsked asked.now }
+    requires form { asked.now.options.form ≡ AsLines }
+    ensures { IfOk result (λ r. IsAskedAnswer asked.now r.0 r.1.items) }
 {
-    match prove(alloc, finished, claim)? {
-        Membership::Below(lines) => answer_lines(alloc, bytes, finished, claim, &lines, options),
-        Membership::NotBelow(rest) => answer_not_below(
-            alloc, bytes, finished, claim, &rest, options,
-        ),
-        Membership::Undecided(rest) => answer_undecided(
-            alloc, bytes, finished, claim, &rest, options,
-        ),
+    match prove(alloc, asked.finished, asked.claim)? {
+        Membership::Below(lines) => answer_lines(alloc, asked, &lines),
+        Membership::NotBelow(rest) => answer_not_below(alloc, asked, &rest),
+        Membership::Undecided(rest) => answer_undecided(alloc, asked, &rest),
     }
 }
 
 /// Status and report for the answer with a module element.
 fn answer_found(
     alloc: Global,
-    bytes: &[u8],
-    finished: &Finished,
-    claim: &Poly,
+    asked: &Asked<'_>,
     found: Membership<Module>,
-    options: MemberOptions,
 ) -> Result<(Status, Vec<u8>), AllocError>
-    requires text { IsClaimText bytes.now finished.now.snapshot.problem claim.now }
-    requires form { options.form ≡ AsTerms }
-    requires found { IsMember finished.now claim.now options.limit found }
-    ensures { IfOk result (λ r. IsMemberAnswer options bytes.now r.0 r.1.items) }
+    requires asked { IsAsked asked.now }
+    requires form { asked.now.options.form ≡ AsTerms }
+    requires found { IsFoundOf asked.now found }
+    ensures { IfOk result (λ r. IsAskedAnswer asked.now r.0 r.1.items) }
 {
     match found {
-        Membership::Below(m) => answer_terms(alloc, bytes, finished, claim, &m, options),
-        Membership::NotBelow(rest) => {
-            answer_not_below(alloc, bytes, finished, claim, &rest, options)
-        }
-        Membership::Undecided(rest) => {
-            answer_undecided(alloc, bytes, finished, claim, &rest, options)
-        }
+        Membership::Below(m) => answer_terms(alloc, asked, &m),
+        Membership::NotBelow(rest) => answer_not_below(alloc, asked, &rest),
+        Membership::Undecided(rest) => answer_undecided(alloc, asked, &rest),
     }
 }
 
 /// Status and report where terms are wanted.
-fn answer_by_terms(
-    alloc: Global,
-    bytes: &[u8],
-    finished: &Finished,
-    claim: &Poly,
-    options: MemberOptions,
-) -> Result<(Status, Vec<u8>), AllocError>
-    requires text { IsClaimText bytes.now finished.now.snapshot.problem claim.now }
-    requires form { options.form ≡ AsTerms }
-    ensures { IfOk result (λ r. IsMemberAnswer options bytes.now r.0 r.1.items) }
+fn answer_by_terms(alloc: Global, asked: &Asked<'_>) -> Result<(Status, Vec<u8>), AllocError>
+    requires asked { IsAsked asked.now }
+    requires form { asked.now.options.form ≡ AsTerms }
+    ensures { IfOk result (λ r. IsAskedAnswer asked.now r.0 r.1.items) }
 {
+    let finished = asked.finished;
     let snapshot = finished.snapshot();
     snapshot.recall_rule();
-    let limit = u64::from(options.limit);
-    match member(alloc, finished, claim, limit) {
-        Ok(found) => answer_found(alloc, bytes, finished, claim, found, options),
+    let limit = u64::from(asked.options.limit);
+    match member(alloc, finished, asked.claim, limit) {
+        Ok(found) => answer_found(alloc, asked, found),
         Err(CofactorFault::TooMany { listed, terms }) => Ok((
             Status::TooMany { listed, terms },
             too_many_report(alloc, listed, terms)?,
@@ -238,9 +208,15 @@ fn answer_claim(
     ensures { IfOk result (λ r. IsMemberAnswer options bytes.now r.0 r.1.items) }
 {
     let finished = run_problem(alloc, problem, options.window)?;
+    let asked = Asked {
+        bytes,
+        finished: &finished,
+        claim,
+        options,
+    };
     match options.form {
-        Form::Terms => answer_by_terms(alloc, bytes, &finished, claim, options),
-        Form::Lines => answer_by_lines(alloc, bytes, &finished, claim, options),
+        Form::Terms => answer_by_terms(alloc, &asked),
+        Form::Lines => answer_by_lines(alloc, &asked),
     }
 }
 

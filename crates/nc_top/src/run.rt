@@ -47,8 +47,12 @@ fn answer(alloc: Global, options: Options, bytes: &[u8]) -> Result<(Status, Vec<
 
 /// Writes the report.
 fn report<K: Sink>(sink: &mut K, status: Status, text: &[u8]) -> Status
-    ensures { IsReported (K.written sink.old) (K.written sink.new) (K.faults sink.old)
-        (K.faults sink.new) text.now status result }
+    ensures { IsReported (record {
+      written_before = K.written sink.old;
+      written_after = K.written sink.new;
+      faults_before = K.faults sink.old;
+      faults_after = K.faults sink.new;
+    }) text.now status result }
 {
     match put_whole(sink, text) {
         Ok(()) => status,
@@ -58,8 +62,12 @@ fn report<K: Sink>(sink: &mut K, status: Status, text: &[u8]) -> Status
 
 /// Reports that the words are no command that runs.
 fn refuse<K: Sink>(sink: &mut K) -> Status
-    ensures { IsReported (K.written sink.old) (K.written sink.new) (K.faults sink.old)
-        (K.faults sink.new) (codes "usage\n") Status.Usage result }
+    ensures { IsReported (record {
+      written_before = K.written sink.old;
+      written_after = K.written sink.new;
+      faults_before = K.faults sink.old;
+      faults_after = K.faults sink.new;
+    }) (codes "usage\n") Status.Usage result }
 {
     report(sink, Status::Usage, b"usage\n")
 }
@@ -73,9 +81,17 @@ fn run_command<S: Source, K: Sink>(
 ) -> Status
     requires runs { Runs options }
     requires range { AreInRange options }
-    ensures ran { Ran options (S.left source.old) (S.left source.new) (K.written sink.old)
-        (K.written sink.new) (S.faults source.old) (S.faults source.new) (K.faults sink.old)
-        (K.faults sink.new) result }
+    ensures ran { Ran options (record {
+      left_before = S.left source.old;
+      left_after = S.left source.new;
+      faults_before = S.faults source.old;
+      faults_after = S.faults source.new;
+    }) (record {
+      written_before = K.written sink.old;
+      written_after = K.written sink.new;
+      faults_before = K.faults sink.old;
+      faults_after = K.faults sink.new;
+    }) result }
     ensures limit { TakesFront (S.left source.old) (S.left source.new) 16777217 }
 {
     match take_whole(alloc, source, MAX_BYTES + 1) {
@@ -108,12 +124,24 @@ pub fn run_alone<S: Source, K: Sink>(
 ) -> Status
     ensures unread { ¬ IsRun (map string_bytes words.now) → source.new ≡ source.old }
     ensures usage { ¬ IsRun (map string_bytes words.now)
-        → IsRefused (K.written sink.old) (K.written sink.new) (K.faults sink.old)
-        (K.faults sink.new) result }
+        → IsRefused (record {
+          written_before = K.written sink.old;
+          written_after = K.written sink.new;
+          faults_before = K.faults sink.old;
+          faults_after = K.faults sink.new;
+        }) result }
     ensures ran { (options : Options) → IsCommand (map string_bytes words.now) options
-        → Ran options (S.left source.old) (S.left source.new) (K.written sink.old)
-        (K.written sink.new) (S.faults source.old) (S.faults source.new) (K.faults sink.old)
-        (K.faults sink.new) result }
+        → Ran options (record {
+          left_before = S.left source.old;
+          left_after = S.left source.new;
+          faults_before = S.faults source.old;
+          faults_after = S.faults source.new;
+        }) (record {
+          written_before = K.written sink.old;
+          written_after = K.written sink.new;
+          faults_before = K.faults sink.old;
+          faults_after = K.faults sink.new;
+        }) result }
     ensures limit { TakesFront (S.left source.old) (S.left source.new) 16777217 }
 {
     options_are_in_range();

@@ -3,9 +3,10 @@ use Rattle.nc_top.proofs.member.answer_by_lines.Goals as goal
 
 pub prove-requires-clause-claim : goal.prove-requires-clause-claim
 prove-requires-clause-claim c =
-    claim_in c.args.bytes.now c.args.finished.now.snapshot.problem c.args.claim.now c.requires.text
+    claim_in c.args.asked.now.bytes.now c.args.asked.now.finished.now.snapshot.problem
+    c.args.asked.now.claim.now c.requires.asked
 
 pub prove-requires-clause-light : goal.prove-requires-clause-light
 prove-requires-clause-light c =
-    claim_light c.args.bytes.now c.args.finished.now.snapshot.problem c.args.claim.now
-    c.requires.text
+    claim_light c.args.asked.now.bytes.now c.args.asked.now.finished.now.snapshot.problem
+    c.args.asked.now.claim.now c.requires.asked
