@@ -1,9 +1,10 @@
 -- The leading word that is computed is the greatest one.
--- `lead_leads` says so of each polynomial that is not zero; for a normal form it is the first word
--- (`leading-normal`).
+-- `lead_leads` says so of each polynomial that is not zero, and `leading_greatest` of all; for a
+-- normal form it is the first word (`leading-normal`).
 use Rattle.nc_algebra.proofs.NormalForms.{normal_leads}
 use Rattle.nc_algebra.proofs.Sums.{at_other, key_dec, lead_unique, top, zero_number}
 use Rattle.nc_algebra.proofs.Words.{not_below_empty, word_laws, word_less_complete, word_less_sound, word_total, word_trans}
+use Rattle.nc_algebra.specs.Laws.{LeadingIsGreatest}
 use Rattle.nc_algebra.specs.Polynomials.{IsNormal, Polynomial, coefficient, leading, leading_among}
 use Rattle.nc_algebra.specs.Primes.{IsZero}
 use Rattle.nc_algebra.specs.Sums.{IsLeadingKey, Term}
@@ -103,6 +104,32 @@ lead_leads p f n = go (top same_word IsWordLess word_laws p f)
     go (inl z) = absurd (n z)
     go (inr (k, d)) =
         place k d (among_most p f f k d.nonzero (occurs p f k d.nonzero)) (among_counts p f f)
+
+-- the leading word is the greatest one that counts, and empty where there is none
+pub leading_greatest : (p : ℕ) (f : Polynomial) → LeadingIsGreatest p f
+unfolding leading
+leading_greatest p f =
+    record { counts = λ w n. (leads w n).nonzero; greatest = greatest; none = none }
+  where
+    leads : (w : Word) → ¬ IsZero p (coefficient f w)
+        → IsLeadingKey same_word IsWordLess p f (leading p f)
+    leads w n = lead_leads p f (λ z. n (z w))
+
+    greatest : (w : Word) → ¬ IsZero p (coefficient f w) → IsAtMost w (leading p f)
+    greatest w n = go (word_total w (leading p f))
+      where
+        go : IsWordLess w (leading p f) ⊎ ((w ≡ leading p f) ⊎ IsWordLess (leading p f) w)
+            → IsAtMost w (leading p f)
+        go (inl l) = inr l
+        go (inr (inl e)) = inl e
+        go (inr (inr l)) = absurd (n ((leads w n).above w l))
+
+    none : ((w : Word) → IsZero p (coefficient f w)) → leading p f ≡ []
+    none z = go (among_counts p f f)
+      where
+        go : (leading p f ≡ []) ⊎ ¬ IsZero p (coefficient f (leading p f)) → leading p f ≡ []
+        go (inl e) = e
+        go (inr m) = absurd (m (z (leading p f)))
 
 -- the leading word of a normal form is its first word
 pub leading-normal : (p : ℕ) (t : Term Word) (f : Polynomial) → IsNormal p (t ∷ f)

@@ -4,7 +4,8 @@
 -- compatible with multiplication, and that the comparisons compute them. `LabelLimit` bounds the
 -- weight of what has a label, and `Inverses` gives inverses modulo a prime. `SigLaw` justifies
 -- monomials that carry their degree. `FiniteBound` says that the list of a bound's monomials is
--- right, and `NormalForms` that each polynomial has one normal form.
+-- right, `NormalForms` that each polynomial has one normal form, and `LeadingIsGreatest` that the
+-- leading word is computed.
 --
 -- The last three are on certificates: one is valid exactly where its rest is empty, each one has
 -- cofactors, and a module element makes a certificate of one line.
@@ -18,7 +19,7 @@ use Rattle.nc_algebra.specs.Lists.{IsDistinct}
 use Rattle.nc_algebra.specs.Problems.{Bound, IsWithinBound}
 use Rattle.nc_algebra.specs.Monomials.{Monomial, above_degree, compare_monomials, compare_sigs, sig_of, sig_times, times}
 use Rattle.nc_algebra.specs.Orders.{Compares}
-use Rattle.nc_algebra.specs.Polynomials.{IsNormal, Polynomial, normal_form}
+use Rattle.nc_algebra.specs.Polynomials.{IsNormal, Polynomial, coefficient, leading, normal_form}
 use Rattle.nc_algebra.specs.Primes.{IsPrime, IsZero}
 use Rattle.nc_algebra.specs.Sums.{SameSum}
 use Rattle.nc_algebra.specs.Words.{IsWordLess, Letter, OccursAt, Word, compare_words, same_word, word_weight}
@@ -83,6 +84,14 @@ pub record NormalForms (p : ℕ) : Type 0 where
   pub normal : (f : Polynomial) → IsNormal p (normal_form p f)
   pub same : (f : Polynomial) → SameSum same_word p (normal_form p f) f
   pub only : (f g : Polynomial) → IsNormal p g → SameSum same_word p g f → g ≡ normal_form p f
+
+-- the leading word that is computed has a coefficient other than zero, and is the greatest such
+-- word; where there is no such word, it is the empty word
+pub record LeadingIsGreatest (p : ℕ) (f : Polynomial) : Type 0 where
+  pub counts : (w : Word) → ¬ IsZero p (coefficient f w) → ¬ IsZero p (coefficient f (leading p f))
+  pub greatest : (w : Word) → ¬ IsZero p (coefficient f w)
+      → (w ≡ leading p f) ⊎ IsWordLess w (leading p f)
+  pub none : ((w : Word) → IsZero p (coefficient f w)) → leading p f ≡ []
 
 -- a certificate is valid exactly where nothing is left of its claim
 abbrev pub Validity : Type 0
