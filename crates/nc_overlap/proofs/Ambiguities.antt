@@ -4,12 +4,13 @@ use Rattle.nc_algebra.specs.Monomials.{Monomial}
 use Rattle.nc_overlap.specs.Overlaps.{MeetsEither}
 use Rattle.nc_theory.proofs.Ambiguities.{from_meeting, to_meeting}
 use Rattle.nc_theory.proofs.Meetings.{swap}
+use Rattle.nc_theory.proofs.Stale.{in_front, last_is, last_listed}
 use Rattle.nc_theory.specs.Meetings.{MeetSomewhere}
 use Rattle.nc_algebra.specs.Words.{Word}
 use Rattle.nc_theory.specs.Ambiguities.{Ambiguity, NewAmbiguity}
 use Rattle.nc_theory.specs.States.{Entry}
-use Rattle.std.proofs.Common.{Contains, List, [], inl, inr, subst, sym, ◌++◌, ◌∷◌, ◌≡◌, ◌⊎◌}
-use Rattle.std.proofs.lemmas.List.Elements.{Contains-append_left, Contains-push, Contains-push_cases}
+use Rattle.std.proofs.Common.{Contains, List, [], arith, inl, inr, length, subst, sym, ℕ, ◌++◌, ◌∷◌, ◌≡◌, ◌≤◌, ◌⊎◌}
+use Rattle.std.proofs.lemmas.List.Elements.{Contains-push_cases}
 
 module _ (s : Setting) (entries : List Entry) (new : Entry) (ρ : Monomial) where
   -- with the new one on one side, the other is an earlier entry or the new one too
@@ -37,35 +38,43 @@ module _ (s : Setting) (entries : List Entry) (new : Entry) (ρ : Monomial) wher
           ⊎ MeetSomewhere s n.ambiguity.low.entry n.ambiguity.high.entry ρ
       meets = to_meeting s (entries ++ new ∷ []) ρ n.word n.ambiguity
 
-      go : (n.ambiguity.high.entry ≡ new) ⊎ (n.ambiguity.low.entry ≡ new)
+      go : (length entries ≤ n.ambiguity.high.listed.0)
+          ⊎ (length entries ≤ n.ambiguity.low.listed.0)
           → MeetSomewhere s new new ρ ⊎ MeetsEither s entries new ρ
-      go (inl i) =
-          with_new n.ambiguity.high.entry n.ambiguity.low.entry n.ambiguity.low.listed i meets
-      go (inr i) =
-          with_new n.ambiguity.low.entry n.ambiguity.high.entry n.ambiguity.high.listed i
-          (swap meets)
+      go (inl b) =
+          with_new n.ambiguity.high.entry n.ambiguity.low.entry n.ambiguity.low.listed
+          (sym (last_is entries new n.ambiguity.high.entry n.ambiguity.high.listed b)) meets
+      go (inr b) =
+          with_new n.ambiguity.low.entry n.ambiguity.high.entry n.ambiguity.high.listed
+          (sym (last_is entries new n.ambiguity.low.entry n.ambiguity.low.listed b)) (swap meets)
 
-  abbrev Between : Entry → Entry → Type 0
-  Between e f =
+  -- an ambiguity of the entries at two places
+  abbrev Between : ℕ → ℕ → Type 0
+  Between i j =
       (w : Word) × (a : Ambiguity s (entries ++ new ∷ []) ρ w)
-      × (((a.high.entry ≡ e) × (a.low.entry ≡ f)) ⊎ ((a.high.entry ≡ f) × (a.low.entry ≡ e)))
+      × (((a.high.listed.0 ≡ i) × (a.low.listed.0 ≡ j))
+      ⊎ ((a.high.listed.0 ≡ j) × (a.low.listed.0 ≡ i)))
 
-  first_new : (f : Entry) → Between new f → NewAmbiguity s entries new ρ
-  first_new f (w, a, inl h) = record { word = w; ambiguity = a; newest = inl h.0 }
-  first_new f (w, a, inr h) = record { word = w; ambiguity = a; newest = inr h.1 }
+  first_new : (j : ℕ) → Between (length entries) j → NewAmbiguity s entries new ρ
+  first_new j (w, a, inl h) =
+      record { word = w; ambiguity = a; newest = inl (omega (arith, h.0)) }
+  first_new j (w, a, inr h) =
+      record { word = w; ambiguity = a; newest = inr (omega (arith, h.1)) }
 
-  second_new : (e : Entry) → Between e new → NewAmbiguity s entries new ρ
-  second_new e (w, a, inl h) = record { word = w; ambiguity = a; newest = inr h.1 }
-  second_new e (w, a, inr h) = record { word = w; ambiguity = a; newest = inl h.0 }
+  second_new : (i : ℕ) → Between i (length entries) → NewAmbiguity s entries new ρ
+  second_new i (w, a, inl h) =
+      record { word = w; ambiguity = a; newest = inr (omega (arith, h.1)) }
+  second_new i (w, a, inr h) =
+      record { word = w; ambiguity = a; newest = inl (omega (arith, h.0)) }
 
   pub meets_new : MeetSomewhere s new new ρ ⊎ MeetsEither s entries new ρ
       → NewAmbiguity s entries new ρ
   meets_new (inl m) =
-      first_new new (from_meeting s (entries ++ new ∷ []) ρ new new (Contains-push entries new)
-      (Contains-push entries new) m)
+      first_new (length entries) (from_meeting s (entries ++ new ∷ []) ρ new new
+      (last_listed entries new) (last_listed entries new) m)
   meets_new (inr (e, c, inl m)) =
-      second_new e (from_meeting s (entries ++ new ∷ []) ρ e new
-      (Contains-append_left entries (new ∷ []) e c) (Contains-push entries new) m)
+      second_new c.0 (from_meeting s (entries ++ new ∷ []) ρ e new
+      (in_front entries (new ∷ []) e c) (last_listed entries new) m)
   meets_new (inr (e, c, inr m)) =
-      first_new e (from_meeting s (entries ++ new ∷ []) ρ new e (Contains-push entries new)
-      (Contains-append_left entries (new ∷ []) e c) m)
+      first_new c.0 (from_meeting s (entries ++ new ∷ []) ρ new e (last_listed entries new)
+      (in_front entries (new ∷ []) e c) m)

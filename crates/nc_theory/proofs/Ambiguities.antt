@@ -14,10 +14,11 @@ use Rattle.nc_theory.specs.States.{Entry}
 use Rattle.std.proofs.Common.{Contains, List, [], ap, arith, inl, inr, length, refl, subst, sym, ◌++◌, ◌∙◌, ◌≡◌, ◌⊎◌}
 
 module _ (s : Setting) (entries : List Entry) (σ : Monomial) where
-  -- where two entries meet, they have an ambiguity
-  pub from_meeting : (e f : Entry) → Contains entries e → Contains entries f → MeetSomewhere s e f σ
-      → (w : Word) × (a : Ambiguity s entries σ w)
-      × (((a.high.entry ≡ e) × (a.low.entry ≡ f)) ⊎ ((a.high.entry ≡ f) × (a.low.entry ≡ e)))
+  -- where two entries meet, they have an ambiguity, of the two places in the list
+  pub from_meeting : (e f : Entry) (c : Contains entries e) (d : Contains entries f)
+      → MeetSomewhere s e f σ → (w : Word) × (a : Ambiguity s entries σ w)
+      × (((a.high.listed.0 ≡ c.0) × (a.low.listed.0 ≡ d.0))
+      ⊎ ((a.high.listed.0 ≡ d.0) × (a.low.listed.0 ≡ c.0)))
   from_meeting e f c d (k, m) =
       let r = go m.greater in (leading s.prime e.polynomial ++ m.behind_first, r.0, r.1)
     where
@@ -37,7 +38,8 @@ module _ (s : Setting) (entries : List Entry) (σ : Monomial) where
       go : IsGreaterOf s (times [] e.signature m.behind_first)
           (times m.before f.signature m.behind_second) σ
           → (a : Ambiguity s entries σ (leading s.prime e.polynomial ++ m.behind_first))
-          × (((a.high.entry ≡ e) × (a.low.entry ≡ f)) ⊎ ((a.high.entry ≡ f) × (a.low.entry ≡ e)))
+          × (((a.high.listed.0 ≡ c.0) × (a.low.listed.0 ≡ d.0))
+          ⊎ ((a.high.listed.0 ≡ d.0) × (a.low.listed.0 ≡ c.0)))
       go (inl g) = (
         record {
           high = second;

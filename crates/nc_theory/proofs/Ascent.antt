@@ -9,11 +9,12 @@ use Rattle.nc_algebra.specs.Problems.{IsWithin, Problem}
 use Rattle.nc_algebra.specs.Sums.{Term}
 use Rattle.nc_algebra.specs.Words.{Word}
 use Rattle.nc_theory.proofs.Completeness.{Invariant, IsReached, entries_after, high_old, invariant, low_old, reached_or_left}
+use Rattle.nc_theory.proofs.Stale.{front_or_later, last_is}
 use Rattle.nc_theory.specs.Ambiguities.{NewAmbiguity}
 use Rattle.nc_theory.specs.Reductions.{ReductionAt}
 use Rattle.nc_theory.specs.Runs.{BringsAmbiguity, Handles, IsAfter, IsCandidate, IsNext, IsWaiting, Outcome, SequentialRun, Starts, state_after}
-use Rattle.nc_theory.specs.States.{Start, State, Step}
-use Rattle.std.proofs.Common.{Contains, List, None, Option, Some, inl, inr, subst, sym, ℕ, ◌↔◌, ◌∷◌, ◌≡◌, ◌≢◌, ◌⊎◌}
+use Rattle.nc_theory.specs.States.{Entry, Start, State, Step}
+use Rattle.std.proofs.Common.{Contains, List, None, Option, Some, [], inl, inr, length, subst, ℕ, ◌↔◌, ◌∷◌, ◌≡◌, ◌≢◌, ◌≤◌, ◌⊎◌}
 use Rattle.std.proofs.lemmas.List.Elements.{Contains-push_cases}
 
 module _ (P : Problem) (field : IsField P.setting.prime) {n : ℕ} {state : State}
@@ -35,36 +36,29 @@ module _ (P : Problem) (field : IsField P.setting.prime) {n : ℕ} {state : Stat
         trace = record { start = start; steps = steps };
       }) ρ → IsLess P.setting τ ρ
   ascends {kept = kept} {t = t} {start = start} {steps = steps} starts reduction ρ a =
-      from_reached ρ (λ r. go r (Contains-push_cases state.entries
-      (record {
-        signature = τ;
-        polynomial = t ∷ kept;
-        trace = record { start = start; steps = steps };
-      }) a.ambiguity.low.entry
+      from_reached ρ (λ r. go r (Contains-push_cases state.entries new a.ambiguity.low.entry
       a.ambiguity.low.listed) a.newest)
     where
+      new : Entry
+      new =
+          record {
+            signature = τ;
+            polynomial = t ∷ kept;
+            trace = record { start = start; steps = steps };
+          }
+
       go : IsReached P.setting (Some τ) ρ → Contains state.entries a.ambiguity.low.entry
-          ⊎ (record {
-            signature = τ;
-            polynomial = t ∷ kept;
-            trace = record { start = start; steps = steps };
-          } ≡ a.ambiguity.low.entry)
-          → (a.ambiguity.high.entry ≡ record {
-            signature = τ;
-            polynomial = t ∷ kept;
-            trace = record { start = start; steps = steps };
-          })
-          ⊎ (a.ambiguity.low.entry ≡ record {
-            signature = τ;
-            polynomial = t ∷ kept;
-            trace = record { start = start; steps = steps };
-          }) → ⊥
+          ⊎ (new ≡ a.ambiguity.low.entry)
+          → (length state.entries ≤ a.ambiguity.high.listed.0)
+          ⊎ (length state.entries ≤ a.ambiguity.low.listed.0) → ⊥
       go r (inr e) o =
           low_old P field state last inv τ next starts reduction ρ a.word a.ambiguity r e
-      go r (inl k) (inr e) =
-          low_old P field state last inv τ next starts reduction ρ a.word a.ambiguity r (sym e)
-      go r (inl k) (inl e) =
-          high_old P field state last inv τ next starts reduction ρ a.word a.ambiguity r k (sym e)
+      go r (inl k) (inr b) =
+          low_old P field state last inv τ next starts reduction ρ a.word a.ambiguity r
+          (last_is state.entries new a.ambiguity.low.entry a.ambiguity.low.listed b)
+      go r (inl k) (inl b) =
+          high_old P field state last inv τ next starts reduction ρ a.word a.ambiguity r k
+          (last_is state.entries new a.ambiguity.high.entry a.ambiguity.high.listed b)
 
   pub ascent : {o : Outcome} → Handles P.setting state τ o → (ρ : Monomial)
       → BringsAmbiguity P.setting state τ o ρ → IsLess P.setting τ ρ
@@ -81,20 +75,21 @@ module _ (P : Problem) (field : IsField P.setting.prime) {n : ℕ} {state : Stat
   candidate_back (Outcome.a_syzygy trace) ρ c = inl c
   candidate_back (Outcome.an_entry f trace) ρ (within, inl u) = inl (within, inl u)
   candidate_back (Outcome.an_entry f trace) ρ (within, inr (w, amb)) =
-      go (Contains-push_cases state.entries
-      (record { signature = τ; polynomial = f; trace = trace }) amb.low.entry amb.low.listed)
-      (Contains-push_cases state.entries (record { signature = τ; polynomial = f; trace = trace })
-      amb.high.entry amb.high.listed)
+      go (front_or_later state.entries (new ∷ []) amb.low.entry amb.low.listed)
+      (front_or_later state.entries (new ∷ []) amb.high.entry amb.high.listed)
     where
-      go : Contains state.entries amb.low.entry
-          ⊎ (record { signature = τ; polynomial = f; trace = trace } ≡ amb.low.entry)
-          → Contains state.entries amb.high.entry
-          ⊎ (record { signature = τ; polynomial = f; trace = trace } ≡ amb.high.entry)
+      new : Entry
+      new = record { signature = τ; polynomial = f; trace = trace }
+
+      go : ((k : Contains state.entries amb.low.entry) × (k.0 ≡ amb.low.listed.0))
+          ⊎ (Contains (new ∷ []) amb.low.entry × (length state.entries ≤ amb.low.listed.0))
+          → ((h : Contains state.entries amb.high.entry) × (h.0 ≡ amb.high.listed.0))
+          ⊎ (Contains (new ∷ []) amb.high.entry × (length state.entries ≤ amb.high.listed.0))
           → IsCandidate P state ρ ⊎ (IsWithin P ρ
           × BringsAmbiguity P.setting state τ (Outcome.an_entry f trace) ρ)
-      go (inr e) o = inr (within, record { word = w; ambiguity = amb; newest = inr (sym e) })
-      go (inl k) (inr e) = inr (within, record { word = w; ambiguity = amb; newest = inl (sym e) })
-      go (inl k) (inl h) = inl (
+      go (inr (_, b)) o = inr (within, record { word = w; ambiguity = amb; newest = inr b })
+      go (inl k) (inr (_, b)) = inr (within, record { word = w; ambiguity = amb; newest = inl b })
+      go (inl (k, _)) (inl (h, _)) = inl (
         within,
         inr (
           w,

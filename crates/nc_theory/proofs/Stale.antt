@@ -20,9 +20,9 @@ use Rattle.nc_theory.specs.Runs.{Handles, Outcome, Starts}
 use Rattle.nc_theory.specs.Stale.{extended, CameFrom, Keeps, NewMultiple, NewRegular, NewlyCovered, StartedFrom, Unaffected}
 use Rattle.nc_theory.specs.States.{Entry, Start, State, Step, Syzygy}
 use Rattle.nc_theory.specs.Syzygies.{Covered, IsSyzygySignature, TrivialSyzygy}
-use Rattle.std.proofs.Common.{ℕ, ◌≡◌, ◌+◌, ◌-◌, ◌<◌, ◌≤◌, ◌⊎◌, List, ◌∷◌, ◌++◌, length, refl, sym, ap, ap₂, ◌∙◌, subst, inl, inr, arith, Contains, length-append, get_or}
-use Rattle.std.proofs.lemmas.List.{get_or_append_left, get_or-append_right, get_or_default, append_cancel_left, append_cancel_right}
-use Rattle.std.proofs.lemmas.List.Elements.{Contains-append_cases, Contains-append_right}
+use Rattle.std.proofs.Common.{ℕ, ◌≡◌, ◌+◌, ◌-◌, ◌<◌, ◌≤◌, ◌⊎◌, List, [], ◌∷◌, ◌++◌, length, refl, sym, ap, ap₂, ◌∙◌, subst, inl, inr, arith, Contains, length-append, get_or}
+use Rattle.std.proofs.lemmas.List.{get_or_append_left, get_or-append_right, get_or_default, append_cancel_left, append_cancel_right, get_or_push, length_push}
+use Rattle.std.proofs.lemmas.List.Elements.{Contains-append_cases, Contains-append_right, Contains-push_cases}
 
 -- an element of the front stands in the whole, under the same number
 abbrev pub in_front : {X : Type 0} → (xs ys : List X) (x : X) → Contains xs x
@@ -50,6 +50,20 @@ front_or_later xs ys x k = go (nat_order k.0 (length xs))
     go (inl l) = inl ((k.0, l, sym (get_or_append_left xs ys x k.0 l) ∙ k.2), refl)
     go (inr (inl e)) = inr (later (omega (arith, e)))
     go (inr (inr l)) = inr (later (omega arith))
+
+-- what stands behind all of a list but the last is the last
+pub last_is : {X : Type 0} → (xs : List X) (y x : X) → (k : Contains (xs ++ y ∷ []) x)
+    → length xs ≤ k.0 → y ≡ x
+last_is xs y x k b = go (front_or_later xs (y ∷ []) x k)
+  where
+    go : ((l : Contains xs x) × (l.0 ≡ k.0)) ⊎ (Contains (y ∷ []) x × (length xs ≤ k.0)) → y ≡ x
+    go (inl (l, e)) = absurd (omega (arith, l.1, e, b))
+    go (inr (c, _)) = elim (Contains-push_cases [] y x c) [ inl n ↦ absurd (omega (arith, n.1)) | inr e ↦ e ]
+
+-- the last of a list stands behind the others
+abbrev pub last_listed : {X : Type 0} → (xs : List X) (y : X) → Contains (xs ++ y ∷ []) y
+last_listed xs y =
+    (length xs, omega (arith, length_push xs y), get_or_push xs y y (length xs) refl)
 
 module _ (s : Setting) (field : IsField s.prime) (old : State) (nonzero : (e : Entry)
     → Contains old.entries e → ¬ IsZeroPolynomial s e.polynomial) (es : List Entry)
@@ -107,15 +121,19 @@ module _ (s : Setting) (field : IsField s.prime) (old : State) (nonzero : (e : E
               inl (record { by = k.by; is_syzygy = inl (h, d, e); divides = k.divides })
           listed (inr d) = inr (record { by = k.by; divides = k.divides; newer = inl (h, d, e) })
       go (inr t) =
-          both (Contains-append_cases old.entries es t.first t.first_listed)
-          (Contains-append_cases old.entries es t.second t.second_listed)
+          both (front_or_later old.entries es t.first t.first_listed)
+          (front_or_later old.entries es t.second t.second_listed)
         where
-          both : Contains old.entries t.first ⊎ Contains es t.first → Contains old.entries t.second
-              ⊎ Contains es t.second → Covered s old τ ⊎ NewlyCovered s old es hs τ
-          both (inr c) o = inr (record { by = k.by; divides = k.divides; newer = inr (t, inl c) })
-          both (inl d) (inr c) =
-              inr (record { by = k.by; divides = k.divides; newer = inr (t, inr c) })
-          both (inl d) (inl c) =
+          both : ((d : Contains old.entries t.first) × (d.0 ≡ t.first_listed.0))
+              ⊎ (Contains es t.first × (length old.entries ≤ t.first_listed.0))
+              → ((c : Contains old.entries t.second) × (c.0 ≡ t.second_listed.0))
+              ⊎ (Contains es t.second × (length old.entries ≤ t.second_listed.0))
+              → Covered s old τ ⊎ NewlyCovered s old es hs τ
+          both (inr (_, b)) o =
+              inr (record { by = k.by; divides = k.divides; newer = inr (t, inl b) })
+          both (inl d) (inr (_, b)) =
+              inr (record { by = k.by; divides = k.divides; newer = inr (t, inr b) })
+          both (inl (d, _)) (inl (c, _)) =
               inl (record {
                 by = k.by;
                 is_syzygy = inr
@@ -187,7 +205,7 @@ module _ (s : Setting) (field : IsField s.prime) (old : State) (nonzero : (e : E
                 ⊎ ((w ≡ v) × (d.listed.0 + 1 ≤ e.listed.0 + 1))
             place (inl m) = inl m
             place (inr (inl j)) = inr (j, omega (arith, b, d.listed.1))
-            place (inr (inr m)) = absurd (none v (record { divisor = e; signed = i }, c) m)
+            place (inr (inr m)) = absurd (none v (record { divisor = e; signed = i }, b) m)
 
     -- a reduction is the same one, where no kept word has a newer regular divisor
     pub reduction_on : {f kept : Polynomial} {steps : List Step}
@@ -218,7 +236,7 @@ module _ (s : Setting) (field : IsField s.prime) (old : State) (nonzero : (e : E
         go v a (inr (k, b)) =
             none w (kept_leads s field old.entries nonzero (λ σ. IsLess s σ τ)
             (Reduction.keep w d not_any c e rest) (record { coefficient = c; key = w }) kept
-            refl).nonzero (record { divisor = v; below = a }, k)
+            refl).nonzero (record { divisor = v; below = a }, b)
 
     regular_on : (w : Word) → RegularDivisor s old.entries τ w
         → RegularDivisor s (old.entries ++ es) τ w
@@ -256,7 +274,8 @@ module _ (s : Setting) (field : IsField s.prime) (old : State) (nonzero : (e : E
       where
         go : ((h : Syzygy) × Contains hs h × (h.signature ≡ k.by))
             ⊎ ((t : TrivialSyzygy s (old.entries ++ es) k.by)
-            × (Contains es t.first ⊎ Contains es t.second)) → IsSyzygySignature s now k.by
+            × ((length old.entries ≤ t.first_listed.0)
+            ⊎ (length old.entries ≤ t.second_listed.0))) → IsSyzygySignature s now k.by
         go (inl (h, c, e)) = inl (h, Contains-append_right old.syzygies hs h c, e)
         go (inr (t, c)) = inr t
 
@@ -277,7 +296,7 @@ module _ (s : Setting) (field : IsField s.prime) (old : State) (nonzero : (e : E
               };
               below = r.below;
             })
-        go (inr (c, b)) = m (r, c)
+        go (inr (c, b)) = m (r, b)
 
     -- where nothing newer bears on it, the outcome stands
     pub stands : {o : Outcome} → Handles s old τ o → (o ≡ Outcome.covered)

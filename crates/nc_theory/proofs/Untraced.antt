@@ -2,8 +2,8 @@
 -- reductions. An entry of the one list has one at the same index in the other (`in_place`), so a
 -- divisor is carried over with its number and the words around it (`moved`). Choices, best
 -- multiples, reductions, starts and trivial syzygies are stated by divisors and go with them; what
--- is denied goes back the other way. A new ambiguity names its entry and not its index, so the
--- newest entry is put in its place (`placed`).
+-- is denied goes back the other way. A new ambiguity names the newest entry by its index, so it is
+-- carried over like any other.
 use Rattle.nc_algebra.specs.Elements.{IsLess, Setting}
 use Rattle.nc_algebra.specs.Monomials.{Monomial, times}
 use Rattle.nc_algebra.specs.Polynomials.{Polynomial, coefficient, leading, polynomial_times}
@@ -18,7 +18,6 @@ use Rattle.nc_theory.specs.States.{Entry, Start, Step}
 use Rattle.nc_theory.specs.Syzygies.{TrivialSyzygy, first_side, second_side}
 use Rattle.std.proofs.Common.{Contains, List, [], ap, ap₂, arith, get_or, inl, inr, length, map, refl, subst, sym, ◌%◌, ◌*◌, ◌++◌, ◌<◌, ◌∙◌, ◌∷◌, ◌≡◌, ◌≤◌, ◌⊎◌}
 use Rattle.std.proofs.lemmas.List.{get_or-map, get_or_default, length-map, map-append}
-use Rattle.std.proofs.lemmas.List.Elements.{Contains-push}
 
 -- ---- the item at the same index
 
@@ -204,25 +203,25 @@ module _ (s : Setting) (es es' : List Entry) (same : SameEntries es es') where
 -- ---- ambiguities
 
 -- the same place and the same multiple
-record IsAlike (s : Setting) (es es' : List Entry) (w : Word) (d : Divisor s es w)
+pub record IsAlike (s : Setting) (es es' : List Entry) (w : Word) (d : Divisor s es w)
     (d' : Divisor s es' w) : Type 0 where
-  left : d.left ≡ d'.left
-  right : d.right ≡ d'.right
-  entry : untraced_entry d.entry ≡ untraced_entry d'.entry
+  pub left : d.left ≡ d'.left
+  pub right : d.right ≡ d'.right
+  pub entry : untraced_entry d.entry ≡ untraced_entry d'.entry
 
 module _ (s : Setting) (es es' : List Entry) (ρ : Monomial) (w : Word) (a : Ambiguity s es ρ w)
     (high low : Divisor s es' w) (h : IsAlike s es es' w a.high high)
     (l : IsAlike s es es' w a.low low) where
-  high_signature : signature_at s es w a.high ≡ signature_at s es' w high
+  pub high_signature : signature_at s es w a.high ≡ signature_at s es' w high
   high_signature = λ i. times (h.left i) (h.entry i).signature (h.right i)
 
-  low_signature : signature_at s es w a.low ≡ signature_at s es' w low
+  pub low_signature : signature_at s es w a.low ≡ signature_at s es' w low
   low_signature = λ i. times (l.left i) (l.entry i).signature (l.right i)
 
-  high_leading : leading_at s es w a.high ≡ leading_at s es' w high
+  pub high_leading : leading_at s es w a.high ≡ leading_at s es' w high
   high_leading = ap (λ (e : Entry). leading s.prime e.polynomial) h.entry
 
-  low_leading : leading_at s es w a.low ≡ leading_at s es' w low
+  pub low_leading : leading_at s es w a.low ≡ leading_at s es' w low
   low_leading = ap (λ (e : Entry). leading s.prime e.polynomial) l.entry
 
   abbrev like_ambiguity : Ambiguity s es' ρ w
@@ -244,7 +243,7 @@ module _ (s : Setting) (es es' : List Entry) (ρ : Monomial) (w : Word) (a : Amb
     signed = sym high_signature ∙ a.signed;
   }
 
-pub moved_ambiguity : (s : Setting) (es es' : List Entry) → SameEntries es es'
+abbrev pub moved_ambiguity : (s : Setting) (es es' : List Entry) → SameEntries es es'
     → (ρ : Monomial) (w : Word) → Ambiguity s es ρ w → Ambiguity s es' ρ w
 moved_ambiguity s es es' same ρ w a =
     like_ambiguity s es es' ρ w a (moved s es es' same w a.high) (moved s es es' same w a.low)
@@ -257,57 +256,18 @@ more_same es es' e e' same alike =
     map-append untraced_entry es (e ∷ [])
     ∙ (ap₂ (λ xs x. xs ++ (x ∷ [])) same alike ∙ sym (map-append untraced_entry es' (e' ∷ [])))
 
-module _ (s : Setting) (es es' : List Entry) (e e' : Entry) (same : SameEntries es es')
-    (alike : untraced_entry e ≡ untraced_entry e') where
-  abbrev placed : (w : Word) (d : Divisor s (es ++ (e ∷ [])) w) → d.entry ≡ e
-      → Divisor s (es' ++ (e' ∷ [])) w
-  placed w d i =
-      record {
-        entry = e';
-        listed = Contains-push es' e';
-        left = d.left;
-        right = d.right;
-        spells = subst (λ (x : Entry). d.left ++ (leading s.prime x.polynomial ++ d.right) ≡ w)
-            (ap untraced_entry i ∙ alike) d.spells;
-      }
-
-  pub moved_new : (ρ : Monomial) → NewAmbiguity s es e ρ → NewAmbiguity s es' e' ρ
-  moved_new ρ n = go n.newest
-    where
-      more : SameEntries (es ++ (e ∷ [])) (es' ++ (e' ∷ []))
-      more = more_same es es' e e' same alike
-
-      go : (n.ambiguity.high.entry ≡ e) ⊎ (n.ambiguity.low.entry ≡ e) → NewAmbiguity s es' e' ρ
-      go (inl i) = record {
-        word = n.word;
-        ambiguity =
-            like_ambiguity s (es ++ (e ∷ [])) (es' ++ (e' ∷ [])) ρ n.word n.ambiguity
-            (placed n.word n.ambiguity.high i)
-            (moved s (es ++ (e ∷ [])) (es' ++ (e' ∷ [])) more n.word n.ambiguity.low)
-            (record { left = refl; right = refl; entry = ap untraced_entry i ∙ alike })
-            (record {
-              left = refl;
-              right = refl;
-              entry = other_alike s (es ++ (e ∷ [])) (es' ++ (e' ∷ [])) more n.word
-                  n.ambiguity.low;
-            });
-        newest = inl refl;
-      }
-      go (inr i) = record {
-        word = n.word;
-        ambiguity =
-            like_ambiguity s (es ++ (e ∷ [])) (es' ++ (e' ∷ [])) ρ n.word n.ambiguity
-            (moved s (es ++ (e ∷ [])) (es' ++ (e' ∷ [])) more n.word n.ambiguity.high)
-            (placed n.word n.ambiguity.low i)
-            (record {
-              left = refl;
-              right = refl;
-              entry = other_alike s (es ++ (e ∷ [])) (es' ++ (e' ∷ [])) more n.word
-                  n.ambiguity.high;
-            }) (record {
-              left = refl;
-              right = refl;
-              entry = ap untraced_entry i ∙ alike;
-            });
-        newest = inr refl;
-      }
+pub moved_new : (s : Setting) (es es' : List Entry) (e e' : Entry) → SameEntries es es'
+    → untraced_entry e ≡ untraced_entry e' → (ρ : Monomial) → NewAmbiguity s es e ρ
+    → NewAmbiguity s es' e' ρ
+moved_new s es es' e e' same alike ρ n =
+    record {
+      word = n.word;
+      ambiguity =
+          moved_ambiguity s (es ++ (e ∷ [])) (es' ++ (e' ∷ [])) more ρ n.word n.ambiguity;
+      newest =
+          subst (λ k. (k ≤ n.ambiguity.high.listed.0) ⊎ (k ≤ n.ambiguity.low.listed.0))
+          (same_length untraced_entry es es' same) n.newest;
+    }
+  where
+    more : SameEntries (es ++ (e ∷ [])) (es' ++ (e' ∷ []))
+    more = more_same es es' e e' same alike

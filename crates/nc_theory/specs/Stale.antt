@@ -2,7 +2,7 @@
 --
 -- Workers handle signatures while the run goes on, so an outcome may be asked for later than it was
 -- found. An older state of a run is the front of a newer one: what was found since stands behind
--- it. Such an outcome stands exactly if it is `covered`, or if nothing newer bears on it: no newer
+-- it. So what is newer is told by its place, and not by its value. Such an outcome stands exactly if it is `covered`, or if nothing newer bears on it: no newer
 -- syzygy signature covers τ, no newer entry has a multiple at τ with a lesser word than the best
 -- one, and no newer entry gives a regular divisor of a word that was kept. Where τ was settled, the
 -- word of the best multiple takes the place of the kept words.
@@ -18,7 +18,7 @@ use Rattle.nc_theory.specs.Divisors.{Divisor, IsBestMultiple, Multiple, RegularD
 use Rattle.nc_theory.specs.Runs.{Outcome}
 use Rattle.nc_theory.specs.States.{Entry, Start, State, Syzygy, Trace}
 use Rattle.nc_theory.specs.Syzygies.{TrivialSyzygy}
-use Rattle.std.specs.Prelude.{Contains, List, ℕ, ◌++◌, ◌≡◌, ◌⊎◌}
+use Rattle.std.specs.Prelude.{Contains, List, length, ℕ, ◌++◌, ◌≡◌, ◌≤◌, ◌⊎◌}
 
 -- the state with more entries and syzygies, and other counts
 abbrev pub extended : State → List Entry → List Syzygy → ℕ → ℕ → State
@@ -68,15 +68,17 @@ module _ (s : Setting) (old : State) (es : List Entry) (hs : List Syzygy) (τ : 
     pub divides : Divides by τ
     pub newer : ((h : Syzygy) × Contains hs h × (h.signature ≡ by))
         ⊎ ((t : TrivialSyzygy s (old.entries ++ es) by)
-        × (Contains es t.first ⊎ Contains es t.second))
+        × ((length old.entries ≤ t.first_listed.0) ⊎ (length old.entries ≤ t.second_listed.0)))
 
   -- a newer entry gives a multiple with signature τ and word v
   abbrev pub NewMultiple : Word → Type 0
-  NewMultiple v = (m : Multiple s (old.entries ++ es) τ v) × Contains es m.divisor.entry
+  NewMultiple v =
+      (m : Multiple s (old.entries ++ es) τ v) × (length old.entries ≤ m.divisor.listed.0)
 
   -- a newer entry gives a regular divisor of w
   abbrev pub NewRegular : Word → Type 0
-  NewRegular w = (r : RegularDivisor s (old.entries ++ es) τ w) × Contains es r.divisor.entry
+  NewRegular w =
+      (r : RegularDivisor s (old.entries ++ es) τ w) × (length old.entries ≤ r.divisor.listed.0)
 
   -- nothing newer bears on the outcome
   pub record Unaffected (o : Outcome) : Type 0 where
