@@ -1,25 +1,26 @@
 -- What is reached at a signature weighs at most the signature's degree.
 -- A multiple of an entry is labelled by the multiple of its label, so its words are limited by its
 -- signature (`multiples_limited`). A generator's words weigh at most as much as its leading word
--- (`generator_limited`). A difference has no words but those of its two parts, so steps and kept
--- terms are limited too (`keeps_limited`).
+-- (`generator_limited`). A difference has no words but those of its two parts, so what a reduction
+-- passes (`passes_limited`) and what it keeps (`keeps_limited`) is limited too.
 use Rattle.nc_algebra.proofs.Degrees.{degrees, labelled_limited}
 use Rattle.nc_algebra.proofs.Elements.{element_times_coefficient, element_times_leads, evaluation_times, in_times}
 use Rattle.nc_algebra.proofs.Leading.{lead_leads}
+use Rattle.nc_algebra.proofs.NormalForms.{normal_form_same}
 use Rattle.nc_algebra.proofs.Sums.{below_lead, zero_number}
 use Rattle.nc_algebra.proofs.Words.{less_weighs, word_laws}
 use Rattle.nc_algebra.specs.Elements.{Element, IsLabelled, IsLeadingWord, IsLess, Setting, WeighsAtMost, element_times, generator, generator_weight}
 use Rattle.nc_algebra.specs.Monomials.{Monomial, degree_of, unit_monomial}
-use Rattle.nc_algebra.specs.Polynomials.{Polynomial, leading}
+use Rattle.nc_algebra.specs.Polynomials.{Polynomial, leading, normal_form}
 use Rattle.nc_algebra.specs.Primes.{IsField}
 use Rattle.nc_algebra.specs.Sums.{minus}
 use Rattle.nc_algebra.specs.Words.{IsWordLess, Word, same_word, word_weight}
 use Rattle.nc_theory.specs.Divisors.{Divisor, multiple_at, signature_at}
 use Rattle.nc_theory.specs.Laws.{LimitedAt}
-use Rattle.nc_theory.specs.Reductions.{Reduction, ReductionAt}
+use Rattle.nc_theory.specs.Reductions.{Passes, PassesAt, Reduction, ReductionAt}
 use Rattle.nc_theory.specs.Runs.{Starts}
 use Rattle.nc_theory.specs.States.{Entry, Start, Step}
-use Rattle.std.proofs.Common.{Contains, List, [], ap, arith, inl, inr, ℕ, ◌∙◌, ◌∷◌, ◌≡◌, ◌≤◌, ◌⊎◌}
+use Rattle.std.proofs.Common.{Contains, List, [], ap, arith, inl, inr, subst, sym, ℕ, ◌∙◌, ◌∷◌, ◌≡◌, ◌≤◌, ◌⊎◌}
 use Rattle.nc_theory.proofs.Properties.{minus_are, more_are}
 
 module _ (s : Setting) (field : IsField s.prime) where
@@ -100,10 +101,31 @@ module _ (s : Setting) (field : IsField s.prime) where
           more_are s (λ v. word_weight v ≤ degree_of (generator_weight s) τ) c w kept
           (h w l.nonzero) (keeps_limited (removes_limited f w c l h) rest) x n
 
+      normal_limited : (g new : Polynomial) → new ≡ normal_form s.prime g
+          → WeighsAtMost s (degree_of (generator_weight s) τ) g
+          → WeighsAtMost s (degree_of (generator_weight s) τ) new
+      normal_limited g new e h =
+          subst (WeighsAtMost s (degree_of (generator_weight s) τ)) (sym e)
+          (λ w n. h w (λ z. n ((normal_form_same s.prime g).at w ∙ z)))
+
+      passes_limited : {f h : Polynomial} → WeighsAtMost s (degree_of (generator_weight s) τ) f
+          → PassesAt s entries τ f h → WeighsAtMost s (degree_of (generator_weight s) τ) h
+      passes_limited k (Passes.begins) = k
+      passes_limited k (Passes.subtracts {h = h} {new = new} p step t) =
+          normal_limited
+          (minus s.prime h step.coefficient (multiple_at s entries t.word t.divisor)) new t.rest
+          (minus_are s (λ v. word_weight v ≤ degree_of (generator_weight s) τ) h step.coefficient
+          (multiple_at s entries t.word t.divisor) (passes_limited k p)
+          (multiples_limited t.word t.divisor (inr t.chosen.allowed)))
+      passes_limited k (Passes.keeps {h = h} {new = new} p x t) =
+          normal_limited (minus s.prime h 1 (x ∷ [])) new t.rest
+          (removes_limited h x.key x.coefficient t.leads (passes_limited k p))
+
       pub limited : LimitedAt s entries τ
       limited = record {
         starts = λ f start h. starts_limited h;
         multiples = multiples_limited;
+        passes = λ f h k p. passes_limited k p;
         subtracts =
             λ f w d c h l. minus_are s (λ v. word_weight v ≤ degree_of (generator_weight s) τ) f c
             (multiple_at s entries w d) h (multiples_limited w d (inr l));

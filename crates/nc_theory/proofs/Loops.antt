@@ -1,4 +1,4 @@
--- One turn of a loop that reduces, as a step of `ReducedTo`.
+-- One turn of a loop that reduces, as a step of `ReducedTo`, the loop's invariant.
 -- The loop subtracts (`reduced_subtract`) or keeps (`reduced_keep`), and each time the leading word
 -- falls (`lead_falls`).
 use Rattle.nc_algebra.proofs.Words.{word_total}
@@ -10,9 +10,17 @@ use Rattle.nc_algebra.specs.Sums.{minus}
 use Rattle.nc_algebra.specs.Words.{IsWordLess, Word}
 use Rattle.nc_theory.proofs.Reductions.{From}
 use Rattle.nc_theory.specs.Divisors.{Divisor, IsChosenDivisor, multiple_at, number_of, signature_at}
-use Rattle.nc_theory.specs.Reductions.{ReducedTo, Reduction}
+use Rattle.nc_theory.specs.Reductions.{Reduction}
 use Rattle.nc_theory.specs.States.{Entry, Step}
 use Rattle.std.proofs.Common.{List, [], append-nil, append_assoc, inl, inr, subst, subst₂, sym, ℕ, ◌%◌, ◌*◌, ◌++◌, ◌<◌, ◌∷◌, ◌≡◌, ◌⊎◌}
+
+-- what h's reduction keeps and subtracts goes on from what was kept and subtracted of f. This is
+-- what a loop needs; `Passes` of the specs says that h is on the way
+abbrev pub ReducedTo : (s : Setting) (entries : List Entry) (set : Monomial → Type 0) → Polynomial
+    → Polynomial → List Step → Polynomial → Type 0
+ReducedTo s entries set f kept steps h =
+    (more : Polynomial) (last : List Step) → Reduction s entries set h more last
+    → Reduction s entries set f (kept ++ more) (steps ++ last)
 
 module _ (s : Setting) (entries : List Entry) (set : Monomial → Type 0) (f kept : Polynomial)
     (steps : List Step) (h : Polynomial) where

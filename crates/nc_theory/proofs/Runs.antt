@@ -9,9 +9,9 @@ use Rattle.nc_algebra.specs.Primes.{IsField, IsZero}
 use Rattle.nc_algebra.specs.Words.{Word}
 use Rattle.nc_theory.proofs.Small.{usable_nonzero}
 use Rattle.nc_theory.specs.Usable.{IsUsable}
-use Rattle.nc_theory.proofs.Loops.{reduced_end}
+use Rattle.nc_theory.proofs.Loops.{ReducedTo, reduced_end}
 use Rattle.nc_theory.proofs.Normal.{kept_normal}
-use Rattle.nc_theory.specs.Reductions.{ReducedTo, Reduction}
+use Rattle.nc_theory.specs.Reductions.{Reduction}
 use Rattle.nc_theory.specs.States.{Entry, Step}
 use Rattle.std.proofs.Common.{List, [], arith, subst, sym, ◌∙◌, ◌≡◌}
 use Rattle.std.specs.List.{All}

@@ -18,11 +18,11 @@ use Rattle.nc_theory.proofs.Small.{difference_small, first_leads, multiple_small
 use Rattle.nc_theory.specs.Turns.{IsKept, IsSubtracted}
 use Rattle.nc_theory.specs.Usable.{HasSmallWords, IsSmall, IsUsable}
 use Rattle.nc_theory.proofs.Chains.{leads_same, same_minus}
-use Rattle.nc_theory.proofs.Loops.{lead_falls, reduced_keep, reduced_subtract}
+use Rattle.nc_theory.proofs.Loops.{ReducedTo, lead_falls, reduced_keep, reduced_subtract}
 use Rattle.nc_theory.proofs.Properties.{more_are}
 use Rattle.nc_theory.proofs.Reductions.{From, keep_whole, multiple_leads_at, single_over, subtract_whole, take_off}
 use Rattle.nc_theory.specs.Divisors.{Divisor, multiple_at, number_of, signature_at}
-use Rattle.nc_theory.specs.Reductions.{ReducedTo, Reduction}
+use Rattle.nc_theory.specs.Reductions.{Reduction}
 use Rattle.nc_theory.specs.States.{Entry, Step}
 use Rattle.std.proofs.Common.{Contains, List, [], arith, subst, sym, ℕ, ◌+◌, ◌++◌, ◌<◌, ◌∙◌, ◌∷◌, ◌↔◌, ◌≡◌}
 use Rattle.std.specs.List.{All}

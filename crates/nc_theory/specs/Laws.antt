@@ -24,7 +24,7 @@ use Rattle.nc_theory.specs.Divisors.{Divisor, IsChosenDivisor, RegularDivisor, m
 use Rattle.nc_theory.specs.Labels.{label_at, labels_of, step_multiples, trace_label}
 use Rattle.nc_theory.specs.Letters.{AreOver}
 use Rattle.nc_theory.specs.Rebuilding.{IsAtLeast, Rebuilds}
-use Rattle.nc_theory.specs.Reductions.{Reduction, ReductionAt}
+use Rattle.nc_theory.specs.Reductions.{PassesAt, Reduction, ReductionAt}
 use Rattle.nc_theory.specs.Runs.{End, BringsAmbiguity, Handles, IsAfter, IsCandidate, IsEnd, IsNext, IsWaiting, NoneWaits, Outcome, SequentialRun, Starts, state_after}
 use Rattle.nc_theory.specs.States.{Entry, Start, State, Step, Syzygy, Trace}
 use Rattle.nc_theory.specs.Syzygies.{ApartAt, TrivialSyzygy}
@@ -132,13 +132,16 @@ WaitingLaw =
     ↔ ((IsWaiting P state last ρ × (ρ ≢ τ))
     ⊎ (IsWithin P ρ × BringsAmbiguity P.setting state τ o ρ)))
 
--- what is reached at τ weighs at most the degree of τ: the loop's invariant, one clause a step
+-- what is reached at τ weighs at most the degree of τ: what is reduced, each multiple, each
+-- polynomial on the way, and what is kept. The two clauses on single steps ask less of the step
 pub record LimitedAt (s : Setting) (entries : List Entry) (τ : Monomial) : Type 0 where
   pub starts : (f : Polynomial) (start : Start) → Starts s entries τ f start
       → WeighsAtMost s (degree s τ) f
   pub multiples : (w : Word) (d : Divisor s entries w) → (signature_at s entries w d ≡ τ)
       ⊎ IsLess s (signature_at s entries w d) τ
       → WeighsAtMost s (degree s τ) (multiple_at s entries w d)
+  pub passes : (f h : Polynomial) → WeighsAtMost s (degree s τ) f → PassesAt s entries τ f h
+      → WeighsAtMost s (degree s τ) h
   pub subtracts : (f : Polynomial) (w : Word) (d : Divisor s entries w) (c : ℕ)
       → WeighsAtMost s (degree s τ) f → IsLess s (signature_at s entries w d) τ
       → WeighsAtMost s (degree s τ) (minus s.prime f c (multiple_at s entries w d))

@@ -4,9 +4,10 @@ use Rattle.nc_snapshot.proofs.Snapshots.{snapshot_field, snapshot_usable}
 use Rattle.nc_reduce.proofs.Turns.{turn_leaves}
 use Rattle.nc_reduce.specs.Turns.{IsTurn}
 use Rattle.nc_reduce.specs.declared.turn.Turn.TheVariants.{Kept, Subtracted}
+use Rattle.nc_theory.proofs.Loops.{ReducedTo}
 use Rattle.nc_theory.proofs.Runs.{whole, whole_normal}
 use Rattle.nc_theory.proofs.Turns.{turn_keeps, turn_subtracts}
-use Rattle.nc_theory.specs.Reductions.{ReducedTo, Reduction}
+use Rattle.nc_theory.specs.Reductions.{Reduction}
 use Rattle.std.proofs.Common.{ap, subst, sym, ◌∙◌}
 use Rattle.nc_reduce.proofs.reduction.reduce_all.Goals as goal
 

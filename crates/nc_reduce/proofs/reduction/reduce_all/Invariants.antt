@@ -2,7 +2,7 @@ use Rattle.nc_algebra.specs.Polynomials.{IsNormal}
 use Rattle.nc_index.specs.Chosen.{IsBelowSig}
 use Rattle.nc_theory.proofs.Turns.{size_of}
 use Rattle.nc_theory.specs.Usable.{HasSmallWords}
-use Rattle.nc_theory.specs.Reductions.{ReducedTo}
+use Rattle.nc_theory.proofs.Loops.{ReducedTo}
 use Rattle.nc_reduce.proofs.reduction.reduce_all.Given as goal
 
 abbrev pub invariant-turns : goal.invariant-turns
