@@ -7,23 +7,26 @@
 -- `UntracedStepsLaw` is how it goes on, and what waits after a step.
 --
 -- The last ones are on ends and words: an end has enough entries and syzygies, a problem has at
--- most one end, each entry is canonical, all words are over the alphabet, and with enough steps
--- each end is complete.
+-- most one end, each entry is canonical, all words are over the alphabet, representations need no
+-- other letters, and with enough steps each end is complete.
 --
 -- Where a law takes a `NamedProblem`, it holds within the limits of `IsProblem`. Each law is the
 -- contract of a public function with an empty body.
+use Rattle.nc_algebra.specs.Alphabets.{AreWordsIn}
 use Rattle.nc_algebra.specs.Elements.{IsLess, Setting}
 use Rattle.nc_algebra.specs.Finite.{monomials_within}
 use Rattle.nc_algebra.specs.Monomials.{Monomial, Sig, unit_monomial}
 use Rattle.nc_algebra.specs.Polynomials.{Polynomial}
 use Rattle.nc_algebra.specs.Primes.{IsPrime}
 use Rattle.nc_algebra.specs.Problems.{Bound, IsProblem, IsUnder, IsWithin, IsWithinBound, NamedProblem, Problem}
+use Rattle.nc_algebra.specs.Settings.{IsSetting, NamedSetting}
 use Rattle.nc_algebra.specs.Words.{Word}
 use Rattle.nc_theory.specs.EndBases.{AreCanonical, HasBases, HasBasesAt}
-use Rattle.nc_theory.specs.Named.{IsOverAlphabet, alphabet_letters}
+use Rattle.nc_theory.specs.Named.{IsMonomialIn, IsOverAlphabet, alphabet_letters}
 use Rattle.nc_theory.specs.Untraced.{IsEndOf, IsNextOfRun, IsRunOf, IsRunTo, IsSameDivisor, untraced, untraced_entry}
 use Rattle.nc_theory.specs.Usable.{IsUsable, IsUsableSignature}
 use Rattle.nc_theory.specs.Ambiguities.{Ambiguity, NewAmbiguity}
+use Rattle.nc_theory.specs.Bases.{HasRepresentation}
 use Rattle.nc_theory.specs.Divisors.{Divisor, IsBestMultiple, IsChosenDivisor, Multiple, RegularDivisor, signature_at}
 use Rattle.nc_theory.specs.Reductions.{Reduction, ReductionAt}
 use Rattle.nc_theory.specs.Runs.{BringsAmbiguity, End, Handles, IsCandidate, IsNext, IsWaiting, NoneWaits, Outcome, opening, state_after}
@@ -206,7 +209,16 @@ AlphabetLaw =
     (P : NamedProblem) → IsProblem P → IsPrime P.problem.setting.prime → (n : ℕ) (state : State)
     → IsRunOf P.problem n state → IsOverAlphabet P state
 
--- and where as many steps are allowed as its bound has monomials, each end is complete
+-- a polynomial over a setting's alphabet has a representation within a bound over all letters
+-- exactly where it has one over those of the alphabet
+abbrev pub RepresentationsInAlphabet : Type 0
+RepresentationsInAlphabet =
+    (s : NamedSetting) → IsSetting s → (b : Bound) (f : Polynomial) → AreWordsIn s.alphabet f
+    → HasRepresentation s.setting (IsWithinBound s.setting b) f
+    ↔ HasRepresentation s.setting
+    (λ σ. IsWithinBound s.setting b σ × IsMonomialIn s.alphabet σ) f
+
+-- where as many steps are allowed as its bound has monomials, each end is complete
 abbrev pub EnoughSteps : Type 0
 EnoughSteps =
     (P : NamedProblem) → IsProblem P → IsPrime P.problem.setting.prime

@@ -1,6 +1,6 @@
 //! The theorems on runs without traces, as programs keep them.
 
-ghost use Rattle.nc_theory.specs.UntracedLaws.{AlphabetLaw, CandidateFactsLaw, CanonicalLaw, EndFactsLaw, EnoughSteps, NextFactsLaw, OneUntracedEnd, SnapshotFactsLaw, TracesDoNotMatter, UntracedRunsLaw, UntracedStepsLaw};
+ghost use Rattle.nc_theory.specs.UntracedLaws.{AlphabetLaw, CandidateFactsLaw, CanonicalLaw, EndFactsLaw, EnoughSteps, NextFactsLaw, OneUntracedEnd, RepresentationsInAlphabet, SnapshotFactsLaw, TracesDoNotMatter, UntracedRunsLaw, UntracedStepsLaw};
 
 /// A state says the same with and without its traces.
 pub fn traces_do_not_matter()
@@ -50,6 +50,11 @@ pub fn canonical_law()
 /// All words of a run, and those of its candidates, are over the problem's alphabet.
 pub fn alphabet_law()
     ensures { AlphabetLaw }
+{}
+
+/// A representation needs no letters but those of the alphabet.
+pub fn representations_in_alphabet()
+    ensures { RepresentationsInAlphabet }
 {}
 
 /// With as many steps as the bound has monomials over the alphabet, each end is complete.
