@@ -1,8 +1,8 @@
 -- The words of values: over the alphabet, and no longer than the reach.
 -- `lines_fit` is the induction on lines. The rule of certificates bounds the reach by 100,000, so
 -- no word is longer; a normal form lists only words of the value.
-use Rattle.nc_algebra.proofs.Elements.{generator_at}
-use Rattle.nc_algebra.specs.Alphabets.{Alphabet, IsLetterIn, IsTextGenerator, IsTextWord, IsWordIn}
+use Rattle.nc_algebra.proofs.Generators.{generator_is_text}
+use Rattle.nc_algebra.specs.Alphabets.{Alphabet, IsLetterIn, IsTextWord, IsWordIn}
 use Rattle.nc_algebra.specs.Certificates.{AreLines, Factor, IsFactor, IsPart, Line, Part, factor_reach, factor_value, item, line_reach, line_value, longest, part_reach, part_value, values_after}
 use Rattle.nc_algebra.specs.Elements.{IsGenerator, generator}
 use Rattle.nc_algebra.specs.Polynomials.{Polynomial, polynomial_times}
@@ -10,7 +10,7 @@ use Rattle.nc_algebra.specs.Settings.{IsSetting, NamedSetting}
 use Rattle.nc_algebra.specs.Sums.{scale}
 use Rattle.nc_algebra.specs.Words.{Word}
 use Rattle.nc_cert.proofs.Lines.{reaches_after}
-use Rattle.std.proofs.Common.{List, [], arith, length, subst, suc, sym, zero, ℕ, ◌++◌, ◌+◌, ◌-◌, ◌∷◌, ◌≤◌}
+use Rattle.std.proofs.Common.{List, [], arith, length, suc, zero, ℕ, ◌++◌, ◌+◌, ◌-◌, ◌∷◌, ◌≤◌}
 use Rattle.std.proofs.lemmas.List.{length-append}
 use Rattle.std.proofs.lemmas.List.Elements.{All-append, recursion_from_All}
 use Rattle.std.specs.List.{AllByRecursion, AllZip}
@@ -83,18 +83,12 @@ module _ (a : Alphabet) where
   all_fit-push (g ∷ values) (q ∷ reaches) f r x y = (x.0, all_fit-push values reaches f r x.1 y)
 
 module _ (s : NamedSetting) (is : IsSetting s) where
-  pub generator_text : (i : ℕ) → IsGenerator s.setting i
-      → IsTextGenerator s.alphabet s.setting.prime (generator s.setting i)
-  generator_text i g =
-      subst (IsTextGenerator s.alphabet s.setting.prime) (sym (generator_at s.setting i g))
-      (is.each (i - 1) [] (omega (arith, g.0, g.1)))
-
   pub generator_fits : (i : ℕ) → IsGenerator s.setting i
       → Fits s.alphabet (generator s.setting i) (longest (generator s.setting i))
   generator_fits i g =
       longest_fits s.alphabet (generator s.setting i)
       (recursion_from_All (λ t. IsTextWord s.alphabet t.key) (generator s.setting i)
-      (generator_text i g).polynomial.words)
+      (generator_is_text s i is g).polynomial.words)
 
   factor_fits : (values : List Polynomial) (reaches : List ℕ) (f : Factor)
       → AllZip (Fits s.alphabet) values reaches → IsFactor s.setting (length reaches) f

@@ -12,7 +12,8 @@ use Rattle.nc_algebra.specs.Polynomials.{AreResidues, Polynomial, coefficient, n
 use Rattle.nc_algebra.specs.Settings.{IsSetting, NamedSetting}
 use Rattle.nc_algebra.specs.Sums.{SameSum, is_at, scale}
 use Rattle.nc_algebra.specs.Words.{Word, same_word}
-use Rattle.nc_cert.proofs.Fits.{Fits, IsWordWithin, generator_fits, generator_text, item_fits}
+use Rattle.nc_algebra.proofs.Generators.{generator_is_text}
+use Rattle.nc_cert.proofs.Fits.{Fits, IsWordWithin, generator_fits, item_fits}
 use Rattle.nc_cert.specs.Ready.{IsReadyPart}
 use Rattle.nc_field.proofs.Primes.{listed_is_prime}
 use Rattle.std.proofs.Common.{List, [], ap, arith, length, map, refl, subst, suc, sym, zero, ℕ, ◌%◌, ◌*◌, ◌+◌, ◌<◌, ◌∙◌, ◌∷◌, ◌≡◌, ◌≤◌}
@@ -42,7 +43,7 @@ module _ (s : NamedSetting) (is : IsSetting s) where
       f) × Fits s.alphabet (factor_value s.setting (map (normal_form s.setting.prime) values)
       f) (factor_reach s.setting reaches f)
   factor_ready values reaches (Factor.a_generator i) x h =
-      ((generator_text s is i h).polynomial.normal.1, generator_fits s is i h)
+      ((generator_is_text s i is h).polynomial.normal.1, generator_fits s is i h)
   factor_ready values reaches (Factor.a_line k) x h =
       let value : Polynomial = item [] values k in
       let some : 0 < s.setting.prime = omega (arith, above_one s is) in

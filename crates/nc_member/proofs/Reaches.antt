@@ -2,19 +2,17 @@
 -- The reach of a line is at most the degree of its signature and 255 letters more, which is what a
 -- word of a generator may have: a multiple adds the letters of its sides, and these are not more
 -- than what they add to the degree (`line_part`, `line_short`).
+use Rattle.nc_algebra.proofs.Generators.{generator_longest}
 use Rattle.nc_algebra.proofs.Words.{length_at_most, weight-append}
-use Rattle.nc_algebra.specs.Alphabets.{Alphabet, IsTextWord, IsWordIn}
-use Rattle.nc_algebra.specs.Certificates.{Factor, IsPart, Line, Part, item, line_reach, longest, part_reach}
-use Rattle.nc_algebra.specs.Elements.{IsGenerator, Setting, degree, generator}
+use Rattle.nc_algebra.specs.Alphabets.{IsWordIn}
+use Rattle.nc_algebra.specs.Certificates.{Factor, IsPart, Line, Part, item, line_reach, part_reach}
+use Rattle.nc_algebra.specs.Elements.{IsGenerator, Setting, degree}
 use Rattle.nc_algebra.specs.Monomials.{Monomial, times}
-use Rattle.nc_algebra.specs.Polynomials.{Polynomial}
 use Rattle.nc_algebra.specs.Settings.{IsSetting, NamedSetting}
 use Rattle.nc_algebra.specs.Words.{Word, word_weight}
 use Rattle.nc_member.specs.Lines.{line_of}
-use Rattle.nc_module.proofs.Settings.{generator_is_text}
 use Rattle.nc_theory.specs.States.{Entry}
 use Rattle.std.proofs.Common.{List, Some, [], arith, length, ℕ, ◌+◌, ◌-◌, ◌<◌, ◌∷◌, ◌≡◌, ◌≤◌}
-use Rattle.std.proofs.lemmas.List.Elements.{recursion_from_All}
 use Rattle.std.specs.List.{AllByRecursion, slice_get}
 
 -- entry j is listed, and its multiple has at most the degree d
@@ -41,12 +39,6 @@ pub degree_times : (s : Setting) (u : Word) (σ : Monomial) (v : Word)
     → degree s (times u σ v) ≡ word_weight u + degree s σ + word_weight v
 degree_times s u σ v = omega (arith, weight-append u σ.left, weight-append σ.right v)
 
-longest_text : (a : Alphabet) (f : Polynomial) → AllByRecursion (λ t. IsTextWord a t.key) f
-    → longest f ≤ 255
-longest_text a [] h = omega arith
-longest_text a (t ∷ f) h =
-    let first : IsTextWord a t.key = h.0 in omega (arith, first.short, longest_text a f h.1)
-
 -- the reach of a line is that of some part
 pub line_short : (s : Setting) (reaches : List ℕ) (n : ℕ) (line : Line)
     → AllByRecursion (λ part. part_reach s reaches part ≤ n) line → line_reach s reaches line ≤ n
@@ -55,12 +47,6 @@ line_short s reaches n [] h = omega arith
 line_short s reaches n (part ∷ line) h = omega (arith, h.0, line_short s reaches n line h.1)
 
 module _ (s : NamedSetting) (is : IsSetting s) where
-  pub generator_short : (i : ℕ) → IsGenerator s.setting i → longest (generator s.setting i) ≤ 255
-  generator_short i g =
-      longest_text s.alphabet (generator s.setting i)
-      (recursion_from_All (λ t. IsTextWord s.alphabet t.key) (generator s.setting i)
-      (generator_is_text s i is g).polynomial.words)
-
   -- a generator as a part
   pub generator_part : (reaches : List ℕ) (d i : ℕ) → 1 < s.setting.prime → IsGenerator s.setting i
       → d ≤ 80000 → IsShort s reaches (d + 255)
@@ -72,9 +58,9 @@ module _ (s : NamedSetting) (is : IsSetting s) where
           factor = g;
           left = λ k x h. absurd (omega (arith, h));
           right = λ k x h. absurd (omega (arith, h));
-          short = omega (arith, generator_short i g);
+          short = omega (arith, generator_longest s i is g);
         };
-        short = omega (arith, generator_short i g);
+        short = omega (arith, generator_longest s i is g);
       }
 
   module _ (entries : List Entry) (needed reaches : List ℕ) (d : ℕ) (low : d ≤ 80000) where

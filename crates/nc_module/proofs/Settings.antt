@@ -3,6 +3,7 @@
 -- most 25,500 (`generator_weighs`).
 use Rattle.nc_algebra.proofs.Alphabets.{text_word_light}
 use Rattle.nc_algebra.proofs.Elements.{generator_at}
+use Rattle.nc_algebra.proofs.Generators.{generator_is_text}
 use Rattle.nc_algebra.proofs.Leading.{leading-normal}
 use Rattle.nc_algebra.specs.Alphabets.{IsTextGenerator, IsTextWord}
 use Rattle.nc_algebra.specs.Settings.{IsSetting, NamedSetting}
@@ -21,12 +22,6 @@ pub generator_read : (s : NamedSetting) (i : ℕ) (f : Polynomial) → IsGenerat
 generator_read s i f h e =
     get_or_read s.setting.generators (i - 1) f (omega (arith, h.0, h.1)) e []
     ∙ sym (generator_at s.setting i h)
-
-pub generator_is_text : (s : NamedSetting) (i : ℕ) → IsSetting s → IsGenerator s.setting i
-    → IsTextGenerator s.alphabet s.setting.prime (generator s.setting i)
-generator_is_text s i h g =
-    subst (IsTextGenerator s.alphabet s.setting.prime) (sym (generator_at s.setting i g))
-    (h.each (i - 1) [] (omega (arith, g.0, g.1)))
 
 -- its weight is that of its first word
 pub weight_first : (s : NamedSetting) (i : ℕ) (t : Term Word) (f : Polynomial)

@@ -5,7 +5,7 @@ use Rattle.nc_algebra.specs.Monomials.{Monomial}
 use Rattle.nc_algebra.specs.Polynomials.{AreResidues, IsNormal, Polynomial, polynomial_times}
 use Rattle.nc_algebra.specs.Settings.{IsSetting, NamedSetting}
 use Rattle.nc_algebra.specs.Words.{Word}
-use Rattle.nc_module.proofs.Settings.{generator_is_text}
+use Rattle.nc_algebra.proofs.Generators.{generator_is_text}
 use Rattle.nc_poly.proofs.Shifts.{shifted_descends}
 use Rattle.nc_reduce.specs.Starts.{IsReadable, IsStartAt, polynomial_of, start_polynomial}
 use Rattle.nc_theory.proofs.Handling.{text_words}

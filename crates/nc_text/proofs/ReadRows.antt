@@ -3,16 +3,16 @@
 -- earlier lines and have a small reach (`part_reads`). A term of form 1 needs no test of its reach:
 -- its words and those of a generator have at most 255 letters each (`term_reads`).
 use Rattle.nc_algebra.specs.Alphabets.{Alphabet, IsTextGenerator, IsTextPolynomial, IsTextWord, IsWeight, is_name}
-use Rattle.nc_algebra.specs.Certificates.{HasTextWords, IsFactor, IsPart, Part, longest, part_reach}
-use Rattle.nc_algebra.specs.Elements.{IsGenerator, Setting, generator}
+use Rattle.nc_algebra.specs.Certificates.{HasTextWords, IsFactor, IsPart, Part, part_reach}
+use Rattle.nc_algebra.specs.Elements.{Setting, generator}
 use Rattle.nc_algebra.specs.Monomials.{Monomial}
 use Rattle.nc_algebra.specs.Settings.{IsSetting, NamedSetting}
 use Rattle.nc_algebra.specs.Lists.{Among, IsDistinct}
 use Rattle.nc_algebra.specs.Polynomials.{Polynomial}
 use Rattle.nc_algebra.specs.Primes.{is_listed_prime}
 use Rattle.nc_module.proofs.Names.{not_among}
-use Rattle.nc_module.proofs.Settings.{generator_is_text}
-use Rattle.nc_text.proofs.ReadWords.{empty_word, poly_reads, word_reads, words_longest}
+use Rattle.nc_algebra.proofs.Generators.{generator_longest}
+use Rattle.nc_text.proofs.ReadWords.{empty_word, poly_reads, word_reads}
 use Rattle.nc_tokens.proofs.Steps.{on_any, on_bind, on_choice, on_weaker}
 use Rattle.nc_tokens.specs.Wanted.{close_at, close_brace_at, end_at, literal_at, open_at}
 use Rattle.nc_text.specs.Reading.{poly_at}
@@ -22,7 +22,7 @@ use Rattle.nc_tokens.specs.declared.fault.Kind.{Kind}
 use Rattle.nc_tokens.specs.declared.fault.Kind.TheVariants.{OutOfRange}
 use Rattle.std.proofs.Common.{All, Bool, Err, IfOk, IsTrue, List, Ok, [], ap, arith, bytes_eq, eqb, inl, inr, length, ltb, mod-lt, refl, subst, suc, sym, true, zero, ℕ, ◌%◌, ◌&&◌, ◌++◌, ◌+◌, ◌<◌, ◌∙◌, ◌∷◌, ◌≡◌, ◌≤◌, ◌⊎◌}
 use Rattle.std.proofs.lemmas.Bool.{and_parts, eqb-false, ltb-false, ltb-true}
-use Rattle.std.proofs.lemmas.List.Elements.{All-cons, All-nil, All-push, recursion_from_All}
+use Rattle.std.proofs.lemmas.List.Elements.{All-cons, All-nil, All-push}
 use Rattle.std.proofs.lemmas.List.{length-append}
 use Rattle.std.specs.List.{list_any}
 
@@ -190,14 +190,6 @@ mono_reads a generators ts =
 pub record IsTextPart (s : NamedSetting) (reaches : List ℕ) (part : Part) : Type 0 where
   pub rule : IsPart s reaches part
   pub words : HasTextWords s part
-
--- a generator has short words
-pub generator_longest : (s : NamedSetting) (i : ℕ) → IsSetting s → IsGenerator s.setting i
-    → longest (generator s.setting i) ≤ 255
-generator_longest s i is g =
-    words_longest s.alphabet (generator s.setting i)
-    (recursion_from_All (λ t. IsTextWord s.alphabet t.key) (generator s.setting i)
-    (generator_is_text s i is g).polynomial.words)
 
 pub term_reads : (s : NamedSetting) (ts : List Token) → IsSetting s → 0 < s.setting.prime
     → IfOk (term_row_at s.setting.prime s.alphabet (length s.setting.generators) ts)

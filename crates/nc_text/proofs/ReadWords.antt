@@ -2,7 +2,6 @@
 -- Words have at most 255 letters (`word_reads`), and polynomials are in normal form (`poly_reads`).
 use Rattle.nc_algebra.proofs.NormalForms.{normal_form_listed, normal_form_normal}
 use Rattle.nc_algebra.specs.Alphabets.{Alphabet, AreTextWords, IsLetterIn, IsTextPolynomial, IsTextWord, IsWordIn, letter_at}
-use Rattle.nc_algebra.specs.Certificates.{longest}
 use Rattle.nc_algebra.specs.Polynomials.{Polynomial, normal_form}
 use Rattle.nc_algebra.specs.Words.{Letter, Word}
 use Rattle.nc_tokens.proofs.Steps.{on_any, on_bind, on_choice}
@@ -11,13 +10,11 @@ use Rattle.nc_tokens.specs.Wanted.{exponent_at, name_at, sign_at}
 use Rattle.nc_tokens.specs.Tokens.{Literal, Minus, Plus, Times, Token}
 use Rattle.nc_tokens.specs.declared.fault.Kind.{Kind}
 use Rattle.nc_tokens.specs.declared.fault.Kind.TheVariants.{LongWord, UnknownName}
-use Rattle.std.proofs.Common.{All, Bool, Err, List, None, Ok, IfOk, Option, Result, Some, [], arith, bytes_eq, false, length, ltb, ok_or, position, refl, replicate, subst, suc, true, zero, ℕ, ◌++◌, ◌+◌, ◌<◌, ◌∷◌, ◌≡◌, ◌≤◌}
+use Rattle.std.proofs.Common.{All, Bool, Err, List, None, Ok, IfOk, Option, Result, Some, [], arith, bytes_eq, false, length, ltb, ok_or, position, refl, replicate, subst, suc, true, zero, ℕ, ◌++◌, ◌+◌, ◌<◌, ◌∷◌, ◌≡◌}
 use Rattle.std.proofs.lemmas.Bool.{ltb-false}
 use Rattle.std.proofs.lemmas.List.Elements.{All-append, All-cons, All-from_recursion, All-nil, All-replicate, recursion_from_All}
 use Rattle.std.proofs.lemmas.List.Quantifiers.{position-Some}
-use Rattle.std.proofs.Math.Nat.{max-le}
 use Rattle.std.proofs.lemmas.List.{length-append, length-replicate}
-use Rattle.std.specs.List.{AllByRecursion}
 
 letter_reads : (names : List (List ℕ)) (name : List ℕ)
     → IfOk (letter_of names name) (λ l. l < length names)
@@ -139,9 +136,3 @@ poly_reads p a ts some =
 pub read_is_text : (a : Alphabet) (ts rest : List Token) (w : Word) → word_at a ts ≡ Ok (w, rest)
     → IsTextWord a w
 read_is_text a ts rest w e = subst (λ r. IfOk r (λ x. IsTextWord a x.0)) e (word_reads a ts)
-
--- words of a text have at most 255 letters
-pub words_longest : (a : Alphabet) (f : Polynomial) → AllByRecursion (λ t. IsTextWord a t.key) f
-    → longest f ≤ 255
-words_longest a [] h = omega arith
-words_longest a (t ∷ f) h = max-le h.0.short (words_longest a f h.1)

@@ -21,7 +21,7 @@ use Rattle.nc_theory.proofs.OverAlphabet.{generator_over, polynomial_over, word_
 use Rattle.nc_theory.proofs.Properties.{times_are}
 use Rattle.nc_theory.specs.Bases.{HasRepresentation}
 use Rattle.nc_theory.specs.Named.{IsMonomialIn, alphabet_letters}
-use Rattle.std.proofs.Common.{List, [], ap, arith, inl, inr, refl, subst, sym, ℕ, ◌%◌, ◌*◌, ◌++◌, ◌+◌, ◌∙◌, ◌∷◌, ◌↔◌, ◌≡◌, ◌≢◌, ◌⊎◌}
+use Rattle.std.proofs.Common.{List, [], ap, arith, inl, inr, refl, subst, sym, ℕ, ◌%◌, ◌*◌, ◌++◌, ◌+◌, ◌∙◌, ◌∷◌, ◌↔◌, ◌≡◌, ◌⊎◌}
 
 module _ (letters : List Letter) where
   -- both words are over the letters

@@ -17,7 +17,7 @@ use Rattle.nc_cofactor.proofs.Keys.{all_among, among_all}
 use Rattle.nc_cofactor.proofs.Terms.{listed_counts}
 use Rattle.nc_cofactor.specs.Sums.{IsSum}
 use Rattle.nc_module.specs.Modules.{element_of}
-use Rattle.nc_text.proofs.ReadRows.{generator_longest}
+use Rattle.nc_algebra.proofs.Generators.{generator_longest}
 use Rattle.nc_theory.specs.Labels.{labels_of, step_multiples}
 use Rattle.nc_theory.specs.Reductions.{Reduction}
 use Rattle.nc_theory.specs.Runs.{SequentialRun}

@@ -2,7 +2,8 @@ use Rattle.nc_algebra.specs.Alphabets.{IsTextGenerator}
 use Rattle.nc_algebra.specs.Settings.{IsSetting, NamedSetting}
 use Rattle.nc_algebra.specs.Elements.{generator}
 use Rattle.nc_algebra.specs.Polynomials.{Polynomial}
-use Rattle.nc_module.proofs.Settings.{generator_is_text, generator_read}
+use Rattle.nc_algebra.proofs.Generators.{generator_is_text}
+use Rattle.nc_module.proofs.Settings.{generator_read}
 use Rattle.std.proofs.Common.{ap, get_or, subst, sym, ◌-◌, ◌∙◌, ◌≡◌}
 use Rattle.nc_module.proofs.setting.Setting.generator.Goals as goal
 
