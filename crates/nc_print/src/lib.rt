@@ -1,5 +1,5 @@
 //! The printed forms of polynomials, monomials, module elements and certificates.
-#![tactic(auto)]
+#![tactic(auto, using(crate::proofs::Begins::begins_same, crate::proofs::Begins::begins_more, crate::proofs::Begins::begins_maybe, crate::proofs::Begins::begins_further,),)]
 
 mod certificate;
 mod module;
@@ -7,6 +7,7 @@ mod monomial;
 mod polynomial;
 mod setting;
 mod terms;
+mod whole;
 
 pub use certificate::{write_certificate, write_proof};
 pub use module::write_module;

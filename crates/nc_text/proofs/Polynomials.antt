@@ -1,7 +1,7 @@
 -- Reading a polynomial term after term, as a loop does.
 -- `IsOnTheWay` is the invariant, with the terms so far in front and a budget as in `Words.antt`.
 use Rattle.nc_algebra.specs.Alphabets.{Alphabet}
-use Rattle.std.proofs.Common.{◌≡◌, ℕ, zero, suc, ◌≤◌, Bool, true, false, List, [], ◌∷◌, ◌++◌, length, Result, Ok, Err, refl, sym, ap, subst, ◌∙◌, append_assoc, arith}
+use Rattle.std.proofs.Common.{◌≡◌, ℕ, zero, suc, ◌≤◌, Bool, List, [], ◌∷◌, ◌++◌, length, Result, Ok, Err, refl, sym, ap, subst, ◌∙◌, append_assoc, arith}
 use Rattle.std.proofs.lemmas.List.{append-nil, nil_from_length}
 use Rattle.nc_tokens.specs.declared.fault.Kind.{Kind}
 use Rattle.nc_tokens.specs.declared.fault.LineError.{LineError}
@@ -13,7 +13,7 @@ use Rattle.nc_algebra.specs.Sums.{Term}
 use Rattle.nc_algebra.specs.Words.{Word}
 use Rattle.nc_tokens.specs.Gives.{Fails}
 use Rattle.nc_tokens.specs.Shown.{IsMisplaced, before}
-use Rattle.nc_tokens.specs.Tokens.{Token, Plus, Minus}
+use Rattle.nc_tokens.specs.Tokens.{Token}
 use Rattle.nc_tokens.specs.Wanted.{◌>>=◌, misplaced, sign_at}
 use Rattle.nc_text.specs.Reading.{factors_at, term_at, after_term, terms_at, sum_at}
 use Rattle.nc_tokens.proofs.Takes.{bind_fails}
@@ -78,30 +78,20 @@ behind_term p a front negative ts whole x e h = by_budget h.budget h.enough h.sa
           same = sym (regroup front x.0 r) ∙ ap (with_front front) (sym one) ∙ same;
         }
 
+-- behind a term a sign leads to the next one
 pub goes_on : (p : ℕ) (a : Alphabet) (front : Polynomial) (negative : Bool) (ts : List Token)
-    (whole : Read) (t : Term Word) (us rest : List Token) → term_at p a negative ts ≡ Ok (t, us)
-    → us ≡ Plus ∷ rest → IsOnTheWay p a front negative ts whole
-    → IsOnTheWay p a (front ++ t ∷ []) false rest whole
-goes_on p a front negative ts whole t us rest e sign h =
+    (whole : Read) (t : Term Word) (us rest : List Token) (sign : Token) (less : Bool)
+    → ((next : Bool → List Token → Read) → after_term next (sign ∷ rest) ≡ next less rest)
+    → term_at p a negative ts ≡ Ok (t, us) → us ≡ sign ∷ rest
+    → IsOnTheWay p a front negative ts whole → IsOnTheWay p a (front ++ t ∷ []) less rest whole
+goes_on p a front negative ts whole t us rest sign less leads e is h =
     let b = behind_term p a front negative ts whole (t, us) e h in
+    let next = terms_at b.budget p a in
     record {
       budget = b.budget;
-      enough = omega (arith, b.enough, ap length sign);
-      same = ap (λ (l : List Token). with_front (front ++ t ∷ [])
-          (after_term (terms_at b.budget p a) l)) (sym sign) ∙ b.same;
-    }
-
-pub goes_on_less : (p : ℕ) (a : Alphabet) (front : Polynomial) (negative : Bool) (ts : List Token)
-    (whole : Read) (t : Term Word) (us rest : List Token) → term_at p a negative ts ≡ Ok (t, us)
-    → us ≡ Minus ∷ rest → IsOnTheWay p a front negative ts whole
-    → IsOnTheWay p a (front ++ t ∷ []) true rest whole
-goes_on_less p a front negative ts whole t us rest e sign h =
-    let b = behind_term p a front negative ts whole (t, us) e h in
-    record {
-      budget = b.budget;
-      enough = omega (arith, b.enough, ap length sign);
-      same = ap (λ (l : List Token). with_front (front ++ t ∷ [])
-          (after_term (terms_at b.budget p a) l)) (sym sign) ∙ b.same;
+      enough = omega (arith, b.enough, ap length is);
+      same = ap (with_front (front ++ t ∷ []))
+          (sym (leads next) ∙ ap (after_term next) (sym is)) ∙ b.same;
     }
 
 pub ends : (p : ℕ) (a : Alphabet) (front : Polynomial) (negative : Bool) (ts : List Token)

@@ -10,7 +10,7 @@ use Rattle.nc_module.proofs.Settings.{generator_weighs}
 use Rattle.nc_text.proofs.ReadCertificates.{at_line_reads, setting_lines_read}
 use Rattle.nc_text.proofs.ReadRows.{IsTextMonomial, checked_reads, mono_reads}
 use Rattle.nc_text.specs.Laws.{ReadsProblems}
-use Rattle.nc_text.specs.Problems.{ProblemText, bound_line, claim_at, problem_at, reads_problem, steps_in, steps_line}
+use Rattle.nc_text.specs.Problems.{ProblemText, bound_line, claim_at, problem_at, steps_in, steps_line}
 use Rattle.nc_text.specs.Rows.{below_at, bound_at, checked, degree_at, mono_at, steps_at}
 use Rattle.nc_text.specs.Settings.{setting_lines}
 use Rattle.nc_tokens.proofs.Steps.{on_any, on_bind, on_choice, on_weaker}

@@ -1,7 +1,8 @@
-use Rattle.std.proofs.Common.{ap, arith, length, ◌<◌}
+use Rattle.std.proofs.Common.{ap, arith, false, length, refl, true, ◌<◌}
 use Rattle.std.proofs.lemmas.List.Elements.{All-nil, All-push}
 use Rattle.std.proofs.lemmas.Result.{err_from_is_err_and}
-use Rattle.nc_text.proofs.Polynomials.{begins, goes_on, goes_on_less, ends, is_wrong, term_fails}
+use Rattle.nc_tokens.specs.Tokens.{Minus, Plus}
+use Rattle.nc_text.proofs.Polynomials.{begins, goes_on, ends, is_wrong, term_fails}
 use Rattle.nc_text.proofs.Shorter.{term_shorter}
 use Rattle.nc_text.proofs.polynomial.sum_of.Goals as goal
 
@@ -29,7 +30,8 @@ terms-smaller-in-Plus c =
 pub terms-preserved-in-Plus : goal.terms-preserved-in-Plus
 terms-preserved-in-Plus c =
     rw c.in_ok-push.ensures.items (record {
-      reads = goes_on _ _ _ _ _ _ _ _ _ c.in_ok-term.ensures.reads c.in-Plus.ensures
+      reads = goes_on _ _ _ _ _ _ _ _ _ Plus false (λ next. refl)
+          c.in_ok-term.ensures.reads c.in-Plus.ensures
           c.terms.invariant.reads;
       residues = All-push (λ t. t.coefficient < c.args.prime) _ _
           c.terms.invariant.residues c.in_ok-term.ensures.residue;
@@ -42,7 +44,8 @@ terms-smaller c =
 pub terms-preserved : goal.terms-preserved
 terms-preserved c =
     rw c.in_ok-push.ensures.items (record {
-      reads = goes_on_less _ _ _ _ _ _ _ _ _ c.in_ok-term.ensures.reads c.in-Minus.ensures
+      reads = goes_on _ _ _ _ _ _ _ _ _ Minus true (λ next. refl)
+          c.in_ok-term.ensures.reads c.in-Minus.ensures
           c.terms.invariant.reads;
       residues = All-push (λ t. t.coefficient < c.args.prime) _ _
           c.terms.invariant.residues c.in_ok-term.ensures.residue;

@@ -36,4 +36,4 @@ returns c =
       setting = c.setting.result.now;
       claim = c.args.asked.now.claim.now;
       lines = c.args.lines.now;
-    })) c.in_ok-write_proof.ensures c.new-report.ensures.items)
+    })) c.in_ok-write_proof.ensures.text c.new-report.ensures.items)

@@ -34,4 +34,4 @@ returns c =
     (facts (goal.at.returns c).After-setting).answer c.write_terms.new.out.items
     (written_new c.write_terms.new.out.items c.new-report.result.items
     (terms_text c.setting.result.now c.args.asked.now.claim.now (element_of c.args.m.now))
-    c.in_ok-write_terms.ensures c.new-report.ensures.items)
+    c.in_ok-write_terms.ensures.text c.new-report.ensures.items)

@@ -1,8 +1,0 @@
-use Rattle.nc_print.proofs.Writing.{bare_text, bare_texts_end}
-use Rattle.std.proofs.Common.{arith}
-use Rattle.nc_print.proofs.module.write_others.Goals as goal
-
-pub returns : goal.returns
-returns c =
-    bare_texts_end c.args.names.now c.args.terms.now c.loop-t.t-index c.args.out.now.items
-    c.loop-t.out.items (omega arith) c.loop-t.invariant
