@@ -75,7 +75,8 @@ module _ (P : NamedProblem) (is : IsProblem P) (prime : IsPrime P.problem.settin
       × IsValid P.problem.setting f (proof_lines P.problem.setting.prime traces steps)
   keeps [] rest needs = (tt, zero_claim rest.at.run rest.reduces)
   keeps (step ∷ steps) rest needs =
-      let same : rest.at.run ≡ needs.at.run = (run_unique P.problem field rest.at.runs needs.at.runs).0 in
+      let same : rest.at.run ≡ needs.at.run =
+      (run_unique P.problem field rest.at.runs needs.at.runs).0 in
       let reduces : Reduction P.problem.setting needs.at.run.entries (IsWithin P.problem) f []
       (step ∷ steps) =
       subst (λ (r : State). Reduction P.problem.setting r.entries (IsWithin P.problem) f []
