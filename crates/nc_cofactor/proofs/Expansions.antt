@@ -32,7 +32,7 @@ module _ (P : NamedProblem) (problem : IsProblem P) (n : ℕ) (listed : Listed) 
   module _ {run : State} {last : Option Monomial} (runs : SequentialRun P.problem n run last) where
     is_there : IsTraceIn run listed t
     is_there =
-        subst (λ (r : State). IsTraceIn r listed t) (one_run P problem n has.runs runs) has.is
+        subst (λ (r : State). IsTraceIn r listed t) (one_run P problem n has.at.runs runs) has.is
 
     -- what is needed is reached, and what is reached is needed
     need : {j : ℕ} → Needs run.entries t j → IsReached run.entries marks j
@@ -58,27 +58,25 @@ module _ (P : NamedProblem) (problem : IsProblem P) (n : ℕ) (listed : Listed) 
   fill_fails OutOfMemory f = tt
   fill_fails (TooMany named terms) f =
       record {
-        run = f.run;
-        last = f.last;
-        runs = f.runs;
-        many = subst (λ (l : Listed). IsTooMany P.problem.setting.prime f.run listed
+        at = f.at;
+        many = subst (λ (l : Listed). IsTooMany P.problem.setting.prime f.at.run listed
             limit l terms) (sym f.names) many;
       }
     where
-      lesser : (j i : ℕ) → j < f.number → EntryTerms P.problem.setting.prime f.run j i
-          → (listed ≡ EntryOf j) ⊎ IsReached f.run.entries marks j → i ≤ limit
+      lesser : (j i : ℕ) → j < f.number → EntryTerms P.problem.setting.prime f.at.run j i
+          → (listed ≡ EntryOf j) ⊎ IsReached f.at.run.entries marks j → i ≤ limit
       lesser j i l terms (inl same) =
-          absurd (let b : f.number < j = (needs_earlier P problem f.runs j t
-          (subst (λ (x : Listed). IsTraceIn f.run x t) same (is_there f.runs))
-          (needed f.runs f.reached)).1 in omega (arith, b, l))
+          absurd (let b : f.number < j = (needs_earlier P problem f.at.runs j t
+          (subst (λ (x : Listed). IsTraceIn f.at.run x t) same (is_there f.at.runs))
+          (needed f.at.runs f.reached)).1 in omega (arith, b, l))
       lesser j i l terms (inr reached) = f.lesser j i reached l terms
 
-      many : IsTooMany P.problem.setting.prime f.run listed limit (EntryOf f.number) terms
+      many : IsTooMany P.problem.setting.prime f.at.run listed limit (EntryOf f.number) terms
       many = (
-        inr (t, is_there f.runs, needed f.runs f.reached),
+        inr (t, is_there f.at.runs, needed f.at.runs f.reached),
         f.has,
         f.many,
-        λ j i c l ts. lesser j i l ts (counted f.runs j c),
+        λ j i c l ts. lesser j i l ts (counted f.at.runs j c),
       )
 
   -- ---- the item
@@ -86,47 +84,43 @@ module _ (P : NamedProblem) (problem : IsProblem P) (n : ℕ) (listed : Listed) 
   module _ (labels : List (List (Term Sig))) (h : AreFilled P.problem n marks limit labels) where
     pub item_named : AreNamedLabels P.problem n listed t labels
     item_named = record {
-      run = h.run;
-      last = h.last;
-      runs = h.runs;
-      is = is_there h.runs;
-      named = λ j m. let f : IsFilledAt P.problem h.run labels limit j =
-          h.places j (need h.runs (Needs.named m)) in (f.label, f.at, f.is);
+      at = h.at;
+      is = is_there h.at.runs;
+      named = λ j m. let f : IsFilledAt P.problem h.at.run labels limit j =
+          h.places j (need h.at.runs (Needs.named m)) in (f.label, f.at, f.is);
     }
 
     pub item_expands : (m : List (Term Sig)) → HasLabel P.problem n listed m → length m ≤ limit
         → IsExpanded P.problem n listed limit m
     item_expands m l few =
         record {
-          run = h.run;
-          last = h.last;
-          runs = h.runs;
+          at = h.at;
           is = own;
           within = record
-              { entries = λ j i c terms. entries j i terms (counted h.runs j c); item = item };
+              { entries = λ j i c terms. entries j i terms (counted h.at.runs j c); item = item };
         }
       where
-        own : IsLabelOf P.problem.setting h.run listed m
+        own : IsLabelOf P.problem.setting h.at.run listed m
         own = subst (λ (r : State). IsLabelOf P.problem.setting r listed m)
-            (one_run P problem n l.runs h.runs) l.is
+            (one_run P problem n l.at.runs h.at.runs) l.is
 
-        item : (α : Element) (i : ℕ) → IsLabelIn P.problem.setting.prime h.run listed α
+        item : (α : Element) (i : ℕ) → IsLabelIn P.problem.setting.prime h.at.run listed α
             → HasTerms P.problem.setting.prime α i → i ≤ limit
         item α i is terms =
             let same : i ≡ length m =
             terms_once P.problem.setting.prime α i (length m) terms
-            (label_count P.problem.setting h.run listed m own α is) in
+            (label_count P.problem.setting h.at.run listed m own α is) in
             omega (arith, same, few)
 
-        entries : (j i : ℕ) → EntryTerms P.problem.setting.prime h.run j i → (listed ≡ EntryOf j)
-            ⊎ IsReached h.run.entries marks j → i ≤ limit
+        entries : (j i : ℕ) → EntryTerms P.problem.setting.prime h.at.run j i → (listed ≡ EntryOf j)
+            ⊎ IsReached h.at.run.entries marks j → i ≤ limit
         entries j i terms (inl e) =
-            let o : IsLabelOf P.problem.setting h.run (EntryOf j) m =
-            subst (λ (x : Listed). IsLabelOf P.problem.setting h.run x m) e own in
+            let o : IsLabelOf P.problem.setting h.at.run (EntryOf j) m =
+            subst (λ (x : Listed). IsLabelOf P.problem.setting h.at.run x m) e own in
             let same : i ≡ length m =
             terms_once P.problem.setting.prime
-            (label_at (labels_of P.problem.setting.prime h.run.entries) j) i (length m) terms
-            (label_terms P problem n h.run j m o) in
+            (label_at (labels_of P.problem.setting.prime h.at.run.entries) j) i (length m) terms
+            (label_terms P problem n h.at.run j m o) in
             omega (arith, same, few)
         entries j i terms (inr reached) =
             few_filled P problem n marks limit labels h j i reached terms
@@ -136,26 +130,24 @@ module _ (P : NamedProblem) (problem : IsProblem P) (n : ℕ) (listed : Listed) 
     item_fails OutOfMemory f = tt
     item_fails (TooMany named terms) f =
         record {
-          run = h.run;
-          last = h.last;
-          runs = h.runs;
-          many = subst (λ (l : Listed). IsTooMany P.problem.setting.prime h.run
+          at = h.at;
+          many = subst (λ (l : Listed). IsTooMany P.problem.setting.prime h.at.run
               listed limit l terms) (sym f.names) (many listed refl);
         }
       where
-        own : IsLabelOf P.problem.setting h.run listed f.label
+        own : IsLabelOf P.problem.setting h.at.run listed f.label
         own = subst (λ (r : State). IsLabelOf P.problem.setting r listed f.label)
-            (one_run P problem n f.has.runs h.runs) f.has.is
+            (one_run P problem n f.has.at.runs h.at.runs) f.has.is
 
         terms_are : HasTerms P.problem.setting.prime own.label terms
         terms_are =
             subst (λ i. HasTerms P.problem.setting.prime own.label i) (sym f.count)
             (has_terms P.problem.setting own.label f.label
-            (label_sum P.problem.setting h.run listed f.label own))
+            (label_sum P.problem.setting h.at.run listed f.label own))
 
         lesser : (k j i : ℕ) → listed ≡ EntryOf k → j < k
-            → EntryTerms P.problem.setting.prime h.run j i → (listed ≡ EntryOf j)
-            ⊎ IsReached h.run.entries marks j → i ≤ limit
+            → EntryTerms P.problem.setting.prime h.at.run j i → (listed ≡ EntryOf j)
+            ⊎ IsReached h.at.run.entries marks j → i ≤ limit
         lesser k j i e l terms (inl d) =
             absurd (let same : EntryOf k ≡ EntryOf j = sym e ∙ d in let one : k ≡ j = cc in
             omega (arith, one, l))
@@ -165,31 +157,31 @@ module _ (P : NamedProblem) (problem : IsProblem P) (n : ℕ) (listed : Listed) 
         entry_alone : (k j : ℕ) → listed ≡ SyzygyOf k → listed ≡ EntryOf j → ⊥
         entry_alone k j e d = let same : SyzygyOf k ≡ EntryOf j = sym e ∙ d in cc
 
-        others : (k j i : ℕ) → listed ≡ SyzygyOf k → EntryTerms P.problem.setting.prime h.run j i
-            → (listed ≡ EntryOf j) ⊎ IsReached h.run.entries marks j → i ≤ limit
+        others : (k j i : ℕ) → listed ≡ SyzygyOf k → EntryTerms P.problem.setting.prime h.at.run j i
+            → (listed ≡ EntryOf j) ⊎ IsReached h.at.run.entries marks j → i ≤ limit
         others k j i e terms (inl d) = absurd (entry_alone k j e d)
         others k j i e terms (inr reached) =
             few_filled P problem n marks limit labels h j i reached terms
 
         many : (l : Listed) → listed ≡ l
-            → IsTooMany P.problem.setting.prime h.run listed limit l terms
+            → IsTooMany P.problem.setting.prime h.at.run listed limit l terms
         many (EntryOf k) e =
-            let is : IsLabelIn P.problem.setting.prime h.run (EntryOf k) own.label =
-            subst (λ (l : Listed). IsLabelIn P.problem.setting.prime h.run l own.label) e
+            let is : IsLabelIn P.problem.setting.prime h.at.run (EntryOf k) own.label =
+            subst (λ (l : Listed). IsLabelIn P.problem.setting.prime h.at.run l own.label) e
             own.is in (
               inl e,
               subst (λ (α : Element). HasTerms P.problem.setting.prime α terms) is.2
                   terms_are,
               f.many,
-              λ j i c l ts. lesser k j i e l ts (counted h.runs j c),
+              λ j i c l ts. lesser k j i e l ts (counted h.at.runs j c),
             )
         many (SyzygyOf k) e = (
           e,
           (own.label, own.is, terms_are),
           f.many,
-          λ j i c ts. others k j i e ts (counted h.runs j c),
+          λ j i c ts. others k j i e ts (counted h.at.runs j c),
         )
-        many Claim e = absurd (subst (λ (l : Listed). IsTraceIn h.run l t) e (is_there h.runs))
+        many Claim e = absurd (subst (λ (l : Listed). IsTraceIn h.at.run l t) e (is_there h.at.runs))
 
     -- ---- what the code gives
 

@@ -12,6 +12,7 @@ use Rattle.nc_algebra.specs.Problems.{IsWithin, bound_degree}
 use Rattle.nc_algebra.specs.Words.{Word}
 use Rattle.nc_cofactor.proofs.Lesser.{first_of_rebuilt, lesser_than_entry}
 use Rattle.nc_cofactor.proofs.Named.{AreLight, IsLight}
+use Rattle.nc_cofactor.proofs.Runs.{run_at}
 use Rattle.nc_cofactor.specs.Claims.{AreSubtracted}
 use Rattle.nc_cofactor.specs.Rebuilding.{AreLesser, HasStart}
 use Rattle.nc_cofactor.specs.Traces.{HasTrace, IsListedSignature}
@@ -157,9 +158,7 @@ module _ (s : Snapshot) (h : IsSnapshot s) where
   entry_has_trace k e some at t f r =
       let listed : Contains s.state.entries e = listed_at s.state.entries (k - 1) e at in
       let there : Contains h.run.run.entries (entry e listed) = entry_listed e listed in record {
-        run = h.run.run;
-        last = h.run.last;
-        runs = h.run.runs;
+        at = run_at h.run;
         is = (
           entry e listed,
           some,
@@ -177,9 +176,7 @@ module _ (s : Snapshot) (h : IsSnapshot s) where
   syzygy_has_trace k z some at t f r =
       let listed : Contains s.state.syzygies z = listed_at s.state.syzygies (k - 1) z at in
       let there : Contains h.run.run.syzygies (syzygy z listed) = syzygy_listed z listed in record {
-        run = h.run.run;
-        last = h.run.last;
-        runs = h.run.runs;
+        at = run_at h.run;
         is = (
           syzygy z listed,
           some,

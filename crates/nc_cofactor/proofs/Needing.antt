@@ -8,10 +8,10 @@ use Rattle.nc_cofactor.proofs.Labelled.{problem_field}
 use Rattle.nc_cofactor.proofs.Named.{IsAnyNamed, IsSigned, any_named, names_earlier, signed}
 use Rattle.nc_cofactor.proofs.Once.{trace_once}
 use Rattle.nc_cofactor.proofs.Places.{earlier_place, last_place}
-use Rattle.nc_cofactor.proofs.Runs.{entries_kept, one_run}
+use Rattle.nc_cofactor.proofs.Runs.{entries_kept, one_run, run_at}
 use Rattle.nc_cofactor.specs.Needed.{AreFound, IsFound, IsMarked, IsReached, IsSlot}
 use Rattle.nc_cofactor.specs.Terms.{Names, Needs}
-use Rattle.nc_cofactor.specs.Traces.{HasTrace, IsTraceIn}
+use Rattle.nc_cofactor.specs.Traces.{HasTrace, IsTraceIn, RunAt}
 use Rattle.nc_theory.specs.Untraced.{IsRunOf}
 use Rattle.nc_snapshot.specs.declared.outcome.Listed.{Listed}
 use Rattle.nc_snapshot.specs.declared.outcome.Listed.TheVariants.{Entry as EntryOf}
@@ -45,10 +45,8 @@ pub record IsOnTheWay (run : State) (first : List Bool) (left : ℕ) (marks : Li
 -- the same in the run after n steps
 pub record IsWayOf (P : Problem) (n : ℕ) (first : List Bool) (left : ℕ) (marks : List Bool)
     (stack : List (Option Trace)) : Type 0 where
-  pub run : State
-  pub last : Option Monomial
-  pub runs : SequentialRun P n run last
-  pub way : IsOnTheWay run first left marks stack
+  pub at : RunAt P n
+  pub way : IsOnTheWay at.run first left marks stack
 
 -- what an entry's slot does to the marks
 pub record IsStep (run : State) (first : List Bool) (left : ℕ) (old new : List Bool)
@@ -136,7 +134,7 @@ module _ (P : NamedProblem) (problem : IsProblem P) {n : ℕ} {run : State} {las
           subst (IsSlot P.problem n old new left) e slot in
           let there : IsTraceIn run (EntryOf left) x =
           subst (λ (r : State). IsTraceIn r (EntryOf left) x)
-          (one_run P problem n s.1.runs runs) s.1.is in
+          (one_run P problem n s.1.at.runs runs) s.1.is in
           record {
             grows = λ j one m. (s.2 j one).1 (inl m);
             lower = λ j one m. elim ((s.2 j one).0 m)
@@ -225,9 +223,7 @@ module _ (P : NamedProblem) (problem : IsProblem P) {n : ℕ} {run : State} {las
       pub way_ends : AreFound P.problem n first stack
       way_ends =
           record {
-            run = run;
-            last = last;
-            runs = runs;
+            at = record { run = run; last = last; runs = runs };
             size = way.begins;
             height = omega (arith, way.height);
             slots = λ k o some within at. found k o some
@@ -249,9 +245,9 @@ module _ (P : NamedProblem) (problem : IsProblem P) (n : ℕ) (state : State)
   pub named_within : (listed : Listed) (t : Trace) → HasTrace P.problem n listed t → (count : ℕ)
       → count ≡ length state.entries → (j : ℕ) → Names t j → (1 ≤ j) × (j ≤ count)
   named_within listed t h count size j m =
-      let b : (1 ≤ j) × (j ≤ length h.run.entries) =
-      names_within P problem h.runs listed t j h.is m in
-      (b.0, omega (arith, b.1, size, entries_in h.runs))
+      let b : (1 ≤ j) × (j ≤ length h.at.run.entries) =
+      names_within P problem h.at.runs listed t j h.is m in
+      (b.0, omega (arith, b.1, size, entries_in h.at.runs))
 
   module _ (first : List Bool) (left : ℕ) where
     pub loop_begins : (stack : List (Option Trace)) → left ≡ length state.entries
@@ -261,9 +257,7 @@ module _ (P : NamedProblem) (problem : IsProblem P) (n : ℕ) (state : State)
         let all : length state.entries ≡ length r.run.entries = entries_kept P.problem n state r in
         subst (IsWayOf P.problem n first left first) (sym empty)
         (record {
-          run = r.run;
-          last = r.last;
-          runs = r.runs;
+          at = run_at r;
           way = way_begins P problem r.runs first left (size ∙ all)
               (long ∙ all);
         })
@@ -273,21 +267,19 @@ module _ (P : NamedProblem) (problem : IsProblem P) (n : ℕ) (state : State)
       -- what is left, and how many marks there are
       pub loop_within : (left ≤ length state.entries) × (length marks ≡ length state.entries)
       loop_within =
-          (omega (arith, entries_in w.runs, w.way.height), w.way.size ∙ sym (entries_in w.runs))
+          (omega (arith, entries_in w.at.runs, w.way.height), w.way.size ∙ sym (entries_in w.at.runs))
 
       pub loop_steps : (new : List Bool) (o : Option Trace) → 1 ≤ left
           → IsSlot P.problem n marks new left o → length new ≡ length marks
           → IsWayOf P.problem n first (left - 1) new (stack ++ o ∷ [])
       loop_steps new o some slot same =
           record {
-            run = w.run;
-            last = w.last;
-            runs = w.runs;
-            way = way_steps P problem w.runs first left marks new stack o some w.way
+            at = w.at;
+            way = way_steps P problem w.at.runs first left marks new stack o some w.way
                 slot same;
           }
 
       pub loop_ends : left ≡ 0 → AreFound P.problem n first stack
       loop_ends none =
-          way_ends P problem w.runs first marks stack
-          (subst (λ i. IsOnTheWay w.run first i marks stack) none w.way)
+          way_ends P problem w.at.runs first marks stack
+          (subst (λ i. IsOnTheWay w.at.run first i marks stack) none w.way)

@@ -1,10 +1,10 @@
 -- The traces that are found, each beside its number: those that given numbers need.
-use Rattle.nc_algebra.specs.Problems.{IsProblem, NamedProblem}
+use Rattle.nc_algebra.specs.Problems.{IsProblem, NamedProblem, Problem}
 use Rattle.nc_cofactor.proofs.Lists.{contains_map, map_contains, rising_push}
 use Rattle.nc_cofactor.proofs.Needing.{compared, reached_within}
 use Rattle.nc_cofactor.proofs.Places.{earlier_there, last_there}
 use Rattle.nc_cofactor.proofs.Reaching.{needed_reached, reached_needed}
-use Rattle.nc_cofactor.specs.Claims.{AreNeededTraces, IsNeededFor, ListsNeeded}
+use Rattle.nc_cofactor.specs.Claims.{AreNeededFor, AreNeededTraces, IsNeededFor, ListsNeeded}
 use Rattle.nc_cofactor.specs.Needed.{AreFound, AreNumbered, IsFound, IsMarked, IsReached}
 use Rattle.nc_cofactor.specs.Traces.{IsTraceIn}
 use Rattle.nc_snapshot.specs.declared.outcome.Listed.TheVariants.{Entry as EntryOf}
@@ -146,22 +146,22 @@ module _ (P : NamedProblem) (problem : IsProblem P) (n : ℕ) (numbers : List �
         (some, (exact j some).1 c)
 
     -- one that is there is needed
-    found : (k : ℕ) (t : Trace) → Contains numbered (k, t) → IsTraceIn f.run (EntryOf k) t
-        × IsReached f.run.entries marks k
+    found : (k : ℕ) (t : Trace) → Contains numbered (k, t) → IsTraceIn f.at.run (EntryOf k) t
+        × IsReached f.at.run.entries marks k
     found k t c =
         let s = a.sound k t c in
         f.slots k (Some t) s.0 (omega (arith, s.1, f.height))
         (subst (λ i. slice_get stack (i - k) ≡ Some (Some t)) f.height s.2)
 
     -- one that is needed is there
-    there : (j : ℕ) → IsReached f.run.entries marks j → Contains (map (λ x. x.0) numbered) j
+    there : (j : ℕ) → IsReached f.at.run.entries marks j → Contains (map (λ x. x.0) numbered) j
     there j reached =
-        let b : (1 ≤ j) × (j ≤ length f.run.entries) =
-        reached_within P problem f.runs marks f.size reached in
-        go b.0 b.1 (slice_get_cases stack (length f.run.entries - j)).1
+        let b : (1 ≤ j) × (j ≤ length f.at.run.entries) =
+        reached_within P problem f.at.runs marks f.size reached in
+        go b.0 b.1 (slice_get_cases stack (length f.at.run.entries - j)).1
       where
-        at_slot : (o : Option Trace) → 1 ≤ j → j ≤ length f.run.entries
-            → slice_get stack (length f.run.entries - j) ≡ Some o → IsFound f.run marks j o
+        at_slot : (o : Option Trace) → 1 ≤ j → j ≤ length f.at.run.entries
+            → slice_get stack (length f.at.run.entries - j) ≡ Some o → IsFound f.at.run marks j o
             → Contains (map (λ x. x.0) numbered) j
         at_slot None some within at none = absurd (none reached)
         at_slot (Some t) some within at is =
@@ -169,35 +169,38 @@ module _ (P : NamedProblem) (problem : IsProblem P) (n : ℕ) (numbers : List �
             (a.complete j t some (omega (arith, within, f.height))
             (subst (λ i. slice_get stack (i - j) ≡ Some (Some t)) (sym f.height) at)) refl
 
-        go : 1 ≤ j → j ≤ length f.run.entries
-            → (((o : Option Trace) × (length f.run.entries - j < length stack)
-            × (slice_get stack (length f.run.entries - j) ≡ Some o)
-            × (get_or stack (length f.run.entries - j) o ≡ o))
-            ⊎ ((length stack ≤ length f.run.entries - j)
-            × (slice_get stack (length f.run.entries - j) ≡ None)))
+        go : 1 ≤ j → j ≤ length f.at.run.entries
+            → (((o : Option Trace) × (length f.at.run.entries - j < length stack)
+            × (slice_get stack (length f.at.run.entries - j) ≡ Some o)
+            × (get_or stack (length f.at.run.entries - j) o ≡ o))
+            ⊎ ((length stack ≤ length f.at.run.entries - j)
+            × (slice_get stack (length f.at.run.entries - j) ≡ None)))
             → Contains (map (λ x. x.0) numbered) j
         go some within (inl (o, l, at, e)) = at_slot o some within at (f.slots j o some within at)
         go some within (inr past) = absurd (omega (arith, past.0, some, within, f.height))
 
-    lists : ListsNeeded f.run.entries numbers (map (λ x. x.0) numbered)
+    lists : ListsNeeded f.at.run.entries numbers (map (λ x. x.0) numbered)
     lists = record {
       ascending = a.ascending;
       exact = λ j. (
         (λ c. let r = map_contains (λ (x : ℕ × Trace). x.0) numbered j c in
-            subst (IsNeededFor f.run.entries numbers) r.2
-            (reached_needed f.run.entries marks numbers (λ i some m. (exact i some).0 m)
+            subst (IsNeededFor f.at.run.entries numbers) r.2
+            (reached_needed f.at.run.entries marks numbers (λ i some m. (exact i some).0 m)
             (found r.0.0 r.0.1 r.1).1)),
-        (λ needed. there j (needed_reached f.run.entries marks numbers some_of needed)),
+        (λ needed. there j (needed_reached f.at.run.entries marks numbers some_of needed)),
       );
     }
 
     pub are_needed : AreNeededTraces P.problem n numbers numbered
     are_needed = record {
-      run = f.run;
-      last = f.last;
-      runs = f.runs;
+      at = f.at;
       lists = lists;
       traces =
           λ k d within. (found (get_or numbered k d).0 (get_or numbered k d).1
           (Contains-get_or numbered k d within)).0;
     }
+
+-- their numbers alone are what is needed
+pub needed_alone : {P : Problem} {n : ℕ} {numbers : List ℕ} {traces : List (ℕ × Trace)}
+    → AreNeededTraces P n numbers traces → AreNeededFor P n numbers (map (λ x. x.0) traces)
+needed_alone h = record { at = h.at; lists = h.lists }

@@ -103,59 +103,55 @@ module _ (s : Snapshot) (is : IsSnapshot s) (steps : List Step)
         → FailsToRepresent s.problem.problem s.handled steps limit e
     fill_fails OutOfMemory f = tt
     fill_fails (TooMany named terms) f = record {
-      run = f.run;
-      last = f.last;
-      runs = f.runs;
-      many = subst (λ (l : Listed). IsTooManyFor s.problem.problem.setting.prime f.run steps limit l
+      at = f.at;
+      many = subst (λ (l : Listed). IsTooManyFor s.problem.problem.setting.prime f.at.run steps limit l
           terms) (sym f.names) (
-            needed f.run f.reached,
+            needed f.at.run f.reached,
             f.has,
             f.many,
-            λ j m n l ts. f.lesser j m (need f.run n) l ts,
+            λ j m n l ts. f.lesser j m (need f.at.run n) l ts,
           );
     }
 
     module _ (labels : List (List (Term Sig)))
         (h : AreFilled s.problem.problem s.handled marks limit labels) where
-      stands : (j : ℕ) → StepsName steps j → StandsAt s.problem.problem.setting h.run labels j
+      stands : (j : ℕ) → StepsName steps j → StandsAt s.problem.problem.setting h.at.run labels j
       stands j k =
           let some : 1 ≤ j = (named_low (length s.state.entries) refl j k).0 in
-          let f : IsFilledAt s.problem.problem h.run labels limit j =
+          let f : IsFilledAt s.problem.problem h.at.run labels limit j =
           h.places j (IsReached.marked some ((exact j some).1 k)) in
           record { label = f.label; at = f.at; is = f.is }
 
       pub can_add : AreSummable s.problem.problem.setting labels steps
-      can_add = addable_steps s.problem is.problem h.runs labels steps (light h.runs) stands
+      can_add = addable_steps s.problem is.problem h.at.runs labels steps (light h.at.runs) stands
 
       module _ (m : List (Term Sig))
           (sum : IsSum s.problem.problem.setting (step_multiples (elements_of labels) steps) m)
         where
           own : IsSum s.problem.problem.setting
-              (step_multiples (labels_of s.problem.problem.setting.prime h.run.entries) steps) m
-          own = steps_whole s.problem is.problem h.runs labels steps m stands sum
+              (step_multiples (labels_of s.problem.problem.setting.prime h.at.run.entries) steps) m
+          own = steps_whole s.problem is.problem h.at.runs labels steps m stands sum
 
           own_terms : HasTerms s.problem.problem.setting.prime
-              (step_multiples (labels_of s.problem.problem.setting.prime h.run.entries) steps)
+              (step_multiples (labels_of s.problem.problem.setting.prime h.at.run.entries) steps)
               (length m)
           own_terms =
               has_terms s.problem.problem.setting
-              (step_multiples (labels_of s.problem.problem.setting.prime h.run.entries) steps) m own
+              (step_multiples (labels_of s.problem.problem.setting.prime h.at.run.entries) steps) m own
 
           pub represents : length m ≤ limit
               → IsRepresentation s.problem.problem s.handled steps limit m
           represents few = record {
-            run = h.run;
-            last = h.last;
-            runs = h.runs;
+            at = h.at;
             is = own;
             within = record {
               entries =
                   λ j i n terms. few_filled s.problem is.problem s.handled marks limit labels h j i
-                  (need h.run n) terms;
+                  (need h.at.run n) terms;
               sum = λ i terms. omega (
                 arith,
                 terms_once s.problem.problem.setting.prime
-                    (step_multiples (labels_of s.problem.problem.setting.prime h.run.entries) steps)
+                    (step_multiples (labels_of s.problem.problem.setting.prime h.at.run.entries) steps)
                     i
                     (length m) terms own_terms,
                 few,
@@ -166,15 +162,13 @@ module _ (s : Snapshot) (is : IsSnapshot s) (steps : List Step)
           pub claim_fails : (terms : ℕ) → terms ≡ length m → limit < terms
               → IsTooManyForAt s.problem.problem s.handled steps limit Claim terms
           claim_fails terms count many = record {
-            run = h.run;
-            last = h.last;
-            runs = h.runs;
+            at = h.at;
             many = (
               subst (λ i. HasTerms s.problem.problem.setting.prime
-                  (step_multiples (labels_of s.problem.problem.setting.prime h.run.entries) steps)
+                  (step_multiples (labels_of s.problem.problem.setting.prime h.at.run.entries) steps)
                   i) (sym count) own_terms,
               many,
               λ j i n ts. few_filled s.problem is.problem s.handled marks limit labels h j i
-                  (need h.run n) ts,
+                  (need h.at.run n) ts,
             );
           }

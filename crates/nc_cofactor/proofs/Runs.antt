@@ -12,7 +12,7 @@ use Rattle.nc_cofactor.specs.Expanding.{AreNamedLabels, FailsToLabel, FailsToLab
 use Rattle.nc_cofactor.specs.Labels.{AreLabels, AreSyzygyLabels, HasLabel, IsLabelIn, IsLabelOf}
 use Rattle.nc_cofactor.specs.Sums.{IsSummable, IsTraceSum}
 use Rattle.nc_cofactor.specs.Terms.{EntryTerms, HasTerms, Names}
-use Rattle.nc_cofactor.specs.Traces.{HasTrace, IsTraceIn}
+use Rattle.nc_cofactor.specs.Traces.{HasTrace, IsTraceIn, RunAt}
 use Rattle.nc_cofactor.specs.declared.fault.CofactorFault.{CofactorFault}
 use Rattle.nc_cofactor.specs.declared.fault.CofactorFault.TheVariants.{OutOfMemory, TooMany}
 use Rattle.nc_theory.specs.Untraced.{IsRunOf, untraced_entry}
@@ -33,6 +33,10 @@ pub entries_kept : (P : Problem) (n : ℕ) (state : State) (r : IsRunOf P n stat
 entries_kept P n state r =
     ap (λ (x : State). length x.entries) r.stands ∙ length-map r.run.entries untraced_entry
 
+-- the run that a state stands for
+abbrev pub run_at : {P : Problem} {n : ℕ} {state : State} → IsRunOf P n state → RunAt P n
+run_at r = record { run = r.run; last = r.last; runs = r.runs }
+
 module _ (P : NamedProblem) (problem : IsProblem P) (n : ℕ) where
   pub one_run : {run run' : State} {last last' : Option Monomial}
       → SequentialRun P.problem n run last → SequentialRun P.problem n run' last' → run ≡ run'
@@ -43,7 +47,7 @@ module _ (P : NamedProblem) (problem : IsProblem P) (n : ℕ) where
   pub can_sum : (listed : Listed) (t : Trace) (labels : List (List (Term Sig)))
       → AreNamedLabels P.problem n listed t labels → IsSummable P.problem.setting labels t
   can_sum listed t labels h =
-      summable P problem h.runs labels listed t h.is (λ j k. let r = h.named j k in
+      summable P problem h.at.runs labels listed t h.is (λ j k. let r = h.named j k in
       record { label = r.0; at = r.1; is = r.2 })
 
   pub gives_label : (listed : Listed) (t : Trace) (labels : List (List (Term Sig)))
@@ -51,10 +55,8 @@ module _ (P : NamedProblem) (problem : IsProblem P) (n : ℕ) where
       → IsTraceSum P.problem.setting labels t m → HasLabel P.problem n listed m
   gives_label listed t labels m h sum =
       record {
-        run = h.run;
-        last = h.last;
-        runs = h.runs;
-        is = labelled P problem h.runs labels listed t m h.is
+        at = h.at;
+        is = labelled P problem h.at.runs labels listed t m h.is
             (λ j k. let r = h.named j k in record { label = r.0; at = r.1; is = r.2 }) sum;
       }
 
@@ -70,7 +72,7 @@ module _ (P : NamedProblem) (problem : IsProblem P) (n : ℕ) where
 
   module _ (labels : List (List (Term Sig))) (a : AreLabels P.problem n labels) where
     place : (j : ℕ) → 1 ≤ j → j ≤ length labels → (m : List (Term Sig))
-        × (slice_get labels (j - 1) ≡ Some m) × IsLabelOf P.problem.setting a.run (EntryOf j) m
+        × (slice_get labels (j - 1) ≡ Some m) × IsLabelOf P.problem.setting a.at.run (EntryOf j) m
     place j some within =
         let at : slice_get labels (j - 1) ≡ Some (get_or labels (j - 1) []) =
         slice_get-get_or labels (j - 1) [] (omega arith) in
@@ -80,37 +82,37 @@ module _ (P : NamedProblem) (problem : IsProblem P) (n : ℕ) where
     pub next_named : (k : ℕ) (t : Trace) → HasTrace P.problem n (EntryOf k) t
         → k ≡ length labels + 1 → AreNamedLabels P.problem n (EntryOf k) t labels
     next_named k t h next =
-        record { run = a.run; last = a.last; runs = a.runs; is = is; named = λ j m. there j m is }
+        record { at = a.at; is = is; named = λ j m. there j m is }
       where
-        is : IsTraceIn a.run (EntryOf k) t
-        is = subst (λ (r : State). IsTraceIn r (EntryOf k) t) (one_run h.runs a.runs) h.is
+        is : IsTraceIn a.at.run (EntryOf k) t
+        is = subst (λ (r : State). IsTraceIn r (EntryOf k) t) (one_run h.at.runs a.at.runs) h.is
 
-        there : (j : ℕ) → Names t j → IsTraceIn a.run (EntryOf k) t → (m : List (Term Sig))
-            × (slice_get labels (j - 1) ≡ Some m) × IsLabelOf P.problem.setting a.run (EntryOf j) m
+        there : (j : ℕ) → Names t j → IsTraceIn a.at.run (EntryOf k) t → (m : List (Term Sig))
+            × (slice_get labels (j - 1) ≡ Some m) × IsLabelOf P.problem.setting a.at.run (EntryOf j) m
         there j m (e, some, at, same) =
             let b : (1 ≤ j) × (j < k) =
-            names_earlier P.problem (problem_field P problem) a.runs k j e some at
+            names_earlier P.problem (problem_field P problem) a.at.runs k j e some at
             (subst (λ (x : Trace). Names x j) (sym same) m) in
             place j b.0 (omega (arith, b.1, next))
 
     -- and all that a listed item's trace names, where all labels are there
     pub all_named : (listed : Listed) (t : Trace) → HasTrace P.problem n listed t
-        → length labels ≡ length a.run.entries → AreNamedLabels P.problem n listed t labels
+        → length labels ≡ length a.at.run.entries → AreNamedLabels P.problem n listed t labels
     all_named listed t h all =
-        record { run = a.run; last = a.last; runs = a.runs; is = is; named = there }
+        record { at = a.at; is = is; named = there }
       where
-        is : IsTraceIn a.run listed t
-        is = subst (λ (r : State). IsTraceIn r listed t) (one_run h.runs a.runs) h.is
+        is : IsTraceIn a.at.run listed t
+        is = subst (λ (r : State). IsTraceIn r listed t) (one_run h.at.runs a.at.runs) h.is
 
         there : (j : ℕ) → Names t j → (m : List (Term Sig)) × (slice_get labels (j - 1) ≡ Some m)
-            × IsLabelOf P.problem.setting a.run (EntryOf j) m
+            × IsLabelOf P.problem.setting a.at.run (EntryOf j) m
         there j m =
-            let g : IsSigned P.problem a.run listed t =
-            signed P.problem (problem_field P problem) a.runs listed t is in
-            let x : IsAnyNamed P.problem.setting a.run.entries g.signature j =
-            any_named P.problem.setting a.run.entries g.signature t j g.named m in
-            let l : j - 1 < length a.run.entries =
-            slice_get_within a.run.entries (j - 1) x.named.entry x.named.at in
+            let g : IsSigned P.problem a.at.run listed t =
+            signed P.problem (problem_field P problem) a.at.runs listed t is in
+            let x : IsAnyNamed P.problem.setting a.at.run.entries g.signature j =
+            any_named P.problem.setting a.at.run.entries g.signature t j g.named m in
+            let l : j - 1 < length a.at.run.entries =
+            slice_get_within a.at.run.entries (j - 1) x.named.entry x.named.at in
             place j x.named.some (omega (arith, l, x.named.some, all))
 
     -- one label more
@@ -118,19 +120,17 @@ module _ (P : NamedProblem) (problem : IsProblem P) (n : ℕ) where
         → k ≡ length labels + 1 → AreLabels P.problem n (labels ++ m ∷ [])
     push_label k m h next =
         record {
-          run = a.run;
-          last = a.last;
-          runs = a.runs;
+          at = a.at;
           few = few;
           are = pushed labels m
-              (λ i x. IsLabelOf P.problem.setting a.run (EntryOf i) x) k next a.are new;
+              (λ i x. IsLabelOf P.problem.setting a.at.run (EntryOf i) x) k next a.are new;
         }
       where
-        new : IsLabelOf P.problem.setting a.run (EntryOf k) m
+        new : IsLabelOf P.problem.setting a.at.run (EntryOf k) m
         new = subst (λ (r : State). IsLabelOf P.problem.setting r (EntryOf k) m)
-            (one_run h.runs a.runs) h.is
+            (one_run h.at.runs a.at.runs) h.is
 
-        few : length (labels ++ m ∷ []) ≤ length a.run.entries
+        few : length (labels ++ m ∷ []) ≤ length a.at.run.entries
         few = omega (arith, length-append labels (m ∷ []), new.is.1, next)
 
     -- the first one with too many terms
@@ -139,32 +139,30 @@ module _ (P : NamedProblem) (problem : IsProblem P) (n : ℕ) where
         → FailsToLabel P.problem n limit e
     first_fails k limit OutOfMemory few next h = tt
     first_fails k limit (TooMany named terms) few next h = record {
-      run = a.run;
-      last = a.last;
-      runs = a.runs;
+      at = a.at;
       number = k;
       names = h.names;
       some = new.is.0;
       within = new.is.1;
-      has = subst (λ i. EntryTerms P.problem.setting.prime a.run k i) (sym h.count)
-          (label_terms a.run k h.label new);
+      has = subst (λ i. EntryTerms P.problem.setting.prime a.at.run k i) (sym h.count)
+          (label_terms a.at.run k h.label new);
       many = h.many;
       lesser = lesser;
     }
       where
-        new : IsLabelOf P.problem.setting a.run (EntryOf k) h.label
+        new : IsLabelOf P.problem.setting a.at.run (EntryOf k) h.label
         new = subst (λ (r : State). IsLabelOf P.problem.setting r (EntryOf k) h.label)
-            (one_run h.has.runs a.runs) h.has.is
+            (one_run h.has.at.runs a.at.runs) h.has.is
 
-        lesser : (j i : ℕ) → 1 ≤ j → j < k → EntryTerms P.problem.setting.prime a.run j i
+        lesser : (j i : ℕ) → 1 ≤ j → j < k → EntryTerms P.problem.setting.prime a.at.run j i
             → i ≤ limit
         lesser j i some l t =
             let m : List (Term Sig) = get_or labels (j - 1) [] in
             let within : j - 1 < length labels = omega (arith, l, next, some) in
             let same : i ≡ length m =
             terms_once P.problem.setting.prime
-            (label_at (labels_of P.problem.setting.prime a.run.entries) j) i (length m) t
-            (label_terms a.run j m (a.are j m some (slice_get-get_or labels (j - 1) [] within)))
+            (label_at (labels_of P.problem.setting.prime a.at.run.entries) j) i (length m) t
+            (label_terms a.at.run j m (a.are j m some (slice_get-get_or labels (j - 1) [] within)))
             in
             omega (arith, same, few (j - 1) [] within)
 
@@ -173,34 +171,32 @@ module _ (P : NamedProblem) (problem : IsProblem P) (n : ℕ) where
   module _ (labels : List (List (Term Sig))) (a : AreSyzygyLabels P.problem n labels) where
     -- the next one's, in the same run
     next_syzygy : (k : ℕ) (m : List (Term Sig)) → HasLabel P.problem n (SyzygyOf k) m
-        → IsLabelOf P.problem.setting a.run (SyzygyOf k) m
+        → IsLabelOf P.problem.setting a.at.run (SyzygyOf k) m
     next_syzygy k m h =
-        subst (λ (r : State). IsLabelOf P.problem.setting r (SyzygyOf k) m) (one_run h.runs a.runs)
+        subst (λ (r : State). IsLabelOf P.problem.setting r (SyzygyOf k) m) (one_run h.at.runs a.at.runs)
         h.is
 
-    syzygy_within : (k : ℕ) (m : List (Term Sig)) → IsLabelOf P.problem.setting a.run (SyzygyOf k) m
-        → (1 ≤ k) × (k ≤ length a.run.syzygies)
+    syzygy_within : (k : ℕ) (m : List (Term Sig)) → IsLabelOf P.problem.setting a.at.run (SyzygyOf k) m
+        → (1 ≤ k) × (k ≤ length a.at.run.syzygies)
     syzygy_within k m l = within l.is
       where
-        within : IsLabelIn P.problem.setting.prime a.run (SyzygyOf k) l.label → (1 ≤ k)
-            × (k ≤ length a.run.syzygies)
+        within : IsLabelIn P.problem.setting.prime a.at.run (SyzygyOf k) l.label → (1 ≤ k)
+            × (k ≤ length a.at.run.syzygies)
         within (t, (h, some, at, same), e) =
-            (some, omega (arith, some, slice_get_within a.run.syzygies (k - 1) h at))
+            (some, omega (arith, some, slice_get_within a.at.run.syzygies (k - 1) h at))
 
     -- one label more
     pub push_syzygy : (k : ℕ) (m : List (Term Sig)) → HasLabel P.problem n (SyzygyOf k) m
         → k ≡ length labels + 1 → AreSyzygyLabels P.problem n (labels ++ m ∷ [])
     push_syzygy k m h next = record {
-      run = a.run;
-      last = a.last;
-      runs = a.runs;
+      at = a.at;
       few = omega (
         arith,
         length-append labels (m ∷ []),
         (syzygy_within k m (next_syzygy k m h)).1,
         next,
       );
-      are = pushed labels m (λ i x. IsLabelOf P.problem.setting a.run (SyzygyOf i) x) k next a.are
+      are = pushed labels m (λ i x. IsLabelOf P.problem.setting a.at.run (SyzygyOf i) x) k next a.are
           (next_syzygy k m h);
     }
 
@@ -210,9 +206,7 @@ module _ (P : NamedProblem) (problem : IsProblem P) (n : ℕ) where
         → FailsToLabelSyzygies P.problem n limit e
     first_syzygy_fails k limit OutOfMemory few next h = tt
     first_syzygy_fails k limit (TooMany named terms) few next h = record {
-      run = a.run;
-      last = a.last;
-      runs = a.runs;
+      at = a.at;
       number = k;
       names = h.names;
       some = (syzygy_within k h.label new).0;
@@ -221,24 +215,24 @@ module _ (P : NamedProblem) (problem : IsProblem P) (n : ℕ) where
         new.label,
         new.is,
         subst (λ i. HasTerms P.problem.setting.prime new.label i)
-            (sym h.count) (label_count P.problem.setting a.run (SyzygyOf k) h.label new new.label
+            (sym h.count) (label_count P.problem.setting a.at.run (SyzygyOf k) h.label new new.label
             new.is),
       );
       many = h.many;
       lesser = lesser;
     }
       where
-        new : IsLabelOf P.problem.setting a.run (SyzygyOf k) h.label
+        new : IsLabelOf P.problem.setting a.at.run (SyzygyOf k) h.label
         new = next_syzygy k h.label h.has
 
         lesser : (j i : ℕ) (α : Element) → 1 ≤ j → j < k
-            → IsLabelIn P.problem.setting.prime a.run (SyzygyOf j) α
+            → IsLabelIn P.problem.setting.prime a.at.run (SyzygyOf j) α
             → HasTerms P.problem.setting.prime α i → i ≤ limit
         lesser j i α some l is terms =
             let m : List (Term Sig) = get_or labels (j - 1) [] in
             let within : j - 1 < length labels = omega (arith, l, next, some) in
             let same : i ≡ length m =
             terms_once P.problem.setting.prime α i (length m) terms
-            (label_count P.problem.setting a.run (SyzygyOf j) m
+            (label_count P.problem.setting a.at.run (SyzygyOf j) m
             (a.are j m some (slice_get-get_or labels (j - 1) [] within)) α is) in
             omega (arith, same, few (j - 1) [] within)

@@ -6,23 +6,22 @@
 -- definitions speak of any multiples that were subtracted within a bound, whatever was reduced.
 --
 -- The limit on terms holds for the label of each entry that is needed, and for the sum itself.
-use Rattle.nc_algebra.specs.Monomials.{Monomial, Sig}
+use Rattle.nc_algebra.specs.Monomials.{Sig}
 use Rattle.nc_algebra.specs.Polynomials.{Polynomial}
 use Rattle.nc_algebra.specs.Problems.{IsWithin, Problem}
 use Rattle.nc_algebra.specs.Sums.{Term}
 use Rattle.nc_cofactor.specs.Sums.{IsSum}
 use Rattle.nc_cofactor.specs.Terms.{EntryTerms, HasTerms, Names}
-use Rattle.nc_cofactor.specs.Traces.{IsTraceIn}
+use Rattle.nc_cofactor.specs.Traces.{IsTraceIn, RunAt}
 use Rattle.nc_cofactor.specs.declared.fault.CofactorFault.{CofactorFault}
 use Rattle.nc_cofactor.specs.declared.fault.CofactorFault.TheVariants.{OutOfMemory, TooMany}
 use Rattle.nc_snapshot.specs.declared.outcome.Listed.{Listed}
 use Rattle.nc_snapshot.specs.declared.outcome.Listed.TheVariants.{Claim, Entry as EntryOf, Syzygy as SyzygyOf}
 use Rattle.nc_theory.specs.Labels.{labels_of, step_multiples}
 use Rattle.nc_theory.specs.Reductions.{Reduction}
-use Rattle.nc_theory.specs.Runs.{SequentialRun}
 use Rattle.nc_theory.specs.States.{Entry, State, Step, Trace}
 use Rattle.std.specs.List.Sorted.{IsStrictlyIncreasing}
-use Rattle.std.specs.Prelude.{All, Contains, List, Option, Some, map, slice_get, ℕ, ◌-◌, ◌<◌, ◌↔◌, ◌≡◌, ◌≤◌}
+use Rattle.std.specs.Prelude.{All, Contains, List, Some, map, slice_get, ℕ, ◌-◌, ◌<◌, ◌↔◌, ◌≡◌, ◌≤◌}
 
 -- ---- the entries that are needed
 
@@ -39,19 +38,15 @@ pub record ListsNeeded (entries : List Entry) (numbers needed : List ℕ) : Type
 
 -- the entries of the run after n steps that these need, and they themselves
 pub record AreNeededFor (P : Problem) (n : ℕ) (numbers needed : List ℕ) : Type 0 where
-  pub run : State
-  pub last : Option Monomial
-  pub runs : SequentialRun P n run last
-  pub lists : ListsNeeded run.entries numbers needed
+  pub at : RunAt P n
+  pub lists : ListsNeeded at.run.entries numbers needed
 
 -- and beside each one its trace
 pub record AreNeededTraces (P : Problem) (n : ℕ) (numbers : List ℕ)
     (needed : List (ℕ × Trace)) : Type 0 where
-  pub run : State
-  pub last : Option Monomial
-  pub runs : SequentialRun P n run last
-  pub lists : ListsNeeded run.entries numbers (map (λ x. x.0) needed)
-  pub traces : All (λ x. IsTraceIn run (EntryOf x.0) x.1) needed
+  pub at : RunAt P n
+  pub lists : ListsNeeded at.run.entries numbers (map (λ x. x.0) needed)
+  pub traces : All (λ x. IsTraceIn at.run (EntryOf x.0) x.1) needed
 
 -- the entries that the steps name
 abbrev pub numbers_of : List Step → List ℕ
@@ -74,11 +69,9 @@ pub record AreWithinLimit (p : ℕ) (run : State) (steps : List Step) (limit : �
 -- than the limit
 pub record IsRepresentation (P : Problem) (n : ℕ) (steps : List Step) (limit : ℕ)
     (m : List (Term Sig)) : Type 0 where
-  pub run : State
-  pub last : Option Monomial
-  pub runs : SequentialRun P n run last
-  pub is : IsSum P.setting (step_multiples (labels_of P.setting.prime run.entries) steps) m
-  pub within : AreWithinLimit P.setting.prime run steps limit
+  pub at : RunAt P n
+  pub is : IsSum P.setting (step_multiples (labels_of P.setting.prime at.run.entries) steps) m
+  pub within : AreWithinLimit P.setting.prime at.run steps limit
 
 -- the item named has more: the least needed entry whose label has, or where there is none the
 -- claim, whose representation has
@@ -95,10 +88,8 @@ IsTooManyFor p run steps limit Claim n =
 -- so in the run after n steps
 pub record IsTooManyForAt (P : Problem) (n : ℕ) (steps : List Step) (limit : ℕ) (named : Listed)
     (terms : ℕ) : Type 0 where
-  pub run : State
-  pub last : Option Monomial
-  pub runs : SequentialRun P n run last
-  pub many : IsTooManyFor P.setting.prime run steps limit named terms
+  pub at : RunAt P n
+  pub many : IsTooManyFor P.setting.prime at.run steps limit named terms
 
 -- why no representation was given; want of memory says nothing
 abbrev pub FailsToRepresent : Problem → ℕ → List Step → ℕ → CofactorFault → Type 0

@@ -3,40 +3,35 @@
 -- To expand is to compute the label that a trace stands for from the labels of the entries that the
 -- trace names. Either one item is expanded with all that it needs, or all items one after the
 -- other. In each case `OutOfMemory` may come whatever the item is.
-use Rattle.nc_algebra.specs.Monomials.{Monomial, Sig}
+use Rattle.nc_algebra.specs.Monomials.{Sig}
 use Rattle.nc_algebra.specs.Problems.{Problem}
 use Rattle.nc_algebra.specs.Sums.{Term}
 use Rattle.nc_cofactor.specs.Labels.{HasLabel, IsLabelOf}
 use Rattle.nc_cofactor.specs.Terms.{IsFirstTooMany, IsFirstTooManySyzygy, IsTooManyAt, IsWithinLimit, Names}
-use Rattle.nc_cofactor.specs.Traces.{IsTraceIn}
+use Rattle.nc_cofactor.specs.Traces.{IsTraceIn, RunAt}
 use Rattle.nc_cofactor.specs.declared.fault.CofactorFault.{CofactorFault}
 use Rattle.nc_cofactor.specs.declared.fault.CofactorFault.TheVariants.{OutOfMemory, TooMany}
 use Rattle.nc_snapshot.specs.declared.outcome.Listed.{Listed}
 use Rattle.nc_snapshot.specs.declared.outcome.Listed.TheVariants.{Entry as EntryOf}
-use Rattle.nc_theory.specs.Runs.{SequentialRun}
-use Rattle.nc_theory.specs.States.{State, Trace}
-use Rattle.std.specs.Prelude.{List, Option, Some, length, slice_get, ℕ, ◌-◌, ◌<◌, ◌≡◌}
+use Rattle.nc_theory.specs.States.{Trace}
+use Rattle.std.specs.Prelude.{List, Some, length, slice_get, ℕ, ◌-◌, ◌<◌, ◌≡◌}
 
 -- the trace is the item's, and the label of each entry that it names stands in the place with its
 -- number
 pub record AreNamedLabels (P : Problem) (n : ℕ) (listed : Listed) (t : Trace)
     (labels : List (List (Term Sig))) : Type 0 where
-  pub run : State
-  pub last : Option Monomial
-  pub runs : SequentialRun P n run last
-  pub is : IsTraceIn run listed t
+  pub at : RunAt P n
+  pub is : IsTraceIn at.run listed t
   pub named : (j : ℕ) → Names t j → (m : List (Term Sig)) × (slice_get labels (j - 1) ≡ Some m)
-      × IsLabelOf P.setting run (EntryOf j) m
+      × IsLabelOf P.setting at.run (EntryOf j) m
 
 -- the label of the item of the run after n steps, where no label that counts for it has more terms
 -- than the limit
 pub record IsExpanded (P : Problem) (n : ℕ) (listed : Listed) (limit : ℕ)
     (m : List (Term Sig)) : Type 0 where
-  pub run : State
-  pub last : Option Monomial
-  pub runs : SequentialRun P n run last
-  pub is : IsLabelOf P.setting run listed m
-  pub within : IsWithinLimit P.setting.prime run listed limit
+  pub at : RunAt P n
+  pub is : IsLabelOf P.setting at.run listed m
+  pub within : IsWithinLimit P.setting.prime at.run listed limit
 
 -- why an expansion gave no label; want of memory says nothing
 abbrev pub FailsToExpand : Problem → ℕ → Listed → ℕ → CofactorFault → Type 0

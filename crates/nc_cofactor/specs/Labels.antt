@@ -5,18 +5,17 @@
 -- has one label in normal form, by the law `OneLabel`. Lists of labels follow the numbers of their
 -- items: the first one belongs to number 1.
 use Rattle.nc_algebra.specs.Elements.{Element, HasDegree, Setting}
-use Rattle.nc_algebra.specs.Monomials.{Monomial, Sig, compare_sigs, same_monomial}
+use Rattle.nc_algebra.specs.Monomials.{Sig, compare_sigs, same_monomial}
 use Rattle.nc_algebra.specs.Problems.{Problem}
 use Rattle.nc_algebra.specs.Sums.{SameSum, Term}
-use Rattle.nc_cofactor.specs.Traces.{IsTraceIn}
+use Rattle.nc_cofactor.specs.Traces.{IsTraceIn, RunAt}
 use Rattle.nc_module.specs.Modules.{element_of}
 use Rattle.nc_poly.specs.Ordered.{AreResiduesBy, Descends}
 use Rattle.nc_snapshot.specs.declared.outcome.Listed.{Listed}
 use Rattle.nc_snapshot.specs.declared.outcome.Listed.TheVariants.{Claim, Entry as EntryOf, Syzygy as SyzygyOf}
 use Rattle.nc_theory.specs.Labels.{label_at, labels_of, trace_label}
-use Rattle.nc_theory.specs.Runs.{SequentialRun}
 use Rattle.nc_theory.specs.States.{State, Trace}
-use Rattle.std.specs.Prelude.{All, List, Option, Some, length, slice_get, ℕ, ◌-◌, ◌≡◌, ◌≤◌}
+use Rattle.std.specs.Prelude.{All, List, Some, length, slice_get, ℕ, ◌-◌, ◌≡◌, ◌≤◌}
 
 -- the label of the item in the run
 abbrev pub IsLabelIn : ℕ → State → Listed → Element → Type 0
@@ -38,25 +37,19 @@ pub record IsLabelOf (s : Setting) (run : State) (listed : Listed) (m : List (Te
 
 -- the same in the sequential run of n steps
 pub record HasLabel (P : Problem) (n : ℕ) (listed : Listed) (m : List (Term Sig)) : Type 0 where
-  pub run : State
-  pub last : Option Monomial
-  pub runs : SequentialRun P n run last
-  pub is : IsLabelOf P.setting run listed m
+  pub at : RunAt P n
+  pub is : IsLabelOf P.setting at.run listed m
 
 -- the labels of the first entries of the run after n steps, in order
 pub record AreLabels (P : Problem) (n : ℕ) (labels : List (List (Term Sig))) : Type 0 where
-  pub run : State
-  pub last : Option Monomial
-  pub runs : SequentialRun P n run last
-  pub few : length labels ≤ length run.entries
+  pub at : RunAt P n
+  pub few : length labels ≤ length at.run.entries
   pub are : (k : ℕ) (m : List (Term Sig)) → 1 ≤ k → slice_get labels (k - 1) ≡ Some m
-      → IsLabelOf P.setting run (EntryOf k) m
+      → IsLabelOf P.setting at.run (EntryOf k) m
 
 -- the labels of the first syzygies of the run after n steps, in order
 pub record AreSyzygyLabels (P : Problem) (n : ℕ) (labels : List (List (Term Sig))) : Type 0 where
-  pub run : State
-  pub last : Option Monomial
-  pub runs : SequentialRun P n run last
-  pub few : length labels ≤ length run.syzygies
+  pub at : RunAt P n
+  pub few : length labels ≤ length at.run.syzygies
   pub are : (k : ℕ) (m : List (Term Sig)) → 1 ≤ k → slice_get labels (k - 1) ≡ Some m
-      → IsLabelOf P.setting run (SyzygyOf k) m
+      → IsLabelOf P.setting at.run (SyzygyOf k) m

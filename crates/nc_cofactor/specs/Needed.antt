@@ -7,17 +7,16 @@
 --
 -- `IsReached` is the same notion as `IsNeededFor` in `Claims.antt`, with marks in the place of a
 -- list of numbers.
-use Rattle.nc_algebra.specs.Monomials.{Monomial, Sig}
+use Rattle.nc_algebra.specs.Monomials.{Sig}
 use Rattle.nc_algebra.specs.Problems.{Problem}
 use Rattle.nc_algebra.specs.Sums.{Term}
 use Rattle.nc_cofactor.specs.Labels.{HasLabel, IsLabelOf}
 use Rattle.nc_cofactor.specs.Terms.{EntryTerms, Names}
-use Rattle.nc_cofactor.specs.Traces.{HasTrace, IsTraceIn}
+use Rattle.nc_cofactor.specs.Traces.{HasTrace, IsTraceIn, RunAt}
 use Rattle.nc_cofactor.specs.declared.fault.CofactorFault.{CofactorFault}
 use Rattle.nc_cofactor.specs.declared.fault.CofactorFault.TheVariants.{OutOfMemory, TooMany}
 use Rattle.nc_snapshot.specs.declared.outcome.Listed.{Listed}
 use Rattle.nc_snapshot.specs.declared.outcome.Listed.TheVariants.{Entry as EntryOf}
-use Rattle.nc_theory.specs.Runs.{SequentialRun}
 use Rattle.nc_theory.specs.States.{Entry, State, Step, Trace}
 use Rattle.std.specs.List.Sorted.{IsStrictlyIncreasing}
 use Rattle.std.specs.Prelude.{Bool, Contains, List, None, Option, Some, length, map, slice_get, true, ℕ, ◌-◌, ◌<◌, ◌↔◌, ◌≡◌, ◌≤◌, ◌⊎◌}
@@ -59,13 +58,11 @@ IsFound run marks k (Some t) = IsTraceIn run (EntryOf k) t × IsReached run.entr
 -- of each entry that is reached the trace is there, that of entry 1 last
 pub record AreFound (P : Problem) (n : ℕ) (marks : List Bool) (stack : List (Option Trace)) : Type 0
   where
-    pub run : State
-    pub last : Option Monomial
-    pub runs : SequentialRun P n run last
-    pub size : length marks ≡ length run.entries
-    pub height : length stack ≡ length run.entries
-    pub slots : (k : ℕ) (o : Option Trace) → 1 ≤ k → k ≤ length run.entries
-        → slice_get stack (length run.entries - k) ≡ Some o → IsFound run marks k o
+    pub at : RunAt P n
+    pub size : length marks ≡ length at.run.entries
+    pub height : length stack ≡ length at.run.entries
+    pub slots : (k : ℕ) (o : Option Trace) → 1 ≤ k → k ≤ length at.run.entries
+        → slice_get stack (length at.run.entries - k) ≡ Some o → IsFound at.run marks k o
 
 -- the traces that are there, each beside its number, from the last one of the stack to the first
 pub record AreNumbered (stack : List (Option Trace)) (numbered : List (ℕ × Trace)) : Type 0 where
@@ -93,27 +90,23 @@ pub record IsFilledAt (P : Problem) (run : State) (labels : List (List (Term Sig
 -- the labels of the entries that are reached stand in their places
 pub record AreFilled (P : Problem) (n : ℕ) (marks : List Bool) (limit : ℕ)
     (labels : List (List (Term Sig))) : Type 0 where
-  pub run : State
-  pub last : Option Monomial
-  pub runs : SequentialRun P n run last
-  pub size : length marks ≡ length run.entries
-  pub places : (k : ℕ) → IsReached run.entries marks k → IsFilledAt P run labels limit k
+  pub at : RunAt P n
+  pub size : length marks ≡ length at.run.entries
+  pub places : (k : ℕ) → IsReached at.run.entries marks k → IsFilledAt P at.run labels limit k
 
 -- the label of the entry named has so many terms: of those that are reached the least one whose
 -- label has more than the limit
 pub record IsFirstMany (P : Problem) (n : ℕ) (marks : List Bool) (limit : ℕ) (named : Listed)
     (terms : ℕ) : Type 0 where
-  pub run : State
-  pub last : Option Monomial
-  pub runs : SequentialRun P n run last
-  pub size : length marks ≡ length run.entries
+  pub at : RunAt P n
+  pub size : length marks ≡ length at.run.entries
   pub number : ℕ
   pub names : named ≡ EntryOf number
-  pub reached : IsReached run.entries marks number
-  pub has : EntryTerms P.setting.prime run number terms
+  pub reached : IsReached at.run.entries marks number
+  pub has : EntryTerms P.setting.prime at.run number terms
   pub many : limit < terms
-  pub lesser : (j m : ℕ) → IsReached run.entries marks j → j < number
-      → EntryTerms P.setting.prime run j m → m ≤ limit
+  pub lesser : (j m : ℕ) → IsReached at.run.entries marks j → j < number
+      → EntryTerms P.setting.prime at.run j m → m ≤ limit
 
 -- why not all of them were given labels; want of memory says nothing
 abbrev pub FailsToFill : Problem → ℕ → List Bool → ℕ → CofactorFault → Type 0

@@ -14,13 +14,12 @@ use Rattle.nc_algebra.specs.Primes.{IsZero}
 use Rattle.nc_algebra.specs.Problems.{Problem}
 use Rattle.nc_algebra.specs.Sums.{coefficient_by}
 use Rattle.nc_cofactor.specs.Labels.{IsLabelIn}
-use Rattle.nc_cofactor.specs.Traces.{IsTraceIn}
+use Rattle.nc_cofactor.specs.Traces.{IsTraceIn, RunAt}
 use Rattle.nc_snapshot.specs.declared.outcome.Listed.{Listed}
 use Rattle.nc_snapshot.specs.declared.outcome.Listed.TheVariants.{Claim, Entry as EntryOf, Syzygy as SyzygyOf}
 use Rattle.nc_theory.specs.Labels.{label_at, labels_of}
-use Rattle.nc_theory.specs.Runs.{SequentialRun}
 use Rattle.nc_theory.specs.States.{Entry, Start, State, Step, Trace}
-use Rattle.std.specs.Prelude.{Contains, List, Option, Some, length, slice_get, ℕ, ◌-◌, ◌<◌, ◌↔◌, ◌≡◌, ◌≤◌, ◌⊎◌}
+use Rattle.std.specs.Prelude.{Contains, List, Some, length, slice_get, ℕ, ◌-◌, ◌<◌, ◌↔◌, ◌≡◌, ◌≤◌, ◌⊎◌}
 
 -- so many monomials of α have a coefficient other than 0
 pub record HasTerms (p : ℕ) (α : Element) (n : ℕ) : Type 0 where
@@ -77,40 +76,34 @@ IsTooMany p run listed limit Claim n = ⊥
 -- terms
 pub record IsTooManyAt (P : Problem) (n : ℕ) (listed : Listed) (limit : ℕ) (named : Listed)
     (terms : ℕ) : Type 0 where
-  pub run : State
-  pub last : Option Monomial
-  pub runs : SequentialRun P n run last
-  pub many : IsTooMany P.setting.prime run listed limit named terms
+  pub at : RunAt P n
+  pub many : IsTooMany P.setting.prime at.run listed limit named terms
 
 -- entry number k is the least one whose label has more terms, and has so many
 pub record IsFirstTooMany (P : Problem) (n : ℕ) (limit : ℕ) (named : Listed) (terms : ℕ) : Type 0
   where
-    pub run : State
-    pub last : Option Monomial
-    pub runs : SequentialRun P n run last
+    pub at : RunAt P n
     pub number : ℕ
     pub names : named ≡ EntryOf number
     pub some : 1 ≤ number
-    pub within : number ≤ length run.entries
-    pub has : EntryTerms P.setting.prime run number terms
+    pub within : number ≤ length at.run.entries
+    pub has : EntryTerms P.setting.prime at.run number terms
     pub many : limit < terms
-    pub lesser : (j m : ℕ) → 1 ≤ j → j < number → EntryTerms P.setting.prime run j m → m ≤ limit
+    pub lesser : (j m : ℕ) → 1 ≤ j → j < number → EntryTerms P.setting.prime at.run j m → m ≤ limit
 
 -- syzygy number k is the least one whose label has more terms, and has so many
 pub record IsFirstTooManySyzygy (P : Problem) (n : ℕ) (limit : ℕ) (named : Listed)
     (terms : ℕ) : Type 0 where
-  pub run : State
-  pub last : Option Monomial
-  pub runs : SequentialRun P n run last
+  pub at : RunAt P n
   pub number : ℕ
   pub names : named ≡ SyzygyOf number
   pub some : 1 ≤ number
-  pub within : number ≤ length run.syzygies
-  pub has : (α : Element) × IsLabelIn P.setting.prime run (SyzygyOf number) α
+  pub within : number ≤ length at.run.syzygies
+  pub has : (α : Element) × IsLabelIn P.setting.prime at.run (SyzygyOf number) α
       × HasTerms P.setting.prime α terms
   pub many : limit < terms
   pub lesser : (j m : ℕ) (α : Element) → 1 ≤ j → j < number
-      → IsLabelIn P.setting.prime run (SyzygyOf j) α → HasTerms P.setting.prime α m → m ≤ limit
+      → IsLabelIn P.setting.prime at.run (SyzygyOf j) α → HasTerms P.setting.prime α m → m ≤ limit
 
 -- ---- all labels of a run
 

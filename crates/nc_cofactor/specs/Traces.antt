@@ -18,6 +18,12 @@ IsListed state (EntryOf k) = (1 ≤ k) × (k ≤ length state.entries)
 IsListed state (SyzygyOf k) = (1 ≤ k) × (k ≤ length state.syzygies)
 IsListed state Claim = ⊥
 
+-- the sequential run of n steps
+pub record RunAt (P : Problem) (n : ℕ) : Type 0 where
+  pub run : State
+  pub last : Option Monomial
+  pub runs : SequentialRun P n run last
+
 -- the trace of the item in a state of the run
 abbrev pub IsTraceIn : State → Listed → Trace → Type 0
 IsTraceIn run (EntryOf k) t =
@@ -28,10 +34,8 @@ IsTraceIn run Claim t = ⊥
 
 -- the trace that the sequential run of n steps gave the item
 pub record HasTrace (P : Problem) (n : ℕ) (listed : Listed) (t : Trace) : Type 0 where
-  pub run : State
-  pub last : Option Monomial
-  pub runs : SequentialRun P n run last
-  pub is : IsTraceIn run listed t
+  pub at : RunAt P n
+  pub is : IsTraceIn at.run listed t
 
 -- τ is the signature of an entry or of a syzygy
 abbrev pub IsListedSignature : State → Monomial → Type 0

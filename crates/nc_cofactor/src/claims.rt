@@ -54,6 +54,7 @@ pub fn needed_traces(
 
 /// The entries that these need and these themselves, ascending and each once. An entry needs those that its trace names, and
 /// what these need.
+#[tactic(auto, using(crate::proofs::Numbered::needed_alone))]
 pub fn needed(
     alloc: Global,
     snapshot: &Snapshot,

@@ -10,6 +10,7 @@ use Rattle.nc_algebra.specs.Problems.{IsProblem, IsWithin, NamedProblem, Problem
 use Rattle.nc_algebra.specs.Sums.{SameSum, Term}
 use Rattle.nc_algebra.specs.Words.{Word}
 use Rattle.nc_cofactor.proofs.Labelled.{problem_field}
+use Rattle.nc_cofactor.proofs.Runs.{run_at}
 use Rattle.nc_cofactor.specs.Claims.{IsRepresentation}
 use Rattle.nc_member.specs.Members.{IsOpen, IsRepresented, IsRestOf, IsUnrepresented}
 use Rattle.nc_module.specs.Modules.{element_of}
@@ -36,9 +37,7 @@ pub rest_at : (P : Problem) (n : ℕ) (state : State) → IsRunOf P n state
     → Reduction P.setting state.entries (IsWithin P) f rest steps → IsRestOf P n f rest steps
 rest_at P n state is f rest steps r =
     record {
-      run = is.run;
-      last = is.last;
-      runs = is.runs;
+      at = run_at is;
       reduces = moved_reduction P.setting state.entries is.run.entries
           (same_entries state is.run (same_run state is.run is.stands)) (IsWithin P) r;
     }
@@ -75,20 +74,20 @@ module _ (P : NamedProblem) (is : IsProblem P) (n : ℕ) (f : Polynomial) (steps
         };
       }
     where
-      same : rest.run ≡ r.run
-      same = (run_unique P.problem field rest.runs r.runs).0
+      same : rest.at.run ≡ r.at.run
+      same = (run_unique P.problem field rest.at.runs r.at.runs).0
 
       whole : Element
-      whole = step_multiples (labels_of P.problem.setting.prime r.run.entries) steps
+      whole = step_multiples (labels_of P.problem.setting.prime r.at.run.entries) steps
 
       law : IsIn P.problem.setting whole (IsWithin P.problem)
           × ((y : Word) → coefficient f y % P.problem.setting.prime
           ≡ (coefficient (evaluation P.problem.setting whole) y + coefficient [] y)
           % P.problem.setting.prime)
-      law = represents P.problem.setting field r.run (invariant P.problem field r.runs).sound
+      law = represents P.problem.setting field r.at.run (invariant P.problem field r.at.runs).sound
           (IsWithin P.problem) (within_down P.problem)
-          (labels_of P.problem.setting.prime r.run.entries)
-          (labels_hold P.problem field r.runs).entries
+          (labels_of P.problem.setting.prime r.at.run.entries)
+          (labels_hold P.problem field r.at.runs).entries
           (subst (λ (x : State). Reduction P.problem.setting x.entries (IsWithin P.problem) f []
           steps) same rest.reduces)
 
@@ -107,7 +106,7 @@ module _ (P : NamedProblem) (is : IsProblem P) (n : ℕ) (state : State) (f kept
       → HasRepresentation P.problem.setting (IsWithin P.problem) f → ⊥
   nothing_left (IsEnd.is_complete low runs none) has =
       let field : IsField P.problem.setting.prime = problem_field P is in
-      let same = (run_unique P.problem field rest.runs runs).0 in
+      let same = (run_unique P.problem field rest.at.runs runs).0 in
       some (none_kept P.problem.setting field _ (invariant P.problem field runs).sound
       (IsWithin P.problem) (within_down P.problem) (enough_at_end P.problem field runs none).0
       (subst (λ (x : State). Reduction P.problem.setting x.entries (IsWithin P.problem) f kept

@@ -7,6 +7,7 @@ use Rattle.nc_algebra.specs.Polynomials.{Polynomial}
 use Rattle.nc_algebra.specs.Problems.{IsProblem, NamedProblem, Problem}
 use Rattle.nc_cofactor.proofs.Labelled.{problem_field}
 use Rattle.nc_cofactor.proofs.Named.{IsSigned, signed}
+use Rattle.nc_cofactor.proofs.Runs.{run_at}
 use Rattle.nc_cofactor.specs.Claims.{AreNeededTraces, AreSubtracted, IsNeededFor, numbers_of}
 use Rattle.nc_cofactor.specs.Traces.{IsTraceIn}
 use Rattle.nc_member.proofs.Places.{Ascends, ascends}
@@ -58,28 +59,28 @@ module _ (P : NamedProblem) (is : IsProblem P) (n : ℕ) (few : n ≤ P.problem.
     (numbers : List ℕ) (needed : List (ℕ × Trace)) (h : AreNeededTraces P.problem n numbers needed)
   where
     within : (list : List (ℕ × Trace))
-        → AllByRecursion (λ x. IsTraceIn h.run (EntryOf x.0) x.1) list
-        → AllByRecursion (λ j. (0 < j) × (j ≤ length h.run.entries)) (entries_of list)
+        → AllByRecursion (λ x. IsTraceIn h.at.run (EntryOf x.0) x.1) list
+        → AllByRecursion (λ j. (0 < j) × (j ≤ length h.at.run.entries)) (entries_of list)
     within [] a = tt
     within (x ∷ list) a = (go a.0, within list a.1)
       where
-        go : IsTraceIn h.run (EntryOf x.0) x.1 → (0 < x.0) × (x.0 ≤ length h.run.entries)
+        go : IsTraceIn h.at.run (EntryOf x.0) x.1 → (0 < x.0) × (x.0 ≤ length h.at.run.entries)
         go (e, some, at, i) = (
           omega (arith, some),
           omega (
             arith,
-            slice_get_within h.run.entries (x.0 - 1) e at,
+            slice_get_within h.at.run.entries (x.0 - 1) e at,
             some,
           ),
         )
 
     residues : (list : List (ℕ × Trace))
-        → AllByRecursion (λ x. IsTraceIn h.run (EntryOf x.0) x.1) list
+        → AllByRecursion (λ x. IsTraceIn h.at.run (EntryOf x.0) x.1) list
         → AllByRecursion (λ x. HasResidues P.problem.setting.prime x.1) list
     residues [] a = tt
     residues (x ∷ list) a =
-        let g : IsSigned P.problem h.run (EntryOf x.0) x.1 =
-        signed P.problem (problem_field P is) h.runs (EntryOf x.0) x.1 a.0 in (
+        let g : IsSigned P.problem h.at.run (EntryOf x.0) x.1 =
+        signed P.problem (problem_field P is) h.at.runs (EntryOf x.0) x.1 a.0 in (
           All-from_recursion (λ step. step.coefficient < P.problem.setting.prime) x.1.steps
               g.named.residues,
           residues list a.1,
@@ -87,8 +88,8 @@ module _ (P : NamedProblem) (is : IsProblem P) (n : ℕ) (few : n ≤ P.problem.
 
     pub usable : AreUsable P.problem n numbers needed
     usable =
-        let listed : AllByRecursion (λ x. IsTraceIn h.run (EntryOf x.0) x.1) needed =
-        recursion_from_All (λ x. IsTraceIn h.run (EntryOf x.0) x.1) needed h.traces in
+        let listed : AllByRecursion (λ x. IsTraceIn h.at.run (EntryOf x.0) x.1) needed =
+        recursion_from_All (λ x. IsTraceIn h.at.run (EntryOf x.0) x.1) needed h.traces in
         record {
           traces = h;
           residues =
@@ -97,10 +98,10 @@ module _ (P : NamedProblem) (is : IsProblem P) (n : ℕ) (few : n ≤ P.problem.
           ascending = h.lists.ascending;
           few = omega (
             arith,
-            few_numbers 0 (length h.run.entries) (entries_of needed)
+            few_numbers 0 (length h.at.run.entries) (entries_of needed)
                 (ascends (entries_of needed) h.lists.ascending) (within needed listed),
             length-map needed (λ (x : ℕ × Trace). x.0),
-            counts P.problem h.runs,
+            counts P.problem h.at.runs,
             few,
             is.few,
           );
@@ -118,9 +119,7 @@ no_lines P n state r steps none lines empty =
     subst (λ (l : List Step). AreProofLines P n l lines) (sym none) (record {
       needed = [];
       traces = record {
-        run = r.run;
-        last = r.last;
-        runs = r.runs;
+        at = run_at r;
         lists = record {
           ascending = λ k h. absurd (omega (arith, h));
           exact = λ j. (

@@ -73,15 +73,16 @@ module _ (P : NamedProblem) (is : IsProblem P) (prime : IsPrime P.problem.settin
       → AreNeededTraces P.problem n (numbers_of steps) traces
       → AreLines (setting_of P) [] (proof_lines P.problem.setting.prime traces steps)
       × IsValid P.problem.setting f (proof_lines P.problem.setting.prime traces steps)
-  keeps [] rest needs = (tt, zero_claim rest.run rest.reduces)
+  keeps [] rest needs = (tt, zero_claim rest.at.run rest.reduces)
   keeps (step ∷ steps) rest needs =
-      let same : rest.run ≡ needs.run = (run_unique P.problem field rest.runs needs.runs).0 in
-      let reduces : Reduction P.problem.setting needs.run.entries (IsWithin P.problem) f []
+      let same : rest.at.run ≡ needs.at.run =
+      (run_unique P.problem field rest.at.runs needs.at.runs).0 in
+      let reduces : Reduction P.problem.setting needs.at.run.entries (IsWithin P.problem) f []
       (step ∷ steps) =
       subst (λ (r : State). Reduction P.problem.setting r.entries (IsWithin P.problem) f []
       (step ∷ steps)) same rest.reduces in
       let done =
-      lines_prove P is prime needs.runs (numbers_of (step ∷ steps)) (map (λ x. x.0) traces)
+      lines_prove P is prime needs.at.runs (numbers_of (step ∷ steps)) (map (λ x. x.0) traces)
       needs.lists f (step ∷ steps) reduces refl in_it traces refl needs.traces in
       (done.keeps, done.value)
 
@@ -97,5 +98,5 @@ module _ (P : NamedProblem) (is : IsProblem P) (prime : IsPrime P.problem.settin
     are = e;
     keeps = subst (AreLines (setting_of P) []) (sym e) (keeps steps rest needs).0;
     valid = subst (IsValid P.problem.setting f) (sym e) (keeps steps rest needs).1;
-    has = zero_represented P.problem field rest.runs rest.reduces;
+    has = zero_represented P.problem field rest.at.runs rest.reduces;
   }

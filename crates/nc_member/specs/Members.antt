@@ -15,6 +15,7 @@ use Rattle.nc_algebra.specs.Polynomials.{Polynomial}
 use Rattle.nc_algebra.specs.Problems.{IsWithin, NamedProblem, Problem, setting_of}
 use Rattle.nc_algebra.specs.Sums.{Term}
 use Rattle.nc_cofactor.specs.Claims.{AreNeededTraces, IsRepresentation, IsTooManyForAt, numbers_of}
+use Rattle.nc_cofactor.specs.Traces.{RunAt}
 use Rattle.nc_cofactor.specs.declared.fault.CofactorFault.{CofactorFault}
 use Rattle.nc_cofactor.specs.declared.fault.CofactorFault.TheVariants.{OutOfMemory, TooMany}
 use Rattle.nc_desk.specs.Ends.{Finished}
@@ -25,18 +26,16 @@ use Rattle.nc_module.specs.Modules.{element_of}
 use Rattle.nc_snapshot.specs.declared.outcome.Listed.{Listed}
 use Rattle.nc_theory.specs.Bases.{HasRepresentation}
 use Rattle.nc_theory.specs.Reductions.{Reduction}
-use Rattle.nc_theory.specs.Runs.{End, SequentialRun}
-use Rattle.nc_theory.specs.States.{State, Step, Trace}
-use Rattle.std.specs.Prelude.{List, Option, [], ℕ, ◌≡◌, ◌≢◌}
+use Rattle.nc_theory.specs.Runs.{End}
+use Rattle.nc_theory.specs.States.{Step, Trace}
+use Rattle.std.specs.Prelude.{List, [], ℕ, ◌≡◌, ◌≢◌}
 
 -- the claim was reduced within the bound by the entries of the run after n steps: what is left, and
 -- what was subtracted
 pub record IsRestOf (P : Problem) (n : ℕ) (claim rest : Polynomial) (steps : List Step) : Type 0
   where
-    pub run : State
-    pub last : Option Monomial
-    pub runs : SequentialRun P n run last
-    pub reduces : Reduction P.setting run.entries (IsWithin P) claim rest steps
+    pub at : RunAt P n
+    pub reduces : Reduction P.setting at.run.entries (IsWithin P) claim rest steps
 
 -- nothing is left, and this is a representation of the claim within the bound: the sum of the
 -- labels of what was subtracted

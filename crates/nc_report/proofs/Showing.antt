@@ -48,7 +48,7 @@ module _ (s : Snapshot) (h : IsSnapshot s) where
   pub trace_in : (listed : Listed) (t : Trace) → HasTrace s.problem.problem s.handled listed t
       → (run : State) → IsRunAt s run → IsTraceIn run listed t
   trace_in listed t has run a =
-      subst (λ (r : State). IsTraceIn r listed t) (one_run has.run run (has.last, has.runs) a)
+      subst (λ (r : State). IsTraceIn r listed t) (one_run has.at.run run (has.at.last, has.at.runs) a)
       has.is
 
   -- ---- letters
@@ -70,7 +70,7 @@ module _ (s : Snapshot) (h : IsSnapshot s) where
   }
     where
       over : IsTraceOver s.problem.alphabet t
-      over = (cofactors_over has.run (has.last, has.runs) listed).0 t has.is
+      over = (cofactors_over has.at.run (has.at.last, has.at.runs) listed).0 t has.is
 
       start_named : (x : Start) → IsStartIn s.problem.alphabet x
           → StartIsNamed (length s.problem.alphabet.names) x
@@ -92,14 +92,14 @@ module _ (s : Snapshot) (h : IsSnapshot s) where
 
   module _ (entries syzygies : List (List (Term Sig))) (are : AreAllLabels s entries syzygies) where
     entry_is : (k : ℕ) (m : List (Term Sig)) → 1 ≤ k → slice_get entries (k - 1) ≡ Some m
-        → IsLabelOf s.problem.problem.setting are.entries_are.run (EntryOf k) m
+        → IsLabelOf s.problem.problem.setting are.entries_are.at.run (EntryOf k) m
     entry_is k m some at = are.entries_are.are k m some at
 
-    entries_run : IsRunAt s are.entries_are.run
-    entries_run = (are.entries_are.last, are.entries_are.runs)
+    entries_run : IsRunAt s are.entries_are.at.run
+    entries_run = (are.entries_are.at.last, are.entries_are.at.runs)
 
-    syzygies_run : IsRunAt s are.syzygies_are.run
-    syzygies_run = (are.syzygies_are.last, are.syzygies_are.runs)
+    syzygies_run : IsRunAt s are.syzygies_are.at.run
+    syzygies_run = (are.syzygies_are.at.last, are.syzygies_are.at.runs)
 
     pub entry_label : (k : ℕ) (m : List (Term Sig)) → slice_get entries (k - 1) ≡ Some m
         → element_of m ≡ label_among entries syzygies (EntryOf k)
@@ -109,17 +109,17 @@ module _ (s : Snapshot) (h : IsSnapshot s) where
         → slice_get entries (k - 1) ≡ Some m
         → All (λ t. All (λ x. x.index < length s.problem.alphabet.names) t.key.left) m
     entry_label_left k m some at =
-        label_left (EntryOf k) are.entries_are.run entries_run m (entry_is k m some at)
+        label_left (EntryOf k) are.entries_are.at.run entries_run m (entry_is k m some at)
 
     pub entry_label_right : (k : ℕ) (m : List (Term Sig)) → 1 ≤ k
         → slice_get entries (k - 1) ≡ Some m
         → All (λ t. All (λ x. x.index < length s.problem.alphabet.names) t.key.right) m
     entry_label_right k m some at =
-        label_right (EntryOf k) are.entries_are.run entries_run m (entry_is k m some at)
+        label_right (EntryOf k) are.entries_are.at.run entries_run m (entry_is k m some at)
 
     module _ (k : ℕ) (m : List (Term Sig)) (some : 1 ≤ k) (at : slice_get syzygies (k - 1) ≡ Some m)
       where
-        syzygy_is : IsLabelOf s.problem.problem.setting are.syzygies_are.run (SyzygyOf k) m
+        syzygy_is : IsLabelOf s.problem.problem.setting are.syzygies_are.at.run (SyzygyOf k) m
         syzygy_is = are.syzygies_are.are k m some at
 
         pub syzygy_label : element_of m ≡ label_among entries syzygies (SyzygyOf k)
@@ -127,11 +127,11 @@ module _ (s : Snapshot) (h : IsSnapshot s) where
 
         pub syzygy_label_left : All (λ t. All (λ x. x.index < length s.problem.alphabet.names)
             t.key.left) m
-        syzygy_label_left = label_left (SyzygyOf k) are.syzygies_are.run syzygies_run m syzygy_is
+        syzygy_label_left = label_left (SyzygyOf k) are.syzygies_are.at.run syzygies_run m syzygy_is
 
         pub syzygy_label_right : All (λ t. All (λ x. x.index < length s.problem.alphabet.names)
             t.key.right) m
-        syzygy_label_right = label_right (SyzygyOf k) are.syzygies_are.run syzygies_run m syzygy_is
+        syzygy_label_right = label_right (SyzygyOf k) are.syzygies_are.at.run syzygies_run m syzygy_is
 
   -- ---- the lines of an item
 

@@ -217,7 +217,7 @@ module _ (options : MemberOptions) (bytes : List ℕ) (P : NamedProblem) (claim 
   many_below : (form : Form) (named : Listed) (terms : ℕ) (report : List ℕ)
       → IsTooManyAs form options.limit bytes named terms report → IsBelow P claim
   many_below Terms named terms report t =
-      moved t.at_end t.is (is_represented t.at_end.problem (here t.at_end t.is) t.many.rest.runs
+      moved t.at_end t.is (is_represented t.at_end.problem (here t.at_end t.is) t.many.rest.at.runs
       t.at_end.claim [] t.many.steps t.many.rest.reduces refl)
   many_below Lines named terms report t = absurd t
 

@@ -9,7 +9,7 @@ use Rattle.nc_algebra.specs.Problems.{IsProblem, IsWithin, NamedProblem}
 use Rattle.nc_algebra.specs.Sums.{Term}
 use Rattle.nc_cofactor.specs.Claims.{AreWithinLimit, IsTooManyFor, ListsNeeded, numbers_of}
 use Rattle.nc_cofactor.specs.Sums.{IsSum}
-use Rattle.nc_cofactor.specs.Traces.{IsTraceIn}
+use Rattle.nc_cofactor.specs.Traces.{IsTraceIn, RunAt}
 use Rattle.nc_member.specs.Lines.{proof_lines}
 use Rattle.nc_member.specs.Members.{IsOpen, IsProved, IsRepresented, IsRestOf, IsTooManyOf, IsUnrepresented}
 use Rattle.nc_module.specs.Modules.{element_of}
@@ -99,7 +99,7 @@ module _ (bytes : List ℕ) (e : ClaimAtEnd) (is : IsClaimAtEnd bytes e) where
     ends = is.ends;
     reduces =
         subst (λ (run : State). Reduction e.problem.problem.setting run.entries
-        (IsWithin e.problem.problem) e.claim rest steps) (the_one r.runs) r.reduces;
+        (IsWithin e.problem.problem) e.claim rest steps) (the_one r.at.runs) r.reduces;
   }
 
   pub proof_at_end : (lines : List Line) → IsCertificate (certificate_with e lines)
@@ -107,10 +107,10 @@ module _ (bytes : List ℕ) (e : ClaimAtEnd) (is : IsClaimAtEnd bytes e) where
       → AreProof (remainder_at [] p.steps) p.needed lines
   proof_at_end lines keeps p = record {
     lists = subst (λ (run : State). ListsNeeded run.entries (numbers_of p.steps)
-        (map (λ x. x.0) p.needed)) (the_one p.traces.runs) p.traces.lists;
+        (map (λ x. x.0) p.needed)) (the_one p.traces.at.runs) p.traces.lists;
     traces =
         subst (λ (run : State). All (λ x. IsTraceIn run (EntryOf x.0) x.1) p.needed)
-        (the_one p.traces.runs) p.traces.traces;
+        (the_one p.traces.at.runs) p.traces.traces;
     are = p.are;
     keeps = keeps;
     valid = p.valid;
@@ -123,12 +123,12 @@ module _ (bytes : List ℕ) (e : ClaimAtEnd) (is : IsClaimAtEnd bytes e) where
   terms_at_end limit m r = record {
     is = subst (λ (run : State). IsSum e.problem.problem.setting
         (step_multiples (labels_of e.problem.problem.setting.prime run.entries) r.steps) m)
-        (the_one r.is.runs) r.is.is;
+        (the_one r.is.at.runs) r.is.is;
     lies = r.lies;
     evaluates = r.evaluates;
     within =
         subst (λ (run : State). AreWithinLimit e.problem.problem.setting.prime run r.steps limit)
-        (the_one r.is.runs) r.is.within;
+        (the_one r.is.at.runs) r.is.within;
   }
 
   pub many_at_end : (limit : ℕ) (named : Listed) (terms : ℕ)
@@ -136,19 +136,21 @@ module _ (bytes : List ℕ) (e : ClaimAtEnd) (is : IsClaimAtEnd bytes e) where
       → IsTooManyFor e.problem.problem.setting.prime is.run t.steps limit named terms
   many_at_end limit named terms t =
       subst (λ (run : State). IsTooManyFor e.problem.problem.setting.prime run t.steps limit named
-      terms) (the_one t.many.runs) t.many.many
+      terms) (the_one t.many.at.runs) t.many.many
 
 -- ---- to the records
 
 module _ (bytes : List ℕ) (r : Remainder) (is : IsRemainder bytes r) where
-  runs : (last : Option Monomial) × SequentialRun r.problem.problem r.handled r.run last
-  runs = ended_run r.problem.problem is.ends
+  abbrev at : RunAt r.problem.problem r.handled
+  at =
+      let ended = ended_run r.problem.problem is.ends in
+      record { run = r.run; last = ended.0; runs = ended.1 }
 
   pub is_claim_at_end : IsClaimAtEnd bytes (claim_at_end r)
   is_claim_at_end = record { text = is.text; run = r.run; ends = is.ends }
 
   pub rest_of : IsRestOf r.problem.problem r.handled r.claim r.rest r.steps
-  rest_of = record { run = r.run; last = runs.0; runs = runs.1; reduces = is.reduces }
+  rest_of = record { at = at; reduces = is.reduces }
 
   module _ (nothing : r.rest ≡ []) where
     nothing_of : IsRestOf r.problem.problem r.handled r.claim [] r.steps
@@ -163,7 +165,7 @@ module _ (bytes : List ℕ) (r : Remainder) (is : IsRemainder bytes r) where
       rest = nothing_of;
       needed = needed;
       traces =
-          record { run = r.run; last = runs.0; runs = runs.1; lists = p.lists; traces = p.traces };
+          record { at = at; lists = p.lists; traces = p.traces };
       are = p.are;
       keeps = p.keeps.lines;
       valid = p.valid;
@@ -175,7 +177,7 @@ module _ (bytes : List ℕ) (r : Remainder) (is : IsRemainder bytes r) where
     represented_of limit m t = record {
       steps = r.steps;
       rest = nothing_of;
-      is = record { run = r.run; last = runs.0; runs = runs.1; is = t.is; within = t.within };
+      is = record { at = at; is = t.is; within = t.within };
       lies = t.lies;
       evaluates = t.evaluates;
     }
@@ -187,7 +189,7 @@ module _ (bytes : List ℕ) (r : Remainder) (is : IsRemainder bytes r) where
         record {
           steps = r.steps;
           rest = nothing_of;
-          many = record { run = r.run; last = runs.0; runs = runs.1; many = many };
+          many = record { at = at; many = many };
         }
 
   pub unrepresented_of : r.ending ≡ End.complete → r.rest ≢ []

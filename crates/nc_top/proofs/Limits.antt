@@ -59,7 +59,7 @@ module _ (s : Snapshot) (h : IsSnapshot s) (limit : ℕ) where
           let p = place entries few k some (omega (arith, within, each, entries_count s h run a)) in
           let is : IsLabelOf setting run (EntryOf k) p.0 =
           subst (λ (r : State). IsLabelOf setting r (EntryOf k) p.0)
-          (one_run s h are.run run (are.last, are.runs) a) (are.are k p.0 some p.1) in
+          (one_run s h are.at.run run (are.at.last, are.at.runs) a) (are.are k p.0 some p.1) in
           short run (EntryOf k) p.0 is p.2 (label_at (labels_of setting.prime run.entries) k) n (
             some,
             within,
@@ -71,14 +71,14 @@ module _ (s : Snapshot) (h : IsSnapshot s) (limit : ℕ) where
       syzygy_fault OutOfMemory f = tt
       syzygy_fault (TooMany named terms) f =
           λ run a. subst (λ (r : State). IsFirstOf setting.prime r limit named terms)
-          (one_run s h f.run run (f.last, f.runs) a)
-          (subst (λ (l : Listed). IsFirstOf setting.prime f.run limit l terms) (sym f.names) (
+          (one_run s h f.at.run run (f.at.last, f.at.runs) a)
+          (subst (λ (l : Listed). IsFirstOf setting.prime f.at.run limit l terms) (sym f.names) (
             f.some,
             f.within,
             f.has,
             f.many,
             f.lesser,
-            λ j m some within has. entries_short f.run (f.last, f.runs) j m some within has,
+            λ j m some within has. entries_short f.at.run (f.at.last, f.at.runs) j m some within has,
           ))
 
       module _ (syzygies : List (List (Term Sig)))
@@ -100,7 +100,7 @@ module _ (s : Snapshot) (h : IsSnapshot s) (limit : ℕ) where
             )) in
             let is : IsLabelOf setting run (SyzygyOf k) p.0 =
             subst (λ (r : State). IsLabelOf setting r (SyzygyOf k) p.0)
-            (one_run s h zero_are.run run (zero_are.last, zero_are.runs) a)
+            (one_run s h zero_are.at.run run (zero_are.at.last, zero_are.at.runs) a)
             (zero_are.are k p.0 some p.1) in
             short run (SyzygyOf k) p.0 is p.2 α n (t, (g, some, at, same), e) has
         all_short run a Claim α n in_run has = absurd in_run
@@ -110,8 +110,8 @@ module _ (s : Snapshot) (h : IsSnapshot s) (limit : ℕ) where
   entry_fault OutOfMemory f = tt
   entry_fault (TooMany named terms) f =
       λ run a. subst (λ (r : State). IsFirstOf setting.prime r limit named terms)
-      (one_run s h f.run run (f.last, f.runs) a)
-      (subst (λ (l : Listed). IsFirstOf setting.prime f.run limit l terms) (sym f.names) (
+      (one_run s h f.at.run run (f.at.last, f.at.runs) a)
+      (subst (λ (l : Listed). IsFirstOf setting.prime f.at.run limit l terms) (sym f.names) (
         f.some,
         f.within,
         f.has,

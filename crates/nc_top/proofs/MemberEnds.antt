@@ -98,7 +98,7 @@ module _ (a : Asked) (text : IsAsked a) (h : IsSnapshot a.finished.now.snapshot)
         → IsRestOf s.problem.problem s.handled a.claim.now rest steps → HasNames names rest
     rest_has_names rest steps r =
         subst (λ (ns : List (List ℕ)). HasNames ns rest) (sym same)
-        (rest_named s.problem h.problem r.runs a.claim.now
+        (rest_named s.problem h.problem r.at.runs a.claim.now
         (claim_in a.bytes.now s.problem a.claim.now text) r.reduces)
 
     -- something is left
@@ -170,11 +170,11 @@ module _ (a : Asked) (text : IsAsked a) (h : IsSnapshot a.finished.now.snapshot)
       claim = claim_has_names setting.alphabet.names same_names;
       left =
           subst (λ (ns : List (List ℕ)). All (λ t. All (λ x. x.index < length ns) t.key.left) m)
-          (sym same_names) (terms_left s.problem h.problem represented.rest.runs a.claim.now
+          (sym same_names) (terms_left s.problem h.problem represented.rest.at.runs a.claim.now
           (claim_in a.bytes.now s.problem a.claim.now text) represented.rest.reduces m sum);
       right =
           subst (λ (ns : List (List ℕ)). All (λ t. All (λ x. x.index < length ns) t.key.right) m)
-          (sym same_names) (terms_right s.problem h.problem represented.rest.runs a.claim.now
+          (sym same_names) (terms_right s.problem h.problem represented.rest.at.runs a.claim.now
           (claim_in a.bytes.now s.problem a.claim.now text) represented.rest.reduces m sum);
       answer = λ report written. as_terms a.options a.bytes.now report form (record {
         at_end = at_end;
@@ -182,7 +182,7 @@ module _ (a : Asked) (text : IsAsked a) (h : IsSnapshot a.finished.now.snapshot)
         m = m;
         represented = represented;
         keeps =
-            terms_keep s.problem h.problem represented.rest.runs a.claim.now
+            terms_keep s.problem h.problem represented.rest.at.runs a.claim.now
             (claim_in a.bytes.now s.problem a.claim.now text) represented.rest.reduces m sum
             represented.lies;
         written = written ∙ ap (λ (x : NamedSetting). terms_text x a.claim.now (element_of m)) same;
@@ -190,13 +190,13 @@ module _ (a : Asked) (text : IsAsked a) (h : IsSnapshot a.finished.now.snapshot)
     }
       where
         sum : IsSum s.problem.problem.setting
-            (step_multiples (labels_of p represented.rest.run.entries) represented.steps) m
+            (step_multiples (labels_of p represented.rest.at.run.entries) represented.steps) m
         sum = subst (λ (run : State). IsSum s.problem.problem.setting
             (step_multiples (labels_of p run.entries) represented.steps) m)
-            (one_run s h represented.is.run represented.rest.run (
-              represented.is.last,
-              represented.is.runs,
-            ) (represented.rest.last, represented.rest.runs)) represented.is.is
+            (one_run s h represented.is.at.run represented.rest.at.run (
+              represented.is.at.last,
+              represented.is.at.runs,
+            ) (represented.rest.at.last, represented.rest.at.runs)) represented.is.is
 
   -- a label, or the representation, has more terms than the limit
   pub too_many_answer : a.options.form ≡ Terms → (named : Listed) (terms : ℕ) (report : List ℕ)

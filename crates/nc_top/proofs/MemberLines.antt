@@ -5,7 +5,7 @@ use Rattle.nc_algebra.specs.Monomials.{Monomial}
 use Rattle.nc_algebra.specs.Polynomials.{Polynomial}
 use Rattle.nc_algebra.specs.Problems.{IsProblem, IsWithin, NamedProblem, setting_of}
 use Rattle.nc_cofactor.specs.Claims.{ListsNeeded, numbers_of}
-use Rattle.nc_cofactor.specs.Traces.{IsTraceIn}
+use Rattle.nc_cofactor.specs.Traces.{IsTraceIn, RunAt}
 use Rattle.nc_field.proofs.Primes.{listed_is_prime}
 use Rattle.nc_member.proofs.Whole.{proved}
 use Rattle.nc_member.specs.Lines.{proof_lines}
@@ -30,9 +30,10 @@ pub proof_holds : (P : NamedProblem) → IsProblem P → (n : ℕ) (run : State)
     × IsValid P.problem.setting claim (proof_lines P.problem.setting.prime needed steps)
     × HasRepresentation P.problem.setting (IsWithin P.problem) claim
 proof_holds P is n run last runs claim steps in_words reduces needed lists traces =
+    let at : RunAt P.problem n = record { run = run; last = last; runs = runs } in
     let done =
     proved P is (listed_is_prime P.problem.setting.prime is.setting.prime) n claim in_words
-    needed steps (record { run = run; last = last; runs = runs; reduces = reduces })
-    (record { run = run; last = last; runs = runs; lists = lists; traces = traces })
+    needed steps (record { at = at; reduces = reduces })
+    (record { at = at; lists = lists; traces = traces })
     (proof_lines P.problem.setting.prime needed steps) refl in
     (done.keeps, done.valid, done.has)

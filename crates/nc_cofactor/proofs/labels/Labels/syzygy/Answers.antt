@@ -20,4 +20,4 @@ item_label-requires c =
     ∙ ap (λ (r : State). length r.entries)
     (one_run c.args.snapshot.now.problem c.recall_rule.ensures.snapshot.problem
     c.args.snapshot.now.handled c.recall_rule.ensures.snapshot.run.runs
-    c.requires.labels.runs))))
+    c.requires.labels.at.runs))))
