@@ -11,7 +11,8 @@ use Rattle.nc_overlap.proofs.meeting.greater_side.Goals as goal
 pub returns-then-ne-clause-greater : goal.returns-then-ne-clause-greater
 returns-then-ne-clause-greater c s e f h j a b =
     apart s e f c.args.first.now.sig.now c.args.second.now.sig.now c.letters.result.now
-    c.letters-word.result.now c.args.at c.min-shared.result (a.lead ∙ sym c.letters.ensures.letters) a.signed
+    c.letters-word.result.now c.args.at c.min-shared.result
+    (a.lead ∙ sym c.letters.ensures.letters) a.signed
     (b.lead ∙ sym c.letters-word.ensures.letters) b.signed
     (subst (λ (w : Word). c.args.at < length w) (sym c.letters.ensures.letters) c.requires)
     c.split_at.result.1.now c.split_at-2.result.0.now c.split_at-3.result.0.now

@@ -11,7 +11,8 @@ returns c =
     let s : Snapshot = c.args.self.now in
     let is = c.recall_rule.ensures.snapshot in
     let e : Entry = entry_of c.entry-entry.result.now in
-    let signed : c.entry-entry.result.now.sig ≡ c.deref.result.now = sym (c.deref.ensures ∙ c.sig.ensures) in
+    let signed : c.entry-entry.result.now.sig ≡ c.deref.result.now =
+    sym (c.deref.ensures ∙ c.sig.ensures) in
     record {
       entry = e;
       stands = c.entry-entry.ensures.entry;
