@@ -3,10 +3,10 @@ use Rattle.nc_algebra.proofs.Orders.{nat_order}
 use Rattle.nc_algebra.specs.Elements.{Setting}
 use Rattle.nc_algebra.specs.Monomials.{Monomial, monomial_of, times}
 use Rattle.nc_algebra.specs.Words.{Word}
-use Rattle.nc_criteria.specs.Leads.{IsLeadAt}
+use Rattle.nc_snapshot.specs.Leads.{IsLeadAt}
 use Rattle.nc_criteria.specs.Multiples.{BestMultipleLaw, IsBestWithin, IsMultipleWithin}
 use Rattle.nc_criteria.specs.Searches.{IsBestBetween}
-use Rattle.nc_criteria.specs.declared.lead.Lead.{Lead}
+use Rattle.nc_snapshot.specs.declared.lead.Lead.{Lead}
 use Rattle.nc_criteria.specs.declared.multiple.Multiple.{Multiple}
 use Rattle.nc_theory.proofs.Quotients.{IsWithNext, at_found, better_step}
 use Rattle.nc_theory.specs.Best.{IsMultipleAt, best_of}

@@ -1,5 +1,4 @@
 pub mod Sides
-pub mod Entries
 pub mod Pairs
 pub mod Divisors
 pub mod Best

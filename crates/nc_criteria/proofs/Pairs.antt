@@ -8,9 +8,10 @@ use Rattle.nc_algebra.specs.Elements.{HasDegree, IsLess, Setting, generator_weig
 use Rattle.nc_algebra.specs.Monomials.{Divides, Monomial, Sig, monomial_of, sig_of, sig_times, times}
 use Rattle.nc_algebra.specs.Polynomials.{leading}
 use Rattle.nc_algebra.specs.Words.{Word, word_weight}
-use Rattle.nc_criteria.specs.Leads.{IsBefore, IsBehind, IsLeadAt, IsLesserBefore, IsLesserBehind}
+use Rattle.nc_criteria.specs.Leads.{IsBefore, IsBehind, IsLesserBefore, IsLesserBehind}
+use Rattle.nc_snapshot.specs.Leads.{IsLeadAt}
 use Rattle.nc_criteria.specs.Pairs.{IsTrivialAt, IsTrivialBelow, IsTrivialBy, IsTrivialPair}
-use Rattle.nc_criteria.specs.declared.lead.Lead.{Lead}
+use Rattle.nc_snapshot.specs.declared.lead.Lead.{Lead}
 use Rattle.nc_module.proofs.Bounds.{less_from_sigs, sigs_from_less}
 use Rattle.nc_theory.specs.States.{Entry}
 use Rattle.nc_theory.specs.Syzygies.{first_side, second_side}

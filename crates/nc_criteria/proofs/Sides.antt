@@ -7,7 +7,7 @@ use Rattle.nc_algebra.proofs.Words.{weight-append}
 use Rattle.nc_algebra.specs.Monomials.{compare_sigs, sig_times}
 use Rattle.nc_algebra.specs.Words.{OccursAt, Word, compare_words, word_weight}
 use Rattle.nc_criteria.specs.Leads.{IsBefore, IsBehind, compare_heads, words_before, words_behind}
-use Rattle.nc_criteria.specs.declared.lead.Lead.{Lead}
+use Rattle.nc_snapshot.specs.declared.lead.Lead.{Lead}
 use Rattle.nc_words.specs.Places.{IsPlaceFrom}
 use Rattle.std.proofs.Common.{Equal, Greater, IsTrue, Less, None, Option, Ordering, Some, [], ap, ap₂, append-nil, append_assoc, arith, drop, inl, inr, length, length-append, refl, sym, take, true, ℕ, ◌+◌, ◌++◌, ◌<◌, ◌∙◌, ◌≡◌, ◌≤◌, ◌↔◌, ◌⊎◌}
 use Rattle.std.proofs.lemmas.List.{drop_at, take_at}

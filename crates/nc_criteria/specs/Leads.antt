@@ -7,24 +7,13 @@
 --
 -- The own entry is the one whose multiple is at hand. The other leading word stands behind it or
 -- before it, so most definitions come twice.
-use Rattle.nc_algebra.specs.Elements.{HasDegree, Setting}
-use Rattle.nc_algebra.specs.Monomials.{compare_sigs, monomial_of, sig_times}
-use Rattle.nc_algebra.specs.Polynomials.{leading}
+use Rattle.nc_algebra.specs.Monomials.{compare_sigs, sig_times}
 use Rattle.nc_algebra.specs.Words.{Word, compare_words, word_weight}
-use Rattle.nc_criteria.specs.declared.lead.Lead.{Lead}
-use Rattle.nc_theory.specs.States.{Entry}
+use Rattle.nc_snapshot.specs.declared.lead.Lead.{Lead}
 use Rattle.std.specs.Ordering.{nat_cmp, ordering_then}
-use Rattle.std.specs.Prelude.{List, Some, [], slice_get, ℕ, ◌++◌, ◌+◌, ◌≡◌}
+use Rattle.std.specs.Prelude.{[], ◌++◌, ◌+◌, ◌≡◌}
 use Rattle.std.specs.declared.cmp.Ordering.{Ordering}
 use Rattle.std.specs.declared.cmp.Ordering.TheVariants.{Less}
-
--- the lead is that of the entry at this place, counted from 0
-pub record IsLeadAt (s : Setting) (entries : List Entry) (n : ℕ) (l : Lead) : Type 0 where
-  pub entry : Entry
-  pub stands : slice_get entries n ≡ Some entry
-  pub leads : leading s.prime entry.polynomial ≡ l.word.now
-  pub signed : entry.signature ≡ monomial_of l.sig.now
-  pub degree : HasDegree s l.sig.now
 
 -- degrees, then generators of the two sides: that of the other signature beside that of the own one
 abbrev pub compare_heads : Lead → Lead → Ordering

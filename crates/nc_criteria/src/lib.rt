@@ -1,7 +1,6 @@
 //! Criteria: what settles a signature before anything is reduced.
 #![tactic(auto)]
 
-mod lead;
 mod multiple;
 mod syzygy;
 mod trivial;

@@ -6,7 +6,6 @@ ghost use Rattle.nc_criteria.specs.Searches.{IsBestBetween, found_of};
 ghost use Rattle.nc_theory.specs.Best.{IsMultipleAt, best_of};
 ghost use Rattle.std.specs.Prelude.{length, option_map, ◌-◌, ◌<◌, ◌≡◌, ◌≤◌};
 
-use crate::lead::Lead;
 use nc_sig::Sig;
 use nc_snapshot::Snapshot;
 use nc_words::Joined;
@@ -35,7 +34,7 @@ fn multiple_of<'a>(snapshot: &'a Snapshot, sig: &'a Sig, number: u32) -> Option<
     ensures { IsMultipleAt snapshot.now.problem.problem.setting snapshot.now.state.entries
         (monomial_of sig.now) (number - 1) (option_map found_of result) }
 {
-    let lead = Lead::of(snapshot, number);
+    let lead = snapshot.lead(number);
     let (first, third) = sig.divide(lead.sig)?;
     let second = lead.word.letters();
     let word = Joined {

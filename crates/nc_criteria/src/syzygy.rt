@@ -6,7 +6,6 @@ ghost use Rattle.nc_theory.specs.Covers.{IsListedBelow};
 ghost use Rattle.nc_theory.specs.Syzygies.{Covered};
 ghost use Rattle.std.specs.Prelude.{IsTrue, length, ◌-◌, ◌↔◌, ◌≤◌};
 
-use crate::lead::Lead;
 use crate::trivial::is_trivial;
 use nc_sig::Sig;
 use nc_snapshot::Snapshot;
@@ -30,12 +29,12 @@ fn is_trivial_at(snapshot: &Snapshot, sig: &Sig, number: u32) -> bool
     ensures { IsTrue result ↔ IsTrivialAt snapshot.now.problem.problem.setting
         snapshot.now.state.entries (monomial_of sig.now) (number - 1) }
 {
-    let own = Lead::of(snapshot, number);
+    let own = snapshot.lead(number);
     let Some((before, behind)) = sig.divide(own.sig) else {
         return false;
     };
     for index in 0..snapshot.entries() {
-        if is_trivial(&own, &Lead::of(snapshot, index + 1), before, behind) {
+        if is_trivial(&own, &snapshot.lead(index + 1), before, behind) {
             return true;
         }
     }

@@ -5,9 +5,22 @@ ghost use Rattle.nc_criteria.specs.Leads.{IsBefore, IsBehind, compare_heads, wor
 ghost use Rattle.std.specs.Prelude.{IsTrue, drop, length, ◌≡◌, ◌↔◌, ◌⊎◌};
 ghost use Rattle.std.specs.declared.cmp.Ordering.TheVariants.{Equal};
 
-use crate::lead::Lead;
+use nc_snapshot::Lead;
 use nc_words::{Joined, Letter, Word};
 use std::cmp::Ordering;
+
+/// Compares the degrees and the generators of the two sides of a trivial syzygy, that of the other signature with that of
+/// the own one. They do not depend on the word between the two.
+fn compare_heads<'a>(own: &Lead<'a>, other: &Lead<'a>) -> Ordering
+    ensures { result ≡ compare_heads own.now other.now }
+{
+    let (own_sig, other_sig) = (own.sig, other.sig);
+    let own_degree = u64::from(own_sig.degree) + u64::from(other.word.weight());
+    let other_degree = u64::from(own.word.weight()) + u64::from(other_sig.degree);
+    other_degree
+        .cmp(&own_degree)
+        .then(other_sig.generator.cmp(&own_sig.generator))
+}
 
 /// Compares the words of the two sides, that of the other signature with that of the own one, where the other leading word
 /// stands this far behind the own signature.
@@ -126,6 +139,6 @@ pub(crate) fn is_trivial<'a>(
     ensures { IsTrue result ↔ (IsBehind own.now other.now behind.now
         ⊎ IsBefore own.now other.now before.now) }
 {
-    let heads = own.compare_heads(other);
+    let heads = compare_heads(own, other);
     is_behind(own, other, heads, behind) || is_before(own, other, heads, before)
 }

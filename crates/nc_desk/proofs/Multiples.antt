@@ -4,11 +4,11 @@ use Rattle.nc_algebra.proofs.Leading.{leading-normal}
 use Rattle.nc_algebra.specs.Elements.{Setting}
 use Rattle.nc_algebra.specs.Monomials.{Monomial, times, unit_monomial}
 use Rattle.nc_algebra.specs.Polynomials.{IsNormal, Polynomial, leading, polynomial_times}
-use Rattle.nc_algebra.specs.Sums.{Term}
 use Rattle.nc_algebra.specs.Words.{Word}
 use Rattle.nc_criteria.specs.Multiples.{BestMultipleLaw, IsBestWithin}
 use Rattle.nc_criteria.specs.declared.multiple.Multiple.{Multiple}
 use Rattle.nc_reduce.proofs.Starts.{polynomial_at}
+use Rattle.nc_snapshot.specs.Leads.{IsLeadOf}
 use Rattle.nc_theory.proofs.Small.{usable_at}
 use Rattle.nc_reduce.specs.Starts.{IsReadable, IsStartAt, polynomial_of, start_polynomial}
 use Rattle.nc_theory.proofs.Handling.{handled}
@@ -34,19 +34,22 @@ module _ (s : Setting) (entries : List Entry) (usable : All (IsUsable s) entries
   read : polynomial_of entries j ≡ e.polynomial
   read = polynomial_at entries j e readable.0 at
 
-  pub some_terms : e.polynomial ≢ []
-  some_terms = usable_one.some
+  module _ (w : Word) (leads : IsLeadOf e.polynomial w) where
+    pub lead_is : leading s.prime (polynomial_of entries j) ≡ w
+    lead_is = ap (leading s.prime) read ∙ leads.leads s.prime usable_one.normal
 
-  module _ (t : Term Word) (others : Polynomial) (parts : e.polynomial ≡ t ∷ others) where
-    pub lead_few : length u + length t.key + length v ≤ 200000
-    lead_few =
-        (subst (λ (f : Polynomial). All (λ x. length u + length x.key + length v ≤ 200000) f)
-        (read ∙ parts) readable.2) 0 t (omega arith)
-
-    pub lead_is : leading s.prime (polynomial_of entries j) ≡ t.key
-    lead_is =
-        ap (leading s.prime) (read ∙ parts)
-        ∙ leading-normal s.prime t others (subst (IsNormal s.prime) parts usable_one.normal)
+    pub lead_few : length u + length w + length v ≤ 200000
+    lead_few = go e.polynomial refl
+      where
+        go : (f : Polynomial) → e.polynomial ≡ f → length u + length w + length v ≤ 200000
+        go [] i = absurd (leads.some i)
+        go (t ∷ others) i =
+            let first : t.key ≡ w =
+            sym (leading-normal s.prime t others (subst (IsNormal s.prime) i usable_one.normal))
+            ∙ (ap (leading s.prime) (sym i) ∙ leads.leads s.prime usable_one.normal) in
+            subst (λ (x : Word). length u + length x + length v ≤ 200000) first
+            ((subst (λ (f : Polynomial). All (λ x. length u + length x.key + length v ≤ 200000) f)
+            (read ∙ i) readable.2) 0 t (omega arith))
 
 -- ---- the best multiple
 

@@ -14,7 +14,6 @@ ghost use Rattle.std.specs.Prelude.{IfOk, IsTrue, Some, drop, length, take, ◌+
 
 use nc_criteria::{Multiple, best_multiple, best_multiple_law};
 use nc_index::{Leads, leads_law};
-use nc_poly::Term;
 use nc_sig::Sig;
 use nc_snapshot::{Snapshot, Start};
 use nc_words::{Letter, Word};
@@ -46,13 +45,6 @@ pub(crate) fn around<'a>(sig: &'a Sig, best: &Multiple) -> (&'a [Letter], &'a [L
     (&left[..best.left], &right[best.right..])
 }
 
-/// The letters of the term's word.
-fn letters_of(term: &Term) -> &[Letter]
-    ensures { result.now ≡ term.now.key }
-{
-    term.word.letters()
-}
-
 /// The leading word of the multiple of the entry with this number.
 pub(crate) fn leading_word(
     alloc: Global,
@@ -68,10 +60,8 @@ pub(crate) fn leading_word(
         (polynomial_of snapshot.now.state.entries number) ++ right.now)) }
 {
     snapshot.recall_rule();
-    let Some(lead) = snapshot.entry(number).poly().lead() else {
-        unreachable!()
-    };
-    Word::join(alloc, left, letters_of(lead), right)
+    let lead = snapshot.entry(number).lead();
+    Word::join(alloc, left, lead.letters(), right)
 }
 
 /// The start at the multiple of the entry with this number.

@@ -10,7 +10,7 @@ use Rattle.nc_algebra.specs.Monomials.{Monomial, Sig, monomial_of}
 use Rattle.nc_algebra.specs.Polynomials.{leading}
 use Rattle.nc_algebra.specs.Problems.{IsWithin, Problem, bound_degree}
 use Rattle.nc_algebra.specs.Words.{Word}
-use Rattle.nc_overlap.specs.declared.meeting.Lead.{Lead}
+use Rattle.nc_snapshot.specs.declared.lead.Lead.{Lead}
 use Rattle.nc_theory.specs.Meetings.{MeetSomewhere}
 use Rattle.nc_theory.specs.Ambiguities.{NewAmbiguity}
 use Rattle.nc_theory.specs.States.{Entry}

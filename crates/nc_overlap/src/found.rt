@@ -9,13 +9,13 @@ ghost use Rattle.nc_theory.specs.Meetings.{MeetAt};
 ghost use Rattle.nc_theory.specs.States.{Entry};
 ghost use Rattle.std.specs.Arc.{arc_value};
 ghost use Rattle.std.specs.List.Sorted.{IsStrictlySortedBy};
-ghost use Rattle.std.specs.Prelude.{All, IfOk, OnOk, get_or, length, map, ◌-◌, ◌<◌, ◌≡◌, ◌≤◌};
+ghost use Rattle.std.specs.Prelude.{All, IfOk, OnOk, length, map, ◌<◌, ◌≡◌, ◌≤◌};
 
-use crate::meeting::{Lead, greater_side};
+use crate::meeting::greater_side;
 use crate::side::Side;
 use nc_module::{Bound, Problem};
 use nc_sig::Sig;
-use nc_snapshot::Snapshot;
+use nc_snapshot::{Lead, Snapshot};
 use nc_words::Word;
 use std::alloc::{AllocError, Global};
 use std::sync::Arc;
@@ -73,12 +73,12 @@ fn places(problem: &Problem, first: &Lead, second: &Lead) -> usize
         Bound::Degree(d) => *d,
         Bound::Below(beta) => beta.degree,
     };
-    let (word, sig) = (first.word, second.sig);
+    let sig = second.sig;
     if limit < sig.degree {
         return 0;
     }
     let room = (limit - sig.degree) as usize + 1;
-    word.len().min(room)
+    first.word.letters().len().min(room)
 }
 
 /// Adds the signatures where the second leading word begins within the first one.
@@ -100,25 +100,6 @@ fn add_pair(
     Ok(())
 }
 
-/// The leading word of the entry with this number, and its signature.
-fn lead_of(snapshot: &Snapshot, n: u32) -> Lead<'_>
-    requires some { 1 ≤ n }
-    requires within { n ≤ length snapshot.now.state.entries }
-    ensures lead { (d : Entry) → IsLedBy snapshot.now.problem.problem.setting result
-        (get_or snapshot.now.state.entries (n - 1) d) }
-    ensures over { IsSignatureOver snapshot.now.problem.problem.setting result.sig.now }
-{
-    snapshot.recall_rule();
-    let entry = snapshot.entry(n);
-    let Some(term) = entry.poly().lead() else {
-        unreachable!()
-    };
-    Lead {
-        word: term.letters(),
-        sig: entry.sig(),
-    }
-}
-
 /// Adds the signatures where an entry's leading word begins within the new one, or the new one within that.
 fn add_entries(
     alloc: Global,
@@ -134,7 +115,7 @@ fn add_entries(
 {
     let problem: &Problem = snapshot.problem();
     for index in 0..snapshot.entries() {
-        let entry = lead_of(snapshot, index + 1);
+        let entry = snapshot.lead(index + 1);
         add_pair(alloc, problem, found, &entry, new)?;
         add_pair(alloc, problem, found, new, &entry)?;
     }
@@ -157,10 +138,7 @@ pub fn signatures(
     ensures exact { IfOk result (λ l. AreNewSignatures snapshot.now.problem.problem
         snapshot.now.state.entries lead.now (monomial_of sig.now.value) (map arc_value l.items)) }
 {
-    let new = Lead {
-        word: lead.letters(),
-        sig,
-    };
+    let new = Lead { word: lead, sig };
     let mut found = Vec::new(alloc);
     add_pair(alloc, snapshot.problem(), &mut found, &new, &new)?;
     add_entries(alloc, snapshot, &mut found, &new)?;

@@ -9,15 +9,7 @@ ghost use Rattle.nc_theory.specs.States.{Entry};
 ghost use Rattle.std.specs.Prelude.{IfSome, length, option_map, ◌<◌, ◌≡◌, ◌⊎◌};
 
 use crate::side::Side;
-use nc_sig::Sig;
-use nc_words::Letter;
-
-/// A leading word with the signature of its entry.
-#[derive(Clone, Copy)]
-pub(crate) struct Lead<'a> {
-    pub word: &'a [Letter],
-    pub sig: &'a Sig,
-}
+use nc_snapshot::Lead;
 
 /// The greater side, where the second leading word begins so many letters behind the beginning of the first one. None
 /// where they do not meet so, and where the sides are equal.
@@ -29,13 +21,14 @@ pub(crate) fn greater_side<'a>(first: &Lead<'a>, second: &Lead<'a>, at: usize) -
     ensures sig { IfSome result (λ x. (x.sig.now ≡ first.now.sig.now)
         ⊎ (x.sig.now ≡ second.now.sig.now)) }
 {
-    if at == 0 && second.word.is_empty() {
+    let word = second.word.letters();
+    if at == 0 && word.is_empty() {
         return None;
     }
-    let (before, rest) = first.word.split_at(at);
-    let shared = rest.len().min(second.word.len());
+    let (before, rest) = first.word.letters().split_at(at);
+    let shared = rest.len().min(word.len());
     let (end, behind_second) = rest.split_at(shared);
-    let (begin, behind_first) = second.word.split_at(shared);
+    let (begin, behind_first) = word.split_at(shared);
     if end != begin {
         return None;
     }

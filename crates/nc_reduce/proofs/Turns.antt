@@ -10,11 +10,15 @@ use Rattle.nc_algebra.specs.Polynomials.{IsNormal, Polynomial, coefficient, lead
 use Rattle.nc_algebra.specs.Primes.{IsField}
 use Rattle.nc_algebra.specs.Sums.{Term, is_at, minus}
 use Rattle.nc_algebra.specs.Words.{IsWordLess, OccursAt, Word, same_word}
-use Rattle.nc_index.specs.Chosen.{IsBelowSig, IsChosen, LeadsLaw, leads_of}
+use Rattle.nc_index.specs.Chosen.{IsBelowSig, IsChosen, LeadsLaw}
 use Rattle.nc_index.specs.Pairs.{IsFirstRegular, Lead}
 use Rattle.nc_index.specs.declared.hit.Hit.{Hit}
 use Rattle.nc_reduce.proofs.Choices.{hit_choice, hit_stands, number_within}
+use Rattle.nc_snapshot.proofs.Snapshots.{snapshot_usable}
+use Rattle.nc_snapshot.specs.Snapshots.{IsSnapshot, Signed, Snapshot, entry_of}
 use Rattle.nc_theory.proofs.Small.{usable_at}
+use Rattle.nc_reduce.specs.Leads.{LeadsOf}
+use Rattle.nc_reduce.specs.Steps.{IsStepAt}
 use Rattle.nc_reduce.specs.Turns.{IsTurn}
 use Rattle.nc_reduce.specs.declared.turn.Turn.{Turn}
 use Rattle.nc_reduce.specs.declared.turn.Turn.TheVariants.{Kept, Subtracted}
@@ -25,7 +29,7 @@ use Rattle.nc_theory.specs.Places.{IsChoiceOf}
 use Rattle.nc_theory.specs.Turns.{IsKept, IsSubtracted}
 use Rattle.nc_theory.specs.Usable.{HasSmallWords, IsUsable}
 use Rattle.nc_theory.specs.States.{Entry, Step}
-use Rattle.std.proofs.Common.{List, None, Option, Some, [], ap, arith, get_or, length, refl, subst, sym, ℕ, ◌%◌, ◌*◌, ◌+◌, ◌++◌, ◌-◌, ◌<◌, ◌∙◌, ◌∷◌, ◌≡◌, ◌≢◌, ◌≤◌}
+use Rattle.std.proofs.Common.{List, None, Option, Some, [], ap, arith, get_or, length, refl, subst, sym, ℕ, ◌%◌, ◌*◌, ◌+◌, ◌-◌, ◌<◌, ◌∙◌, ◌∷◌, ◌≡◌, ◌≤◌}
 use Rattle.std.proofs.Math.Nat.{add-mul-mod_self_left}
 use Rattle.std.proofs.lemmas.List.Elements.{All-from_recursion, recursion_from_All}
 use Rattle.std.proofs.lemmas.Option.{get_or_from_slice_get}
@@ -54,96 +58,109 @@ rest_is p t f n =
         w ∙ whole (p - 1) (t.coefficient * is_at same_word w t.key) (coefficient f w)
         (omega (arith, some))) ∙ add-mul-mod_self_left _ _ _)
 
--- a polynomial with this greatest term, and what the leads give for its word x
-module _ (law : LeadsLaw) (s : Setting) (entries : List Entry) (usable : All (IsUsable s) entries)
-    (β : Sig) (leads : List Lead) (are : leads ≡ leads_of s entries)
-    (old : Polynomial) (normal : IsNormal s.prime old) (t : Term Word) (others : Polynomial)
-    (parts : old ≡ t ∷ others) (x : Word) (is_word : x ≡ t.key) where
-  chosen : (answer : Option Hit) → IsFirstRegular leads x β answer
+-- what is known where a turn begins: t is the greatest term of what is left
+pub record IsTurning (x : Snapshot) (leads : List Lead) (old : Polynomial) (t : Term Word) : Type 0
+  where
+    pub law : LeadsLaw
+    pub is : IsSnapshot x
+    pub listed : LeadsOf x leads
+    pub normal : IsNormal x.problem.problem.setting.prime old
+    pub others : Polynomial
+    pub parts : old ≡ t ∷ others
+
+-- what holds of the entry that the hit names, with polynomial f
+pub record IsDivisorOf (p : ℕ) (t : Term Word) (h : Hit) (f : Polynomial) : Type 0 where
+  pub residue : t.coefficient < p
+  pub normal : IsNormal p f
+  pub stands : OccursAt (leading p f) t.key h.place
+
+-- the turn, with the leads' answer for the greatest word w
+module _ (x : Snapshot) (leads : List Lead) (old : Polynomial) (t : Term Word)
+    (turning : IsTurning x leads old t) (β : Sig) (w : Word) (is_word : w ≡ t.key) where
+  abbrev s : Setting
+  s = x.problem.problem.setting
+
+  abbrev entries : List Entry
+  entries = x.state.entries
+
+  usable : All (IsUsable s) entries
+  usable = snapshot_usable x turning.is
+
+  chosen : (answer : Option Hit) → IsFirstRegular leads w β answer
       → IsChosen s entries t.key β answer
   chosen answer first =
-      law s entries t.key β answer (subst (λ l. IsFirstRegular l t.key β answer) are
-      (subst (λ w. IsFirstRegular leads w β answer) is_word first))
+      turning.law s entries t.key β answer
+      (subst (λ l. IsFirstRegular l t.key β answer) turning.listed
+      (subst (λ v. IsFirstRegular leads v β answer) is_word first))
 
-  pub none_turn : IsFirstRegular leads x β None → (u : Term Word) (new : Polynomial) → old ≡ u ∷ new
-      → IsKept s entries (IsBelowSig s β) old new u
+  pub none_turn : IsFirstRegular leads w β None → (u : Term Word) (new : Polynomial)
+      → old ≡ u ∷ new → IsKept s entries (IsBelowSig s β) old new u
   none_turn none u new e =
       let same : t.key ≡ u.key =
-      ap (λ (y : Term Word). y.key) (let h : t ∷ others ≡ u ∷ new = sym parts ∙ e in
-      let i : t ≡ u = cc in i) in
-      kept_turn s entries usable (IsBelowSig s β) old u new e normal t.key new same
+      ap (λ (y : Term Word). y.key) (let h : t ∷ turning.others ≡ u ∷ new =
+      sym turning.parts ∙ e in let i : t ≡ u = cc in i) in
+      kept_turn s entries usable (IsBelowSig s β) old u new e turning.normal t.key new same
       (chosen None none)
-      (rest_is s.prime u new (subst (IsNormal s.prime) e normal)
+      (rest_is s.prime u new (subst (IsNormal s.prime) e turning.normal)
       ∙ ap (λ f. normal_form s.prime (minus s.prime f 1 (u ∷ []))) (sym e))
 
-  module _ (h : Hit) (first : IsFirstRegular leads x β (Some h)) where
+  module _ (h : Hit) (first : IsFirstRegular leads w β (Some h)) where
     found : IsChosen s entries t.key β (Some h)
     found = chosen (Some h) first
 
     pub hit_within : h.number ≤ length entries
     hit_within = number_within s entries β t.key h found
 
-    -- its entry's polynomial f, and the setting's prime p, as code reads them
-    module _ (e : Entry) (at : slice_get entries (h.number - 1) ≡ Some e) (f : Polynomial)
-        (of_entry : f ≡ e.polynomial) (p : ℕ) (is_prime : p ≡ s.prime) where
-      usable_one : IsUsable s e
-      usable_one = usable_at s entries usable (h.number - 1) e at
-
-      pub turn_residue : t.coefficient < p
-      turn_residue =
-          subst (λ q. t.coefficient < q) (sym is_prime)
-          (lead_residue s entries usable (IsBelowSig s β) old t others parts normal)
-
-      pub divisor_normal : IsNormal p f
-      divisor_normal =
-          subst (λ q. IsNormal q f) (sym is_prime)
-          (subst (IsNormal s.prime) (sym of_entry) usable_one.normal)
-
-      pub divisor_some : f ≢ []
-      divisor_some i = usable_one.some (sym of_entry ∙ i)
-
-      lead_is : leading s.prime e.polynomial ≡ leading p f
-      lead_is = ap (leading s.prime) (sym of_entry) ∙ ap (λ q. leading q f) (sym is_prime)
-
-      pub divisor_stands : OccursAt (leading p f) t.key h.place
-      divisor_stands =
-          subst (λ v. OccursAt v t.key h.place) lead_is (hit_stands s entries β t.key h found e at)
+    -- its entry, and the setting's prime p, as code reads them
+    module _ (e : Signed) (at : slice_get entries (h.number - 1) ≡ Some (entry_of e)) (p : ℕ)
+        (is_prime : p ≡ s.prime) where
+      pub hit_divides : IsDivisorOf p t h e.polynomial
+      hit_divides =
+          subst (λ q. IsDivisorOf q t h e.polynomial) (sym is_prime)
+          (record {
+            residue = lead_residue s entries usable (IsBelowSig s β) old t turning.others
+                turning.parts turning.normal;
+            normal = (usable_at s entries usable (h.number - 1) (entry_of e) at).normal;
+            stands = hit_stands s entries β t.key h found (entry_of e) at;
+          })
 
       -- and a step that was made of them
-      module _ (step : Step) (spells : step.left ++ (leading p f ++ step.right) ≡ t.key)
-          (place : length step.left ≡ h.place) (number : step.number ≡ h.number) where
+      module _ (step : Step) (made : IsStepAt p t e.polynomial h step) where
+        over : IsStepAt s.prime t e.polynomial h step
+        over = subst (λ q. IsStepAt q t e.polynomial h step) is_prime made
+
         abbrev choice : Chosen
         choice = record { left = step.left; number = step.number; right = step.right }
 
         is_choice : IsChoiceOf s entries (IsBelowSig s β) t.key (Some choice)
         is_choice =
-            hit_choice s entries β t.key h found e at step.left step.number step.right
-            (ap (λ v. step.left ++ (v ++ step.right)) lead_is ∙ spells) place number
+            hit_choice s entries β t.key h found (entry_of e) at step.left step.number step.right
+            over.spells over.place over.number
 
-        read : e ≡ get_or entries (step.number - 1) e
-        read = sym (get_or_from_slice_get entries (step.number - 1) e e
-            (ap (λ n. slice_get entries (n - 1)) number ∙ at))
+        read : entry_of e ≡ get_or entries (step.number - 1) (entry_of e)
+        read = sym (get_or_from_slice_get entries (step.number - 1) (entry_of e) (entry_of e)
+            (ap (λ n. slice_get entries (n - 1)) over.number ∙ at))
 
-        pub step_few : HasSmallWords s old
-            → All (λ y. length step.left + length y.key + length step.right ≤ 200000) f
-        step_few small =
-            chosen_few s entries usable (IsBelowSig s β) old t others parts normal t.key refl choice
-            is_choice e read f of_entry step.left step.right refl refl small
+        -- the divisor's polynomial f, as code reads it
+        module _ (f : Polynomial) (of_entry : f ≡ e.polynomial) where
+          pub step_few : HasSmallWords s old
+              → All (λ y. length step.left + length y.key + length step.right ≤ 200000) f
+          step_few small =
+              chosen_few s entries usable (IsBelowSig s β) old t turning.others turning.parts
+              turning.normal t.key refl choice is_choice (entry_of e) read f of_entry step.left
+              step.right refl refl small
 
-        pub hit_turn : (new : Polynomial) → step.coefficient < p
-            → step.coefficient * coefficient f (leading p f) % p ≡ t.coefficient
-            → new ≡ normal_form p (minus p old step.coefficient
-            (polynomial_times step.left f step.right))
-            → IsSubtracted s entries (IsBelowSig s β) old new step
-        hit_turn new small cancels rest =
-            subtracted_turn s entries usable (IsBelowSig s β) old t others parts normal t.key refl
-            choice is_choice e read f of_entry new step.coefficient step.left step.right
-            (subst (λ q. step.coefficient < q) is_prime small)
-            (subst (λ q. step.coefficient * coefficient f (leading q f) % q ≡ t.coefficient)
-            is_prime cancels) refl refl
-            (subst (λ q. new ≡ normal_form q
-            (minus q old step.coefficient (polynomial_times step.left f step.right)))
-            is_prime rest)
+          pub hit_turn : (new : Polynomial) → new ≡ normal_form p
+              (minus p old step.coefficient (polynomial_times step.left f step.right))
+              → IsSubtracted s entries (IsBelowSig s β) old new step
+          hit_turn new rest =
+              subtracted_turn s entries usable (IsBelowSig s β) old t turning.others turning.parts
+              turning.normal t.key refl choice is_choice (entry_of e) read f of_entry new
+              step.coefficient step.left step.right over.below
+              (ap (λ g. step.coefficient * coefficient g (leading s.prime g) % s.prime) of_entry
+              ∙ over.cancels) refl refl
+              (rest ∙ ap (λ q. normal_form q
+              (minus q old step.coefficient (polynomial_times step.left f step.right))) is_prime)
 
 -- what is left
 module _ (s : Setting) (field : IsField s.prime) (entries : List Entry)

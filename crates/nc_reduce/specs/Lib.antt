@@ -2,3 +2,4 @@ pub mod Leads
 pub mod Starts
 pub mod Turns
 pub mod Limits
+pub mod Steps

@@ -1,14 +1,15 @@
 //! One step.
 
-ghost use Rattle.nc_algebra.specs.Polynomials.{AreResidues, IsNormal, coefficient, leading, normal_form, polynomial_times};
+ghost use Rattle.nc_algebra.specs.Polynomials.{AreResidues, IsNormal, leading, normal_form, polynomial_times};
 ghost use Rattle.nc_algebra.specs.Sums.{minus};
 ghost use Rattle.nc_algebra.specs.Words.{OccursAt};
-ghost use Rattle.std.specs.Prelude.{All, IfOk, OnOk, [], length, ◌%◌, ◌*◌, ◌+◌, ◌++◌, ◌<◌, ◌≡◌, ◌≢◌, ◌≤◌};
+ghost use Rattle.nc_reduce.specs.Steps.{IsStepAt};
+ghost use Rattle.std.specs.Prelude.{All, IfOk, OnOk, length, ◌%◌, ◌*◌, ◌+◌, ◌++◌, ◌<◌, ◌≡◌, ◌≤◌};
 
 use nc_field::{Prime, Residue};
 use nc_index::Hit;
-use nc_poly::{Heap, Poly, Term};
-use nc_snapshot::Step;
+use nc_poly::{Heap, Poly};
+use nc_snapshot::{Entry, Step};
 use nc_words::{Letter, Word};
 use std::alloc::{AllocError, Global};
 
@@ -21,28 +22,6 @@ fn quotient(p: Prime, a: Residue, b: Residue) -> Residue
     ensures quotient { result * b % p ≡ a }
 {
     p.mul(a, p.inverse(b))
-}
-
-/// The leading term.
-fn lead_of(p: Prime, f: &Poly) -> &Term
-    requires normal { IsNormal p f.now }
-    requires some { f.now ≢ [] }
-    ensures word { result.now.key ≡ leading p f.now }
-    ensures coefficient { result.now.coefficient ≡ coefficient f.now (leading p f.now) }
-    ensures nonzero { 0 < result.now.coefficient }
-    ensures residue { result.now.coefficient < p }
-{
-    match f.lead() {
-        Some(lead) => lead,
-        None => unreachable!(),
-    }
-}
-
-/// The coefficient.
-fn coefficient_of(t: &Term) -> Residue
-    ensures { result ≡ t.now.coefficient }
-{
-    t.coefficient
 }
 
 /// What stands before and behind the place of the part.
@@ -63,29 +42,24 @@ fn word_of(alloc: Global, letters: &[Letter]) -> Result<Word, AllocError>
     Word::join(alloc, &[], &[], letters)
 }
 
-/// The step that subtracts from c times the word: the multiple of the polynomial whose leading word stands at the hit's
-/// place, with the coefficient that takes the word off.
+/// The step that subtracts from c times the word: the multiple of the entry whose leading word stands at the hit's place,
+/// with the coefficient that takes the word off.
 pub(crate) fn step_at(
     alloc: Global,
     p: Prime,
     c: Residue,
     word: &Word,
-    divisor: &Poly,
+    divisor: &Entry,
     hit: Hit,
 ) -> Result<Step, AllocError>
     requires residue { c < p }
-    requires normal { IsNormal p divisor.now }
-    requires some { divisor.now ≢ [] }
-    requires stands { OccursAt (leading p divisor.now) word.now hit.place }
-    ensures spells { IfOk result (λ s. s.left ++ (leading p divisor.now ++ s.right) ≡ word.now) }
-    ensures place { IfOk result (λ s. length s.left ≡ hit.place) }
-    ensures number { IfOk result (λ s. s.number ≡ hit.number) }
-    ensures below { IfOk result (λ s. s.coefficient < p) }
-    ensures cancels { IfOk result (λ s. s.coefficient * coefficient divisor.now
-        (leading p divisor.now) % p ≡ c) }
+    requires normal { IsNormal p divisor.now.polynomial }
+    requires stands { OccursAt (leading p divisor.now.polynomial) word.now hit.place }
+    ensures { IfOk result (λ s. IsStepAt p (record { coefficient = c; key = word.now })
+        divisor.now.polynomial hit s) }
 {
-    let lead = lead_of(p, divisor);
-    let coefficient = quotient(p, c, coefficient_of(lead));
+    let coefficient = quotient(p, c, divisor.lead_coefficient());
+    let lead = divisor.lead();
     let (front, back) = around(word.letters(), lead.letters(), hit.place);
     let left = word_of(alloc, front)?;
     let right = word_of(alloc, back)?;

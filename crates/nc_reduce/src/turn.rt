@@ -65,8 +65,8 @@ pub(crate) fn take_turn(
     let Some(hit) = leads.first_regular(word.letters(), bound) else {
         return Ok(Turn::Kept(take_lead(rest)));
     };
-    let divisor = snapshot.entry(hit.number).poly();
+    let divisor = snapshot.entry(hit.number);
     let step = step_at(alloc, p, *c, word, divisor, hit)?;
-    subtract(alloc, p, &step, divisor, rest)?;
+    subtract(alloc, p, &step, divisor.poly(), rest)?;
     Ok(Turn::Subtracted(step))
 }

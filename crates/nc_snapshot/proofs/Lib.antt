@@ -1,4 +1,5 @@
 pub mod Founds
+pub mod Leads
 pub mod Limits
 pub mod Steps
 pub mod Snapshots

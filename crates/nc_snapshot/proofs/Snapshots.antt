@@ -3,7 +3,7 @@
 -- and are canonical (`snapshot_canonical`), and what the next outcome brings is greater
 -- (`snapshot_ascends`).
 use Rattle.nc_algebra.proofs.Primes.{field_from_prime}
-use Rattle.nc_algebra.specs.Elements.{IsLess}
+use Rattle.nc_algebra.specs.Elements.{IsGenerator, IsLess}
 use Rattle.nc_algebra.specs.Monomials.{Monomial}
 use Rattle.nc_algebra.specs.Primes.{IsField, IsPrime}
 use Rattle.nc_field.proofs.Primes.{listed_is_prime}
@@ -20,6 +20,7 @@ use Rattle.nc_snapshot.specs.Snapshots.{IsSnapshot, Snapshot}
 use Rattle.nc_theory.specs.Runs.{BringsAmbiguity, Handles, Outcome}
 use Rattle.nc_theory.specs.States.{Entry}
 use Rattle.std.proofs.Common.{Some, sym, ℕ, ◌≡◌}
+use Rattle.std.proofs.lemmas.Option.{get_or_from_slice_get, slice_get_within}
 use Rattle.std.specs.List.{All, slice_get}
 
 module _ (s : Snapshot) (h : IsSnapshot s) where
@@ -35,6 +36,16 @@ module _ (s : Snapshot) (h : IsSnapshot s) where
   pub entry_usable : (i : ℕ) (e : Entry) → slice_get s.state.entries i ≡ Some e
       → IsUsable s.problem.problem.setting e
   entry_usable = usable_at s.problem.problem.setting s.state.entries snapshot_usable
+
+  -- the generator of an entry's signature is one of the setting
+  pub entry_generator : (i : ℕ) (e : Entry) → slice_get s.state.entries i ≡ Some e
+      → IsGenerator s.problem.problem.setting e.signature.generator
+  entry_generator i e at =
+      ((facts s.problem h.problem snapshot_prime s.handled s.state h.run).entries_within e (
+        i,
+        slice_get_within s.state.entries i e at,
+        get_or_from_slice_get s.state.entries i e e at,
+      )).0.0
 
   pub snapshot_canonical : AreCanonical s.problem.problem.setting s.state
   snapshot_canonical = canonical s.problem.problem snapshot_prime s.handled s.state h.run

@@ -1,18 +1,29 @@
 -- A snapshot with what becomes of the next signature is a snapshot.
 -- It stands for one step more of the run (`snapshot_goes_on`). `added_stands`, `added_degrees` and
 -- `added_state` say so of what code keeps.
-use Rattle.nc_algebra.specs.Elements.{HasDegree}
-use Rattle.nc_algebra.specs.Monomials.{Sig, monomial_of}
+use Rattle.nc_algebra.specs.Elements.{HasDegree, Setting}
+use Rattle.nc_algebra.specs.Monomials.{Monomial, Sig, monomial_of}
 use Rattle.nc_algebra.specs.Problems.{IsProblem, NamedProblem}
 use Rattle.nc_theory.proofs.UntracedRuns.{steps}
 use Rattle.nc_theory.specs.Untraced.{IsNextOfRun, IsRunOf, untraced}
 use Rattle.nc_snapshot.proofs.Founds.{found_degrees, found_state}
-use Rattle.nc_snapshot.specs.Outcomes.{found_after, outcome_of}
+use Rattle.nc_snapshot.proofs.Leads.{some_terms}
+use Rattle.nc_snapshot.specs.Outcomes.{HasTerms, found_after, outcome_of}
 use Rattle.nc_snapshot.specs.Snapshots.{Found, HasDegrees, IsSnapshot, Snapshot, state_of}
 use Rattle.nc_snapshot.specs.declared.outcome.Outcome.{Outcome}
-use Rattle.nc_theory.specs.Runs.{Handles, SequentialRun, opening, state_after}
+use Rattle.nc_theory.specs.Runs.{Handles, Outcome as Result, SequentialRun, opening, state_after}
+use Rattle.nc_theory.specs.States.{State}
 use Rattle.std.proofs.lemmas.List.Elements.{All-nil}
 use Rattle.std.proofs.Common.{None, [], ap, arith, refl, subst, sym, ℕ, ◌+◌, ◌<◌, ◌∙◌, ◌≡◌}
+
+-- a new entry is not zero
+pub handled_some : (s : Setting) (state : State) (τ : Monomial) (o : Result)
+    → Handles s state τ o → HasTerms o
+handled_some s state τ o (Handles.is_covered c) = tt
+handled_some s state τ o (Handles.is_settled n u w d best r) = tt
+handled_some s state τ o (Handles.is_syzygy n starts reduces) = tt
+handled_some s state τ o (Handles.is_entry n {kept = kept} {t = t} starts reduces) =
+    some_terms t kept
 
 -- nothing is handled at first
 pub snapshot_opens : (P : NamedProblem) → IsProblem P

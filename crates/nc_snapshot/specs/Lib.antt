@@ -1,3 +1,4 @@
+pub mod Leads
 pub mod Outcomes
 pub mod Snapshots
 pub mod Traces

@@ -7,7 +7,7 @@ use Rattle.nc_snapshot.specs.Snapshots.{Found}
 use Rattle.nc_snapshot.specs.declared.outcome.Outcome.{Outcome}
 use Rattle.nc_snapshot.specs.declared.outcome.Outcome.TheVariants.{Covered, Entry, Settled, Syzygy}
 use Rattle.nc_theory.specs.Runs.{Outcome as Result}
-use Rattle.std.specs.Prelude.{[], ◌+◌, ◌++◌, ◌∷◌}
+use Rattle.std.specs.Prelude.{[], ◌+◌, ◌++◌, ◌∷◌, ◌≢◌}
 
 -- the variants as the theory has them
 abbrev pub outcome_of : Outcome → Result
@@ -15,6 +15,13 @@ outcome_of Covered = Result.covered
 outcome_of (Settled j) = Result.settled j
 outcome_of (Entry f trace) = Result.an_entry f trace
 outcome_of (Syzygy trace) = Result.a_syzygy trace
+
+-- a new entry is not zero
+abbrev pub HasTerms : Result → Type 0
+HasTerms Result.covered = Unit {0}
+HasTerms (Result.settled j) = Unit {0}
+HasTerms (Result.an_entry f trace) = f ≢ []
+HasTerms (Result.a_syzygy trace) = Unit {0}
 
 -- what was found, with what becomes of σ
 abbrev pub found_after : Found → Sig → Outcome → Found

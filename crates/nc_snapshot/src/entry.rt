@@ -1,10 +1,13 @@
 //! Entries and syzygies, without their traces.
 
-ghost use Rattle.nc_algebra.specs.Monomials.{monomial_of};
-ghost use Rattle.std.specs.Prelude.{◌≡◌};
+ghost use Rattle.nc_algebra.specs.Polynomials.{Polynomial};
+ghost use Rattle.nc_snapshot.specs.Leads.{IsLeadCoefficientOf, IsLeadOf};
+ghost use Rattle.std.specs.Prelude.{[], ◌<◌, ◌∷◌, ◌≡◌, ◌≢◌};
 
-use nc_poly::Poly;
+use nc_field::Residue;
+use nc_poly::{Poly, Term};
 use nc_sig::Sig;
+use nc_words::Word;
 use std::marker::Model;
 use std::sync::Arc;
 
@@ -17,15 +20,19 @@ pub struct Entry {
 
 impl Model for Entry {
     ghost use Rattle.nc_snapshot.specs.Snapshots.{Signed};
+    ghost use Rattle.std.specs.Prelude.{[], ◌≢◌};
 
     ghost Value = { Signed };
 
     ghost view = { λ e. record { sig = e.sig.value; polynomial = e.poly } };
+
+    ghost invariant = { λ e. e.poly ≢ [] };
 }
 
 impl Entry {
     /// The signature with this polynomial.
     pub(crate) fn of(sig: Arc<Sig>, poly: Poly) -> Entry
+        requires { poly ≢ [] }
         ensures { result ≡ record { sig = sig.value; polynomial = poly } }
     {
         Entry { sig, poly }
@@ -43,6 +50,31 @@ impl Entry {
         ensures { result.now ≡ self.now.polynomial }
     {
         &self.poly
+    }
+
+    /// The leading term.
+    fn lead_term(&self) -> &Term
+        ensures first { (others : Polynomial) × (self.now.polynomial ≡ result.now ∷ others) }
+        ensures some { 0 < result.now.coefficient }
+    {
+        let terms = self.poly.terms();
+        &terms[0]
+    }
+
+    /// The leading word.
+    pub fn lead(&self) -> &Word
+        ensures { IsLeadOf self.now.polynomial result.now }
+    {
+        let term = self.lead_term();
+        &term.word
+    }
+
+    /// The coefficient of the leading word.
+    pub fn lead_coefficient(&self) -> Residue
+        ensures { IsLeadCoefficientOf self.now.polynomial result }
+    {
+        let term = self.lead_term();
+        term.coefficient
     }
 
     /// The polynomial by itself.

@@ -1,8 +1,8 @@
 //! What a run has found.
 
-ghost use Rattle.nc_snapshot.specs.Outcomes.{found_after, outcome_of};
+ghost use Rattle.nc_snapshot.specs.Outcomes.{HasTerms, found_after, outcome_of};
 ghost use Rattle.nc_snapshot.specs.declared.outcome.Outcome.TheVariants.{Entry as NewEntry, Syzygy as NewSyzygy};
-ghost use Rattle.std.specs.Prelude.{IfErr, IfOk, OnErr, OnOk, [], get_or, length, ◌+◌, ◌<◌, ◌≡◌};
+ghost use Rattle.std.specs.Prelude.{IfErr, IfOk, OnErr, OnOk, [], get_or, length, ◌+◌, ◌<◌, ◌≡◌, ◌≢◌};
 
 use crate::entry::{Entry, Syzygy};
 use crate::outcome::Outcome;
@@ -125,6 +125,7 @@ impl Found {
         poly: Poly,
         trace: Trace,
     ) -> Result<(), AllocFailed<Outcome>>
+        requires some { poly ≢ [] }
         ensures added { OnOk result (self.new ≡ found_after self.old sig.value
             (NewEntry poly trace)) }
         ensures unchanged { OnErr result (self.new ≡ self.old) }
@@ -147,6 +148,7 @@ impl Found {
     ) -> Result<(), AllocFailed<Outcome>>
         requires covered { self.old.covered < 18446744073709551615 }
         requires settled { self.old.settled < 18446744073709551615 }
+        requires some { HasTerms (outcome_of outcome) }
         ensures added { OnOk result (self.new ≡ found_after self.old sig.value outcome) }
         ensures unchanged { OnErr result (self.new ≡ self.old) }
         ensures returned { IfErr result (λ e. outcome_of e.value ≡ outcome_of outcome) }

@@ -5,6 +5,7 @@ ghost use Rattle.nc_algebra.specs.Monomials.{Monomial, monomial_of};
 ghost use Rattle.nc_algebra.specs.Problems.{IsProblem};
 ghost use Rattle.nc_theory.specs.EndBases.{AreCanonical};
 ghost use Rattle.nc_theory.specs.Untraced.{IsNextOfRun, untraced};
+ghost use Rattle.nc_snapshot.specs.Leads.{IsLeadAt};
 ghost use Rattle.nc_snapshot.specs.Outcomes.{outcome_of};
 ghost use Rattle.nc_snapshot.specs.Snapshots.{IsSnapshot, entry_of, syzygy_of};
 ghost use Rattle.nc_theory.specs.Runs.{BringsAmbiguity, Handles, opening, state_after};
@@ -12,6 +13,7 @@ ghost use Rattle.std.specs.Prelude.{IfErr, IfOk, OnErr, OnOk, Some, length, slic
 
 use crate::entry::{Entry, Syzygy};
 use crate::found::Found;
+use crate::lead::Lead;
 use crate::outcome::Outcome;
 use nc_module::Problem;
 use nc_sig::Sig;
@@ -122,6 +124,20 @@ impl Snapshot {
         ensures degree { HasDegree self.now.problem.problem.setting result.now.sig }
     {
         self.found.entry(n as usize - 1)
+    }
+
+    /// The leading word of the entry with this number, and its signature.
+    pub fn lead(&self, n: u32) -> Lead<'_>
+        requires some { 1 ≤ n }
+        requires within { n ≤ length self.now.state.entries }
+        ensures { IsLeadAt self.now.problem.problem.setting self.now.state.entries (n - 1) result }
+    {
+        self.recall_rule();
+        let entry = self.entry(n);
+        Lead {
+            word: entry.lead(),
+            sig: entry.sig(),
+        }
     }
 
     /// The syzygy with this number; they are counted from 1.

@@ -15,6 +15,6 @@ returns c =
       right = c.in_ok-first.third.now;
     } in
     lead_found c.args.snapshot.now.problem.problem.setting c.args.snapshot.now.state.entries
-    (monomial_of c.args.sig.now) (c.args.number - 1) c.of-lead.result b c.of-lead.ensures
+    (monomial_of c.args.sig.now) (c.args.number - 1) c.lead-lead.result b c.lead-lead.ensures
     c.in_ok-first.ensures (ap (λ l. c.in_ok-first.first.now ++ (l ++ c.in_ok-first.third.now))
     c.letters-second.ensures.letters) (omega (arith, c.requires.some))

@@ -6,7 +6,7 @@ use Rattle.nc_overlap.proofs.Leads.{some_entry}
 use Rattle.nc_overlap.proofs.Lists.{all_left, ascending_left, same_left}
 use Rattle.nc_overlap.proofs.New.{found_degrees, found_exact}
 use Rattle.nc_overlap.specs.Overlaps.{AddsMeetings, IsLedBy}
-use Rattle.nc_overlap.specs.declared.meeting.Lead.{Lead}
+use Rattle.nc_snapshot.specs.declared.lead.Lead.{Lead}
 use Rattle.std.proofs.Common.{List, ap, map, subst, sym, ◌∙◌, ◌≡◌}
 use Rattle.std.specs.Arc.{arc_value}
 use Rattle.nc_overlap.proofs.found.signatures.Goals as goal
@@ -20,14 +20,14 @@ returns-clause-ascending c =
 pub returns-clause-degrees : goal.returns-clause-degrees
 returns-clause-degrees c =
     let P : Problem = c.args.snapshot.now.problem.problem in
-    let l : Lead = record { word = c.letters.result; sig = c.deref.result } in
+    let l : Lead = record { word = c.args.lead; sig = c.deref.result } in
     let x : List Sig = map arc_value c.add_pair.new.found.items in
     let y : List Sig = map arc_value c.add_entries.new.found.items in
     let is : c.deref-2.result.now ≡ c.args.snapshot.now.problem =
     c.deref-2.ensures ∙ c.problem.ensures.problem in
     let some =
     some_entry P.setting.prime (snapshot_prime c.args.snapshot.now
-    c.problem.ensures.snapshot).above_one c.letters.result.now
+    c.problem.ensures.snapshot).above_one c.args.lead.now
     (monomial_of c.deref.result.now) in
     let led : IsLedBy P.setting l some.0 = record { lead = some.1; signed = some.2 } in
     let itself : AddsMeetings P l l (map arc_value c.new-found.result.items) x =
@@ -44,14 +44,14 @@ returns-clause-degrees c =
 pub returns-clause-exact : goal.returns-clause-exact
 returns-clause-exact c new signed lead ρ =
     let P : Problem = c.args.snapshot.now.problem.problem in
-    let l : Lead = record { word = c.letters.result; sig = c.deref.result } in
+    let l : Lead = record { word = c.args.lead; sig = c.deref.result } in
     let x : List Sig = map arc_value c.add_pair.new.found.items in
     let y : List Sig = map arc_value c.add_entries.new.found.items in
     let is : c.deref-2.result.now ≡ c.args.snapshot.now.problem =
     c.deref-2.ensures ∙ c.problem.ensures.problem in
     let led : IsLedBy P.setting l new =
     record {
-      lead = lead ∙ sym c.letters.ensures.letters;
+      lead = lead;
       signed = signed ∙ ap monomial_of (sym c.deref.ensures);
     } in
     let itself : AddsMeetings P l l (map arc_value c.new-found.result.items) x =

@@ -1,6 +1,4 @@
-use Rattle.nc_algebra.specs.Elements.{HasDegree}
-use Rattle.nc_algebra.specs.Monomials.{monomial_of}
-use Rattle.nc_algebra.specs.Problems.{Bound, NamedProblem}
+use Rattle.nc_algebra.specs.Problems.{NamedProblem}
 use Rattle.nc_module.specs.Problems.{HasBoundDegree, bound_of}
 use Rattle.nc_reduce.proofs.Limits.{limit_copied}
 use Rattle.std.proofs.Common.{ap, subst, sym, ◌∙◌, ◌≡◌}

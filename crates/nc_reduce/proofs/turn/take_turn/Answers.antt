@@ -1,127 +1,84 @@
-use Rattle.nc_snapshot.proofs.Snapshots.{snapshot_usable}
-use Rattle.nc_reduce.proofs.Turns.{divisor_normal, divisor_some, divisor_stands, hit_turn, hit_within, none_turn, step_few, turn_residue}
-use Rattle.nc_snapshot.specs.Snapshots.{entry_of}
+use Rattle.nc_algebra.specs.Polynomials.{AreResidues}
+use Rattle.nc_reduce.proofs.Turns.{IsDivisorOf, IsTurning, hit_divides, hit_turn, hit_within, none_turn, step_few}
+use Rattle.nc_reduce.proofs.turn.take_turn.Goals.{After-entry-divisor, In-Some, In-Some-first_regular}
+use Rattle.std.proofs.Common.{subst, sym}
 use Rattle.nc_reduce.proofs.turn.take_turn.Goals as goal
 
-pub returns-in_default-first_regular : goal.returns-in_default-first_regular
-returns-in_default-first_regular c =
-    record {
-      turn = none_turn c.leads_law.ensures c.args.snapshot.now.problem.problem.setting
-          c.args.snapshot.now.state.entries
-          (snapshot_usable c.args.snapshot.now c.prime_of-p.ensures.snapshot) c.args.bound.now
-          c.args.leads.now c.requires.leads
-          c.args.rest.now c.requires.normal
-          (record { coefficient = c.in-Some.c.now; key = c.in-Some.word.now })
-          c.in-Some.ensures.some.0 c.in-Some.ensures.some.1 c.letters.result.now
-          c.letters.ensures.letters c.in_default-first_regular.ensures c.take_lead.result
-          c.take_lead.new.rest c.take_lead.ensures;
-    }
-
-pub entry-requires-clause-within : goal.entry-requires-clause-within
-entry-requires-clause-within c =
-    hit_within c.leads_law.ensures c.args.snapshot.now.problem.problem.setting
-    c.args.snapshot.now.state.entries
-    (snapshot_usable c.args.snapshot.now c.prime_of-p.ensures.snapshot) c.args.bound.now
-    c.args.leads.now c.requires.leads
-    c.args.rest.now c.requires.normal
+-- what is known where the turn begins
+turning : (c : In-Some) → IsTurning c.args.snapshot.now c.args.leads.now c.args.rest.now
     (record { coefficient = c.in-Some.c.now; key = c.in-Some.word.now })
-    c.in-Some.ensures.some.0 c.in-Some.ensures.some.1 c.letters.result.now
-    c.letters.ensures.letters c.in-Some-first_regular.hit c.in-Some-first_regular.ensures
+turning c = record {
+  law = c.leads_law.ensures;
+  is = c.prime_of-p.ensures.snapshot;
+  listed = c.requires.leads;
+  normal = c.requires.normal;
+  others = c.in-Some.ensures.some.0;
+  parts = c.in-Some.ensures.some.1;
+}
+
+-- what holds of the divisor that was found
+divides : (c : After-entry-divisor) → IsTurning c.args.snapshot.now c.args.leads.now
+    c.args.rest.now (record { coefficient = c.in-Some.c.now; key = c.in-Some.word.now })
+    → IsDivisorOf c.prime_of-p.result
+    (record { coefficient = c.in-Some.c.now; key = c.in-Some.word.now })
+    c.in-Some-first_regular.hit c.entry-divisor.result.now.polynomial
+divides c t =
+    hit_divides c.args.snapshot.now c.args.leads.now c.args.rest.now _ t c.args.bound.now
+    c.letters.result.now c.letters.ensures.letters c.in-Some-first_regular.hit
+    c.in-Some-first_regular.ensures c.entry-divisor.result.now c.entry-divisor.ensures.entry
+    c.prime_of-p.result c.prime_of-p.ensures.prime
+
+pub returns-in_default-first_regular : goal.returns-in_default-first_regular
+returns-in_default-first_regular c = record {
+  turn = none_turn c.args.snapshot.now c.args.leads.now c.args.rest.now _
+      (turning (goal.at.returns-in_default-first_regular c).In-Some) c.args.bound.now
+      c.letters.result.now c.letters.ensures.letters c.in_default-first_regular.ensures
+      c.take_lead.result c.take_lead.new.rest c.take_lead.ensures;
+}
+
+pub entry-divisor-requires-clause-within : goal.entry-divisor-requires-clause-within
+entry-divisor-requires-clause-within c =
+    hit_within c.args.snapshot.now c.args.leads.now c.args.rest.now _
+    (turning (goal.at.entry-divisor-requires-clause-within c).In-Some) c.args.bound.now
+    c.letters.result.now c.letters.ensures.letters c.in-Some-first_regular.hit
+    c.in-Some-first_regular.ensures
 
 pub step_at-requires-clause-residue : goal.step_at-requires-clause-residue
 step_at-requires-clause-residue c =
-    turn_residue c.leads_law.ensures c.args.snapshot.now.problem.problem.setting
-    c.args.snapshot.now.state.entries
-    (snapshot_usable c.args.snapshot.now c.prime_of-p.ensures.snapshot) c.args.bound.now
-    c.args.leads.now c.requires.leads
-    c.args.rest.now c.requires.normal
-    (record { coefficient = c.in-Some.c.now; key = c.in-Some.word.now })
-    c.in-Some.ensures.some.0 c.in-Some.ensures.some.1 c.letters.result.now
-    c.letters.ensures.letters c.in-Some-first_regular.hit c.in-Some-first_regular.ensures
-    (entry_of c.entry.result.now) c.entry.ensures.entry c.poly-divisor.result.now
-    c.poly-divisor.ensures c.prime_of-p.result c.prime_of-p.ensures.prime
+    (divides (goal.at.step_at-requires-clause-residue c).After-entry-divisor
+    (turning (goal.at.step_at-requires-clause-residue c).In-Some)).residue
 
 pub step_at-requires-clause-normal : goal.step_at-requires-clause-normal
 step_at-requires-clause-normal c =
-    divisor_normal c.leads_law.ensures c.args.snapshot.now.problem.problem.setting
-    c.args.snapshot.now.state.entries
-    (snapshot_usable c.args.snapshot.now c.prime_of-p.ensures.snapshot) c.args.bound.now
-    c.args.leads.now c.requires.leads
-    c.args.rest.now c.requires.normal
-    (record { coefficient = c.in-Some.c.now; key = c.in-Some.word.now })
-    c.in-Some.ensures.some.0 c.in-Some.ensures.some.1 c.letters.result.now
-    c.letters.ensures.letters c.in-Some-first_regular.hit c.in-Some-first_regular.ensures
-    (entry_of c.entry.result.now) c.entry.ensures.entry c.poly-divisor.result.now
-    c.poly-divisor.ensures c.prime_of-p.result c.prime_of-p.ensures.prime
-
-pub step_at-requires-clause-some : goal.step_at-requires-clause-some
-step_at-requires-clause-some c =
-    divisor_some c.leads_law.ensures c.args.snapshot.now.problem.problem.setting
-    c.args.snapshot.now.state.entries
-    (snapshot_usable c.args.snapshot.now c.prime_of-p.ensures.snapshot) c.args.bound.now
-    c.args.leads.now c.requires.leads
-    c.args.rest.now c.requires.normal
-    (record { coefficient = c.in-Some.c.now; key = c.in-Some.word.now })
-    c.in-Some.ensures.some.0 c.in-Some.ensures.some.1 c.letters.result.now
-    c.letters.ensures.letters c.in-Some-first_regular.hit c.in-Some-first_regular.ensures
-    (entry_of c.entry.result.now) c.entry.ensures.entry c.poly-divisor.result.now
-    c.poly-divisor.ensures c.prime_of-p.result c.prime_of-p.ensures.prime
+    (divides (goal.at.step_at-requires-clause-normal c).After-entry-divisor
+    (turning (goal.at.step_at-requires-clause-normal c).In-Some)).normal
 
 pub step_at-requires-clause-stands : goal.step_at-requires-clause-stands
 step_at-requires-clause-stands c =
-    divisor_stands c.leads_law.ensures c.args.snapshot.now.problem.problem.setting
-    c.args.snapshot.now.state.entries
-    (snapshot_usable c.args.snapshot.now c.prime_of-p.ensures.snapshot) c.args.bound.now
-    c.args.leads.now c.requires.leads
-    c.args.rest.now c.requires.normal
-    (record { coefficient = c.in-Some.c.now; key = c.in-Some.word.now })
-    c.in-Some.ensures.some.0 c.in-Some.ensures.some.1 c.letters.result.now
-    c.letters.ensures.letters c.in-Some-first_regular.hit c.in-Some-first_regular.ensures
-    (entry_of c.entry.result.now) c.entry.ensures.entry c.poly-divisor.result.now
-    c.poly-divisor.ensures c.prime_of-p.result c.prime_of-p.ensures.prime
+    (divides (goal.at.step_at-requires-clause-stands c).After-entry-divisor
+    (turning (goal.at.step_at-requires-clause-stands c).In-Some)).stands
 
 pub subtract-requires-clause-other_residues : goal.subtract-requires-clause-other_residues
 subtract-requires-clause-other_residues c =
-    (divisor_normal c.leads_law.ensures c.args.snapshot.now.problem.problem.setting
-    c.args.snapshot.now.state.entries
-    (snapshot_usable c.args.snapshot.now c.prime_of-p.ensures.snapshot) c.args.bound.now
-    c.args.leads.now c.requires.leads
-    c.args.rest.now c.requires.normal
-    (record { coefficient = c.in-Some.c.now; key = c.in-Some.word.now })
-    c.in-Some.ensures.some.0 c.in-Some.ensures.some.1 c.letters.result.now
-    c.letters.ensures.letters c.in-Some-first_regular.hit c.in-Some-first_regular.ensures
-    (entry_of c.entry.result.now) c.entry.ensures.entry c.poly-divisor.result.now
-    c.poly-divisor.ensures c.prime_of-p.result c.prime_of-p.ensures.prime).1
+    subst (AreResidues c.prime_of-p.result) (sym c.poly.ensures)
+    (divides (goal.at.subtract-requires-clause-other_residues c).After-entry-divisor
+    (turning (goal.at.subtract-requires-clause-other_residues c).In-Some)).normal.1
 
 pub subtract-requires-clause-few : goal.subtract-requires-clause-few
 subtract-requires-clause-few c =
-    step_few c.leads_law.ensures c.args.snapshot.now.problem.problem.setting
-    c.args.snapshot.now.state.entries
-    (snapshot_usable c.args.snapshot.now c.prime_of-p.ensures.snapshot) c.args.bound.now
-    c.args.leads.now c.requires.leads
-    c.args.rest.now c.requires.normal
-    (record { coefficient = c.in-Some.c.now; key = c.in-Some.word.now })
-    c.in-Some.ensures.some.0 c.in-Some.ensures.some.1 c.letters.result.now
-    c.letters.ensures.letters c.in-Some-first_regular.hit c.in-Some-first_regular.ensures
-    (entry_of c.entry.result.now) c.entry.ensures.entry c.poly-divisor.result.now
-    c.poly-divisor.ensures c.prime_of-p.result c.prime_of-p.ensures.prime
-    c.in_ok-step.step c.in_ok-step.ensures.spells c.in_ok-step.ensures.place
-    c.in_ok-step.ensures.number c.requires.small
+    step_few c.args.snapshot.now c.args.leads.now c.args.rest.now _
+    (turning (goal.at.subtract-requires-clause-few c).In-Some) c.args.bound.now
+    c.letters.result.now c.letters.ensures.letters c.in-Some-first_regular.hit
+    c.in-Some-first_regular.ensures c.entry-divisor.result.now c.entry-divisor.ensures.entry
+    c.prime_of-p.result c.prime_of-p.ensures.prime c.in_ok-step.step c.in_ok-step.ensures
+    c.poly.result.now c.poly.ensures c.requires.small
 
 pub returns : goal.returns
-returns c =
-    record {
-      turn = hit_turn c.leads_law.ensures c.args.snapshot.now.problem.problem.setting
-          c.args.snapshot.now.state.entries
-          (snapshot_usable c.args.snapshot.now c.prime_of-p.ensures.snapshot) c.args.bound.now
-          c.args.leads.now c.requires.leads
-          c.args.rest.now c.requires.normal
-          (record { coefficient = c.in-Some.c.now; key = c.in-Some.word.now })
-          c.in-Some.ensures.some.0 c.in-Some.ensures.some.1 c.letters.result.now
-          c.letters.ensures.letters c.in-Some-first_regular.hit c.in-Some-first_regular.ensures
-          (entry_of c.entry.result.now) c.entry.ensures.entry c.poly-divisor.result.now
-          c.poly-divisor.ensures c.prime_of-p.result c.prime_of-p.ensures.prime
-          c.in_ok-step.step c.in_ok-step.ensures.spells c.in_ok-step.ensures.place
-          c.in_ok-step.ensures.number c.subtract.new.rest c.in_ok-step.ensures.below
-          c.in_ok-step.ensures.cancels c.in_ok-subtract.ensures;
-    }
+returns c = record {
+  turn = hit_turn c.args.snapshot.now c.args.leads.now c.args.rest.now _
+      (turning (goal.at.returns c).In-Some) c.args.bound.now c.letters.result.now
+      c.letters.ensures.letters c.in-Some-first_regular.hit c.in-Some-first_regular.ensures
+      c.entry-divisor.result.now c.entry-divisor.ensures.entry c.prime_of-p.result
+      c.prime_of-p.ensures.prime c.in_ok-step.step c.in_ok-step.ensures c.poly.result.now
+      c.poly.ensures c.subtract.new.rest c.in_ok-subtract.ensures;
+}

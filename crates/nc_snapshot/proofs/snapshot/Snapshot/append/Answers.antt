@@ -1,6 +1,6 @@
 use Rattle.nc_snapshot.proofs.Limits.{found_counts}
 use Rattle.nc_snapshot.proofs.Snapshots.{snapshot_ascends, snapshot_canonical}
-use Rattle.nc_snapshot.proofs.Steps.{added_degrees, added_stands, added_state}
+use Rattle.nc_snapshot.proofs.Steps.{added_degrees, added_stands, added_state, handled_some}
 use Rattle.nc_snapshot.proofs.snapshot.Snapshot.append.Goals as goal
 use Rattle.nc_snapshot.specs.Outcomes.{outcome_of}
 use Rattle.nc_snapshot.specs.Snapshots.{IsSnapshot, state_of}
@@ -14,6 +14,11 @@ add-requires-clause-covered c =
 pub add-requires-clause-settled : goal.add-requires-clause-settled
 add-requires-clause-settled c =
     omega (arith, found_counts _ c.self.inside.found refl c.self.invariant.0)
+
+pub add-requires-clause-some : goal.add-requires-clause-some
+add-requires-clause-some c =
+    handled_some c.args.self.now.problem.problem.setting c.args.self.now.state
+    (monomial_of c.args.sig.value) (outcome_of c.args.outcome) c.requires.outcome
 
 pub invariant_of-self-2 : goal.invariant_of-self-2
 invariant_of-self-2 c = (
