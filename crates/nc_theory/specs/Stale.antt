@@ -2,10 +2,11 @@
 --
 -- Workers handle signatures while the run goes on, so an outcome may be asked for later than it was
 -- found. An older state of a run is the front of a newer one: what was found since stands behind
--- it. So what is newer is told by its place, and not by its value. Such an outcome stands exactly if it is `covered`, or if nothing newer bears on it: no newer
--- syzygy signature covers τ, no newer entry has a multiple at τ with a lesser word than the best
--- one, and no newer entry gives a regular divisor of a word that was kept. Where τ was settled, the
--- word of the best multiple takes the place of the kept words.
+-- it. So what is newer is told by its place, and not by its value. Such an outcome stands exactly
+-- if it is `covered`, or if nothing newer bears on it: no newer syzygy signature covers τ, no newer
+-- entry has a multiple at τ with a lesser word than the best one, and no newer entry gives a
+-- regular divisor of a word that was kept. Where τ was settled, the word of the best multiple takes
+-- the place of the kept words.
 --
 -- A newer multiple with an equal word does no harm, because the earlier entry wins. For the same
 -- reason the steps of the reduction stay what they are. The law is `StaleLaw`.

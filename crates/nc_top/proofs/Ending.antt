@@ -52,7 +52,10 @@ module _ (s : Snapshot) (h : IsSnapshot s) where
   among entries syzygies are run a (EntryOf k) l = (
     get_or entries (k - 1) [],
     subst (λ (r : State). IsLabelOf setting r (EntryOf k) (get_or entries (k - 1) []))
-        (one_run s h are.entries_are.at.run run (are.entries_are.at.last, are.entries_are.at.runs) a)
+        (one_run s h are.entries_are.at.run run (
+          are.entries_are.at.last,
+          are.entries_are.at.runs,
+        ) a)
         (are.entries_are.are k (get_or entries (k - 1) []) l.0
         (stands_at entries k l.0 (omega (
           arith,
@@ -65,7 +68,10 @@ module _ (s : Snapshot) (h : IsSnapshot s) where
   among entries syzygies are run a (SyzygyOf k) l = (
     get_or syzygies (k - 1) [],
     subst (λ (r : State). IsLabelOf setting r (SyzygyOf k) (get_or syzygies (k - 1) []))
-        (one_run s h are.syzygies_are.at.run run (are.syzygies_are.at.last, are.syzygies_are.at.runs) a)
+        (one_run s h are.syzygies_are.at.run run (
+          are.syzygies_are.at.last,
+          are.syzygies_are.at.runs,
+        ) a)
         (are.syzygies_are.are k (get_or syzygies (k - 1) []) l.0
         (stands_at syzygies k l.0 (omega (
           arith,

@@ -28,7 +28,8 @@ LeavesRest a =
 -- the steps were used up, and this is left of the claim
 abbrev pub StaysOpen : Asked → Polynomial → Type 0
 StaysOpen a =
-    IsOpen a.finished.now.snapshot.problem.problem a.finished.now.snapshot.handled a.finished.now.ending a.claim.now
+    IsOpen a.finished.now.snapshot.problem.problem a.finished.now.snapshot.handled
+    a.finished.now.ending a.claim.now
 
 -- the lines prove the claim
 abbrev pub AreLinesOf : Asked → List Line → Type 0
@@ -41,5 +42,5 @@ IsFoundOf a = IsMember a.finished.now a.claim.now a.options.limit
 -- the terms represent the claim
 abbrev pub AreTermsOf : Asked → List (Term Sig) → Type 0
 AreTermsOf a =
-    IsRepresented a.finished.now.snapshot.problem.problem a.finished.now.snapshot.handled a.claim.now
-    a.options.limit
+    IsRepresented a.finished.now.snapshot.problem.problem a.finished.now.snapshot.handled
+    a.claim.now a.options.limit

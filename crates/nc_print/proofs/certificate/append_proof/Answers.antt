@@ -9,7 +9,8 @@ returns-clause-text c =
     c.extend_from_slice-2.ensures.items
     (written_in_a_row c.args.setting.now c.args.claim.now c.args.lines.now _ _ _ _ _ _ _ _ refl
     c.names-names.ensures.names c.lines.ensures.lines c.in_ok-extend_from_slice.ensures.items
-    c.in_ok-append_setting.ensures.text c.in_ok-append_poly_line.ensures.text c.in_ok-append_lines.ensures.text)
+    c.in_ok-append_setting.ensures.text c.in_ok-append_poly_line.ensures.text
+    c.in_ok-append_lines.ensures.text)
 
 pub returns-clause-kept : goal.returns-clause-kept
 returns-clause-kept c =
