@@ -15,6 +15,7 @@
 -- has cofactors of its claim. In turn, the terms of a module element are a certificate of one line.
 use Rattle.nc_algebra.specs.Alphabets.{IsPolynomialIn, IsTextPolynomial, IsTextWord, IsWordIn}
 use Rattle.nc_algebra.specs.Elements.{Element, IsGenerator, SamePolynomial, Setting, element_times, generator}
+use Rattle.nc_algebra.specs.Limits.{max_reach}
 use Rattle.nc_algebra.specs.Monomials.{Monomial, unit_monomial}
 use Rattle.nc_algebra.specs.Polynomials.{Polynomial, normal_form, polynomial_times}
 use Rattle.nc_algebra.specs.Settings.{IsSetting, NamedSetting}
@@ -126,7 +127,7 @@ pub record IsPart (s : NamedSetting) (reaches : List ℕ) (part : Part) : Type 0
   pub factor : IsFactor s.setting (length reaches) part.of
   pub left : IsWordIn s.alphabet part.left
   pub right : IsWordIn s.alphabet part.right
-  pub short : part_reach s.setting reaches part ≤ 100000
+  pub short : part_reach s.setting reaches part ≤ max_reach
 
 -- lines behind those with these reaches
 abbrev pub AreLines : NamedSetting → List ℕ → List Line → Type 0

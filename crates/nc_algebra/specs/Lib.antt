@@ -6,6 +6,7 @@ pub mod Sums
 pub mod Monomials
 pub mod Polynomials
 pub mod Elements
+pub mod Limits
 pub mod Problems
 pub mod Finite
 pub mod Alphabets

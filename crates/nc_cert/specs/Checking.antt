@@ -5,6 +5,7 @@
 -- if it is valid.
 use Rattle.nc_algebra.specs.Certificates.{Certificate, IsValid, Line, rest_of, values_of}
 use Rattle.nc_algebra.specs.Elements.{Setting}
+use Rattle.nc_algebra.specs.Limits.{max_charge}
 use Rattle.nc_algebra.specs.Polynomials.{Polynomial, normal_form}
 use Rattle.nc_cert.specs.Charges.{Charge, IsTooMuch, IsChargeWithin, charges_of, total}
 use Rattle.nc_cert.specs.Spent.{letter_count}
@@ -37,7 +38,7 @@ IsVerdictWithin limit c (verdicts.TooMuch line charge) =
 
 -- the limit is 100,000,000
 abbrev pub IsVerdict : Certificate → Verdict → Type 0
-IsVerdict = IsVerdictWithin 100000000
+IsVerdict = IsVerdictWithin max_charge
 
 -- ---- the steps of the check
 

@@ -5,6 +5,7 @@
 -- its turn comes, for its reach is limited.
 use Rattle.nc_algebra.specs.Certificates.{IsFactor, Part, factor_value}
 use Rattle.nc_algebra.specs.Elements.{Setting}
+use Rattle.nc_algebra.specs.Limits.{max_letters}
 use Rattle.nc_algebra.specs.Polynomials.{AreResidues, Polynomial}
 use Rattle.std.specs.Prelude.{All, List, length, ◌+◌, ◌<◌, ◌≤◌}
 
@@ -14,5 +15,5 @@ pub record IsReadyPart (s : Setting) (values : List Polynomial) (part : Part) : 
   pub residue : part.coefficient < s.prime
   pub factor : IsFactor s (length values) part.of
   pub residues : AreResidues s.prime (factor_value s values part.of)
-  pub short : All (λ t. length part.left + length t.key + length part.right ≤ 200000)
+  pub short : All (λ t. length part.left + length t.key + length part.right ≤ max_letters)
       (factor_value s values part.of)

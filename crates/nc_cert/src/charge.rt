@@ -1,6 +1,7 @@
 //! The charges of parts.
 
 ghost use Rattle.nc_algebra.specs.Certificates.{IsFactor, factor_value};
+ghost use Rattle.nc_algebra.specs.Limits.{max_letters};
 ghost use Rattle.nc_cert.specs.Charges.{products_charge};
 ghost use Rattle.nc_cert.specs.Ready.{IsReadyPart};
 ghost use Rattle.nc_cert.specs.Spent.{IsSpending, kept_charge, letter_count};
@@ -57,9 +58,9 @@ fn factor_letters(
 /// What the products of a, words with so many letters in all, and b cost.
 fn charge_of(words: &[Term], letters: u128, a: &[Letter], b: &[Letter]) -> u128
     requires letters { letters ≡ letter_count words.now }
-    requires left { length a.now ≤ 200000 }
-    requires right { length b.now ≤ 200000 }
-    requires short { All (λ t. length a.now + length t.key + length b.now ≤ 200000) words.now }
+    requires left { length a.now ≤ max_letters }
+    requires right { length b.now ≤ max_letters }
+    requires short { All (λ t. length a.now + length t.key + length b.now ≤ max_letters) words.now }
     ensures value { result ≡ products_charge a.now words.now b.now }
     ensures few { result < 2 ^ 100 }
 {

@@ -1,6 +1,7 @@
 //! The check of a certificate.
 
 ghost use Rattle.nc_algebra.specs.Certificates.{AreLines};
+ghost use Rattle.nc_algebra.specs.Limits.{max_lines};
 ghost use Rattle.nc_algebra.specs.Polynomials.{IsNormal};
 ghost use Rattle.nc_algebra.specs.Settings.{IsSetting};
 ghost use Rattle.nc_cert.specs.Charges.{Charge, LimitLaw};
@@ -49,7 +50,7 @@ fn rest_within(
     requires setting { IsSetting setting.now }
     requires claim { IsNormal setting.now.setting.prime claim.now }
     requires lines { AreLines setting.now [] lines.now }
-    requires few { length lines.now ≤ 4000000000 }
+    requires few { length lines.now ≤ max_lines }
     ensures { IfOk result (IsRest limit setting.now.setting claim.now lines.now) }
 {
     let (last, before) = match lines.split_last() {

@@ -1,6 +1,7 @@
 //! The values of lines, within the limit.
 
 ghost use Rattle.nc_algebra.specs.Certificates.{AreLines};
+ghost use Rattle.nc_algebra.specs.Limits.{max_lines};
 ghost use Rattle.nc_cert.specs.Checking.{IsTaken};
 ghost use Rattle.nc_cert.specs.Spent.{letter_count};
 ghost use Rattle.std.specs.Prelude.{IfOk, [], length, map, ◌≡◌, ◌≤◌};
@@ -40,7 +41,7 @@ pub(crate) fn take_lines(
     lines: &[Line],
 ) -> Result<Taken, AllocError>
     requires lines { AreLines setting.now [] lines.now }
-    requires few { length lines.now ≤ 4000000000 }
+    requires few { length lines.now ≤ max_lines }
     requires generators { generators.now ≡ map letter_count setting.now.setting.generators }
     ensures { IfOk result (IsTaken limit setting.now.setting lines.now) }
 {

@@ -5,6 +5,7 @@
 -- conditions say when the multiples that a trace names can be added: all that is named is there,
 -- with residues and right degrees, and no degree passes a limit.
 use Rattle.nc_algebra.specs.Elements.{Element, HasDegree, IsGenerator, Setting}
+use Rattle.nc_algebra.specs.Limits.{max_degree}
 use Rattle.nc_algebra.specs.Monomials.{Sig, compare_sigs, same_monomial}
 use Rattle.nc_algebra.specs.Sums.{SameSum, Term}
 use Rattle.nc_algebra.specs.Words.{Word, word_weight}
@@ -25,7 +26,7 @@ pub record IsSum (s : Setting) (α : Element) (m : List (Term Sig)) : Type 0 whe
 pub record IsAddable (s : Setting) (u : Word) (m : List (Term Sig)) (v : Word) : Type 0 where
   pub residues : AreResiduesBy s.prime m
   pub degrees : All (λ t. HasDegree s t.key) m
-  pub light : All (λ t. word_weight u + t.key.degree + word_weight v ≤ 100000) m
+  pub light : All (λ t. word_weight u + t.key.degree + word_weight v ≤ max_degree) m
 
 -- the multiple by u and v of the label in place j, counted from 1
 pub record IsPlaced (s : Setting) (labels : List (List (Term Sig))) (u : Word) (j : ℕ)

@@ -1,5 +1,6 @@
 //! What sums of multiples of entries need, and the representations that they are.
 
+ghost use Rattle.nc_algebra.specs.Limits.{max_steps};
 ghost use Rattle.nc_cofactor.specs.Claims.{AreNeededFor, AreNeededTraces, AreSubtracted, FailsToRepresent, IsRepresentation};
 ghost use Rattle.nc_cofactor.specs.Needed.{AreNumbered};
 ghost use Rattle.nc_reduce.specs.Leads.{LeadsOf};
@@ -16,7 +17,7 @@ use std::alloc::{AllocError, Global};
 
 /// The traces that are there, each with its number: that of entry 1 is the last one of the stack.
 fn numbered(alloc: Global, stack: Vec<Option<Trace>>) -> Result<Vec<(u32, Trace)>, AllocError>
-    requires { length stack.items ≤ 1000000000 }
+    requires { length stack.items ≤ max_steps }
     ensures { IfOk result (λ l. AreNumbered stack.items l.items) }
 {
     let mut left = stack;

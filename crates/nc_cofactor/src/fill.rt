@@ -1,5 +1,6 @@
 //! The labels of the entries that are reached from marks, each made once.
 
+ghost use Rattle.nc_algebra.specs.Limits.{max_steps};
 ghost use Rattle.nc_cofactor.specs.Expanding.{AreNamedLabels, FailsToSum};
 ghost use Rattle.nc_cofactor.specs.Needed.{AreFilled, FailsToFill, IsNewLabel};
 ghost use Rattle.nc_reduce.specs.Leads.{LeadsOf};
@@ -23,7 +24,7 @@ fn next_label(
     slot: Option<Trace>,
     limit: u64,
 ) -> Result<Module, CofactorFault>
-    requires few { length labels.now ≤ 1000000000 }
+    requires few { length labels.now ≤ max_steps }
     requires named { (t : TraceValue) → slot ≡ Some t
         → AreNamedLabels snapshot.now.problem.problem snapshot.now.handled
         (EntryOf (length labels.now + 1)) t labels.now }

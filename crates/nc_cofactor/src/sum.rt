@@ -1,5 +1,6 @@
 //! Sums of multiples of module elements, merged as they come.
 
+ghost use Rattle.nc_algebra.specs.Limits.{max_letters};
 ghost use Rattle.nc_algebra.specs.Monomials.{compare_sigs};
 ghost use Rattle.nc_algebra.specs.Words.{word_weight};
 ghost use Rattle.nc_cofactor.specs.Sums.{IsAddable};
@@ -28,8 +29,8 @@ fn multiples(
     requires residues { AreResiduesBy p m.now }
     requires degrees { All (λ t. word_weight u.now + t.key.degree + word_weight v.now ≤ 300000)
         m.now }
-    requires left { All (λ t. length u.now + length t.key.left ≤ 200000) m.now }
-    requires right { All (λ t. length t.key.right + length v.now ≤ 200000) m.now }
+    requires left { All (λ t. length u.now + length t.key.left ≤ max_letters) m.now }
+    requires right { All (λ t. length t.key.right + length v.now ≤ max_letters) m.now }
     ensures { IfOk result (λ pairs. listed pairs.items ≡ module_multiples p c u.now m.now v.now) }
 {
     let mut pairs = Vec::with_capacity(alloc, m.len())?;

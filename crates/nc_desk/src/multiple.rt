@@ -1,6 +1,7 @@
 //! The best multiple at a signature, and its leading word.
 
 ghost use Rattle.nc_algebra.specs.Elements.{HasDegree};
+ghost use Rattle.nc_algebra.specs.Limits.{max_letters};
 ghost use Rattle.nc_algebra.specs.Monomials.{monomial_of};
 ghost use Rattle.nc_algebra.specs.Polynomials.{leading};
 ghost use Rattle.nc_algebra.specs.Words.{Word as WordValue};
@@ -71,7 +72,7 @@ pub(crate) fn multiple_start(
     number: u32,
     right: &[Letter],
 ) -> Result<Start, AllocError>
-    requires { length left.now + length right.now ≤ 200000 }
+    requires { length left.now + length right.now ≤ max_letters }
     ensures { IfOk result (λ s. start_of s ≡ Beginning.a_multiple left.now number right.now) }
 {
     let left = Word::join(alloc, left, &[], &[])?;

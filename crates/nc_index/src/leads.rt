@@ -1,5 +1,6 @@
 //! The pairs of a search.
 
+ghost use Rattle.nc_algebra.specs.Limits.{max_leads};
 ghost use Rattle.nc_index.specs.Pairs.{IsFirstRegular};
 ghost use Rattle.std.specs.Arc.{arc_value};
 ghost use Rattle.std.specs.Prelude.{IfOk, OnErr, OnOk, [], length, slice_get, ◌++◌, ◌<◌, ◌∷◌, ◌≡◌};
@@ -23,6 +24,7 @@ pub struct Leads {
 }
 
 impl Model for Leads {
+    ghost use Rattle.nc_algebra.specs.Limits.{max_leads};
     ghost use Rattle.nc_index.specs.Pairs.{Lead};
     ghost use Rattle.std.specs.Prelude.{List, length, ◌≤◌};
 
@@ -30,7 +32,7 @@ impl Model for Leads {
 
     ghost view = { λ l. l.pairs };
 
-    ghost invariant = { λ l. length l.pairs ≤ 4000000000 };
+    ghost invariant = { λ l. length l.pairs ≤ max_leads };
 }
 
 impl Leads {
@@ -61,7 +63,7 @@ impl Leads {
 
     /// Adds a pair: a copy of the word, and the signature, which is shared.
     pub fn add(&mut self, word: &Word, signature: &Arc<Sig, Global>) -> Result<(), AllocError>
-        requires { length self.old < 4000000000 }
+        requires { length self.old < max_leads }
         ensures added { OnOk result (self.new ≡ self.old
             ++ (record { word = word.now; signature = arc_value signature.now }) ∷ []) }
         ensures kept { OnErr result (self.new ≡ self.old) }

@@ -3,6 +3,7 @@
 -- The lines of a proof follow from the needed entries and the subtracted multiples alone
 -- (`Lines.antt`). These facts say what of them a function may rely on.
 use Rattle.nc_algebra.specs.Certificates.{Line}
+use Rattle.nc_algebra.specs.Limits.{max_steps}
 use Rattle.nc_algebra.specs.Problems.{Problem}
 use Rattle.nc_cofactor.specs.Claims.{AreNeededTraces, numbers_of}
 use Rattle.nc_member.specs.Lines.{proof_lines, trace_line}
@@ -28,7 +29,7 @@ pub record AreUsable (P : Problem) (n : ℕ) (numbers : List ℕ) (needed : List
     pub traces : AreNeededTraces P n numbers needed
     pub residues : All (λ x. HasResidues P.setting.prime x.1) needed
     pub ascending : IsStrictlyIncreasing (entries_of needed)
-    pub few : length needed ≤ 1000000000
+    pub few : length needed ≤ max_steps
 
 -- the lines by which a claim is proved from which these multiples were subtracted, in the run after
 -- n steps

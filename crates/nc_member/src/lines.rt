@@ -1,5 +1,6 @@
 //! The lines that prove a claim.
 
+ghost use Rattle.nc_algebra.specs.Limits.{max_steps};
 ghost use Rattle.nc_cofactor.specs.Claims.{AreSubtracted, numbers_of};
 ghost use Rattle.nc_member.specs.Found.{AreProofLines, AreUsable, HasResidues, entries_of, trace_lines};
 ghost use Rattle.nc_member.specs.Lines.{line_of_claim, line_of, start_part, step_part, trace_line};
@@ -19,7 +20,7 @@ use std::alloc::{AllocError, Global};
 /// The line of an entry, where these are needed, in ascending order.
 fn line_number(entries: &[u32], number: u32) -> u32
     requires ascending { IsStrictlyIncreasing entries.now }
-    requires few { length entries.now ≤ 1000000000 }
+    requires few { length entries.now ≤ max_steps }
     ensures { result ≡ line_of entries.now number }
 {
     entries.partition_point(|k| *k <= number) as u32
@@ -28,7 +29,7 @@ fn line_number(entries: &[u32], number: u32) -> u32
 /// The multiple of a step, with this coefficient.
 fn multiple_part(entries: &[u32], coefficient: Residue, step: &Step) -> Result<Part, AllocError>
     requires ascending { IsStrictlyIncreasing entries.now }
-    requires few { length entries.now ≤ 1000000000 }
+    requires few { length entries.now ≤ max_steps }
     ensures { IfOk result (λ part. part ≡ step_part entries.now coefficient step.now) }
 {
     let left = step.left.copy()?;
@@ -44,7 +45,7 @@ fn multiple_part(entries: &[u32], coefficient: Residue, step: &Step) -> Result<P
 /// What a trace begins with.
 fn first_part(alloc: Global, entries: &[u32], start: &Start) -> Result<Part, AllocError>
     requires ascending { IsStrictlyIncreasing entries.now }
-    requires few { length entries.now ≤ 1000000000 }
+    requires few { length entries.now ≤ max_steps }
     ensures { IfOk result (λ part. part ≡ start_part entries.now (start_of start.now)) }
 {
     match start {
@@ -75,7 +76,7 @@ fn first_part(alloc: Global, entries: &[u32], start: &Start) -> Result<Part, All
 fn entry_line(alloc: Global, p: Prime, entries: &[u32], trace: &Trace) -> Result<Line, AllocError>
     requires residues { HasResidues p trace.now }
     requires ascending { IsStrictlyIncreasing entries.now }
-    requires few { length entries.now ≤ 1000000000 }
+    requires few { length entries.now ≤ max_steps }
     ensures { IfOk result (λ line. line ≡ trace_line p entries.now trace.now) }
 {
     let mut line = Line::empty(alloc);
@@ -90,7 +91,7 @@ fn entry_line(alloc: Global, p: Prime, entries: &[u32], trace: &Trace) -> Result
 /// The claim's line: what was subtracted.
 fn last_line(alloc: Global, entries: &[u32], steps: &[Step]) -> Result<Line, AllocError>
     requires ascending { IsStrictlyIncreasing entries.now }
-    requires few { length entries.now ≤ 1000000000 }
+    requires few { length entries.now ≤ max_steps }
     ensures { IfOk result (λ line. line ≡ line_of_claim entries.now steps.now) }
 {
     let mut line = Line::empty(alloc);
@@ -110,7 +111,7 @@ fn push_entries(
 ) -> Result<(), AllocError>
     requires residues { All (λ x. HasResidues p x.1) needed.now }
     requires ascending { IsStrictlyIncreasing entries.now }
-    requires few { length entries.now ≤ 1000000000 }
+    requires few { length entries.now ≤ max_steps }
     requires room { length lines.old + length needed.now ≤ 2000000000 }
     ensures { OnOk result (lines.new ≡ lines.old ++ trace_lines p entries.now needed.now) }
 {

@@ -1,6 +1,7 @@
 //! Membership of a claim, with a representation as a module element.
 
 ghost use Rattle.nc_algebra.specs.Alphabets.{IsPolynomialIn};
+ghost use Rattle.nc_algebra.specs.Limits.{max_weight};
 ghost use Rattle.nc_algebra.specs.Words.{word_weight};
 ghost use Rattle.nc_member.specs.Members.{FailsToAnswer, IsMember};
 ghost use Rattle.std.specs.Prelude.{All, IfErr, IfOk, ◌≤◌};
@@ -36,7 +37,7 @@ pub fn member(
 ) -> Result<Membership<Module>, CofactorFault>
     requires claim { IsPolynomialIn finished.now.snapshot.problem.alphabet
         finished.now.snapshot.problem.problem.setting.prime claim.now }
-    requires light { All (λ t. word_weight t.key ≤ 200000) claim.now }
+    requires light { All (λ t. word_weight t.key ≤ max_weight) claim.now }
     ensures member { IfOk result (IsMember finished.now claim.now limit) }
     ensures fault { IfErr result (FailsToAnswer finished.now claim.now limit) }
 {

@@ -1,6 +1,7 @@
 //! Membership with a representation as lines.
 
 ghost use Rattle.nc_algebra.specs.Alphabets.{IsPolynomialIn};
+ghost use Rattle.nc_algebra.specs.Limits.{max_weight};
 ghost use Rattle.nc_algebra.specs.Words.{word_weight};
 ghost use Rattle.nc_member.specs.Members.{IsProof};
 ghost use Rattle.std.specs.Prelude.{All, IfOk, ◌≤◌};
@@ -23,7 +24,7 @@ pub fn prove(
 ) -> Result<Membership<Lines>, AllocError>
     requires claim { IsPolynomialIn finished.now.snapshot.problem.alphabet
         finished.now.snapshot.problem.problem.setting.prime claim.now }
-    requires light { All (λ t. word_weight t.key ≤ 200000) claim.now }
+    requires light { All (λ t. word_weight t.key ≤ max_weight) claim.now }
     ensures { IfOk result (IsProof finished.now claim.now) }
 {
     let snapshot = finished.snapshot();

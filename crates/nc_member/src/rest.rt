@@ -1,6 +1,7 @@
 //! What is left of a claim.
 
 ghost use Rattle.nc_algebra.specs.Alphabets.{IsPolynomialIn};
+ghost use Rattle.nc_algebra.specs.Limits.{max_weight};
 ghost use Rattle.nc_algebra.specs.Words.{word_weight};
 ghost use Rattle.nc_cofactor.specs.Claims.{AreSubtracted};
 ghost use Rattle.nc_member.specs.Members.{IsRestOf};
@@ -15,7 +16,7 @@ use std::alloc::{AllocError, Global};
 pub(crate) fn rest_of(alloc: Global, finished: &Finished, claim: &Poly) -> Result<Rest, AllocError>
     requires claim { IsPolynomialIn finished.now.snapshot.problem.alphabet
         finished.now.snapshot.problem.problem.setting.prime claim.now }
-    requires light { All (λ t. word_weight t.key ≤ 200000) claim.now }
+    requires light { All (λ t. word_weight t.key ≤ max_weight) claim.now }
     ensures rest { IfOk result (λ r. IsRestOf finished.now.snapshot.problem.problem
         finished.now.snapshot.handled claim.now r.poly r.steps) }
     ensures subtracted { IfOk result

@@ -1,5 +1,6 @@
 //! Lines of a certificate.
 
+ghost use Rattle.nc_algebra.specs.Limits.{max_lines};
 ghost use Rattle.std.specs.Prelude.{OnErr, OnOk, [], get_or, length, ◌++◌, ◌-◌, ◌<◌, ◌∷◌, ◌≡◌, ◌≤◌};
 
 use nc_field::Residue;
@@ -106,6 +107,7 @@ pub struct Lines {
 }
 
 impl Model for Lines {
+    ghost use Rattle.nc_algebra.specs.Limits.{max_lines};
     ghost use Rattle.nc_algebra.specs.Certificates.{Line};
     ghost use Rattle.std.specs.Prelude.{List, length, ◌≤◌};
 
@@ -113,7 +115,7 @@ impl Model for Lines {
 
     ghost view = { λ l. l.lines.items };
 
-    ghost invariant = { λ l. length l.lines.items ≤ 4000000000 };
+    ghost invariant = { λ l. length l.lines.items ≤ max_lines };
 }
 
 impl Lines {
@@ -136,7 +138,7 @@ impl Lines {
     /// The lines in their order.
     pub fn lines(&self) -> &[Line]
         ensures lines { result.now ≡ self.now }
-        ensures few { length self.now ≤ 4000000000 }
+        ensures few { length self.now ≤ max_lines }
     {
         self.lines.as_slice()
     }
@@ -152,7 +154,7 @@ impl Lines {
 
     /// Appends a line. After want of memory the lines are what they were, and the new one is gone.
     pub fn push(&mut self, line: Line) -> Result<(), AllocError>
-        requires { length self.old < 4000000000 }
+        requires { length self.old < max_lines }
         ensures added { OnOk result (self.new ≡ self.old ++ line ∷ []) }
         ensures kept { OnErr result (self.new ≡ self.old) }
     {

@@ -1,6 +1,7 @@
 //! Module elements.
 
 ghost use Rattle.nc_algebra.specs.Elements.{HasDegree, IsGenerator, evaluation, generator};
+ghost use Rattle.nc_algebra.specs.Limits.{max_degree, max_letters};
 ghost use Rattle.nc_algebra.specs.Monomials.{Sig as Key, compare_sigs, sig_times};
 ghost use Rattle.nc_algebra.specs.Polynomials.{AreResidues, normal_form, polynomial_times};
 ghost use Rattle.nc_algebra.specs.Sums.{SameSum, Term, map_keys, minus, scale};
@@ -72,8 +73,8 @@ impl ModuleTerm {
         requires factor { c < p }
         requires residue { self.now.coefficient < p }
         requires degree { word_weight u.now + self.now.key.degree + word_weight v.now ≤ 300000 }
-        requires left { length u.now + length self.now.key.left ≤ 200000 }
-        requires right { length self.now.key.right + length v.now ≤ 200000 }
+        requires left { length u.now + length self.now.key.left ≤ max_letters }
+        requires right { length self.now.key.right + length v.now ≤ max_letters }
         ensures at { IfOk result (λ e. e.0 ≡ sig_times u.now self.now.key v.now) }
         ensures coefficient { IfOk result (λ e. e.1 ≡ (c * self.now.coefficient) % p) }
     {
@@ -117,8 +118,8 @@ fn push_multiples(
     requires residues { AreResiduesBy p m.now }
     requires degrees { All (λ t. word_weight u.now + t.key.degree + word_weight v.now ≤ 300000)
         m.now }
-    requires left { All (λ t. length u.now + length t.key.left ≤ 200000) m.now }
-    requires right { All (λ t. length t.key.right + length v.now ≤ 200000) m.now }
+    requires left { All (λ t. length u.now + length t.key.left ≤ max_letters) m.now }
+    requires right { All (λ t. length t.key.right + length v.now ≤ max_letters) m.now }
     ensures { OnOk result (listed out.new.items ≡ listed out.old.items ++ module_multiples p c u.now
         m.now v.now) }
 {
@@ -165,7 +166,7 @@ fn add_value(
 ) -> Result<(), AllocError>
     requires generator { IsGenerator setting.now.setting t.now.key.generator }
     requires degree { HasDegree setting.now.setting t.now.key }
-    requires few { t.now.key.degree ≤ 100000 }
+    requires few { t.now.key.degree ≤ max_degree }
     requires residue { t.now.coefficient < setting.now.setting.prime }
     requires before { AreResidues setting.now.setting.prime sum.old }
     ensures sum { OnOk result (SameSum same_word setting.now.setting.prime sum.new
@@ -252,8 +253,8 @@ impl Module {
         requires other_residues { AreResiduesBy p m.now }
         requires degrees { All (λ t. word_weight u.now + t.key.degree + word_weight v.now ≤ 300000)
             m.now }
-        requires left { All (λ t. length u.now + length t.key.left ≤ 200000) m.now }
-        requires right { All (λ t. length t.key.right + length v.now ≤ 200000) m.now }
+        requires left { All (λ t. length u.now + length t.key.left ≤ max_letters) m.now }
+        requires right { All (λ t. length t.key.right + length v.now ≤ max_letters) m.now }
         ensures difference { OnOk result
             (SameSum same_sig p self.new (minus p self.old c
             (map_keys (λ σ. sig_times u.now σ v.now) m.now))) }
@@ -271,7 +272,7 @@ impl Module {
     pub fn eval(&self, setting: &Setting) -> Result<Poly, AllocError>
         requires generators { All (λ t. IsGenerator setting.now.setting t.key.generator) self.now }
         requires degrees { All (λ t. HasDegree setting.now.setting t.key) self.now }
-        requires few { All (λ t. t.key.degree ≤ 100000) self.now }
+        requires few { All (λ t. t.key.degree ≤ max_degree) self.now }
         requires residues { AreResiduesBy setting.now.setting.prime self.now }
         ensures { IfOk result (λ f. f ≡ normal_form setting.now.setting.prime
             (evaluation setting.now.setting (element_of self.now))) }

@@ -1,5 +1,6 @@
 //! Sums of many multiples.
 
+ghost use Rattle.nc_algebra.specs.Limits.{max_letters};
 ghost use Rattle.nc_algebra.specs.Polynomials.{AreResidues, normal_form, polynomial_times};
 ghost use Rattle.nc_algebra.specs.Sums.{SameSum, minus};
 ghost use Rattle.nc_algebra.specs.Words.{same_word};
@@ -43,7 +44,7 @@ fn push_whole_multiple(
 ) -> Result<(), AllocError>
     requires factor { c < p }
     requires residues { AreResidues p g.now }
-    requires few { All (λ t. length u.now + length t.key + length v.now ≤ 200000) g.now }
+    requires few { All (λ t. length u.now + length t.key + length v.now ≤ max_letters) g.now }
     requires before { AreResidues p out.old.items }
     ensures appended { OnOk result
         (out.new.items ≡ out.old.items ++ multiples_of p c u.now g.now v.now) }
@@ -101,7 +102,7 @@ impl Accumulator {
         requires factor { c < p }
         requires residues { AreResidues p self.old }
         requires other_residues { AreResidues p g.now }
-        requires few { All (λ t. length u.now + length t.key + length v.now ≤ 200000) g.now }
+        requires few { All (λ t. length u.now + length t.key + length v.now ≤ max_letters) g.now }
         ensures difference { OnOk result
             (SameSum same_word p self.new (minus p self.old c
             (polynomial_times u.now g.now v.now))) }

@@ -1,5 +1,6 @@
 //! Polynomials from which many multiples are subtracted.
 
+ghost use Rattle.nc_algebra.specs.Limits.{max_letters};
 ghost use Rattle.nc_algebra.specs.Polynomials.{AreResidues, IsDescending, Polynomial, normal_form, polynomial_times};
 ghost use Rattle.nc_algebra.specs.Sums.{minus};
 ghost use Rattle.std.specs.Prelude.{All, IfOk, IfSome, IsNone, IsTrue, OnErr, OnOk, [], length, ◌+◌, ◌<◌, ◌∷◌, ◌≡◌, ◌≤◌, ◌↔◌};
@@ -95,7 +96,7 @@ impl Heap {
         requires factor { c < p }
         requires residues { AreResidues p self.old }
         requires other_residues { AreResidues p g.now }
-        requires few { All (λ t. length u.now + length t.key + length v.now ≤ 200000) g.now }
+        requires few { All (λ t. length u.now + length t.key + length v.now ≤ max_letters) g.now }
         ensures difference { OnOk result
             (self.new ≡ normal_form p (minus p self.old c (polynomial_times u.now g.now v.now))) }
         ensures residues { AreResidues p self.new }

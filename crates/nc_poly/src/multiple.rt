@@ -1,5 +1,6 @@
 //! Multiples of polynomials, term by term.
 
+ghost use Rattle.nc_algebra.specs.Limits.{max_letters};
 ghost use Rattle.nc_algebra.specs.Polynomials.{AreResidues};
 ghost use Rattle.nc_poly.specs.Ordered.{listed};
 ghost use Rattle.nc_poly.specs.Multiples.{multiples_of, shifted_of};
@@ -22,7 +23,7 @@ pub fn push_multiple(
 ) -> Result<(), AllocError>
     requires factor { c < p }
     requires residues { AreResidues p g.now }
-    requires few { All (λ t. length u.now + length t.key + length v.now ≤ 200000) g.now }
+    requires few { All (λ t. length u.now + length t.key + length v.now ≤ max_letters) g.now }
     ensures appended { OnOk result
         (out.new.items ≡ out.old.items ++ multiples_of p c u.now g.now v.now) }
     ensures front { take (length out.old.items) out.new.items ≡ out.old.items }
@@ -42,7 +43,7 @@ pub fn push_shifted(
     g: &[Term],
     v: &[Letter],
 ) -> Result<(), AllocError>
-    requires few { All (λ t. length u.now + length t.key + length v.now ≤ 200000) g.now }
+    requires few { All (λ t. length u.now + length t.key + length v.now ≤ max_letters) g.now }
     ensures appended { OnOk result
         (out.new.items ≡ out.old.items ++ map (shifted_of u.now v.now) g.now) }
 {
@@ -65,7 +66,7 @@ pub fn push_pairs(
 ) -> Result<(), AllocError>
     requires factor { c < p }
     requires residues { AreResidues p g.now }
-    requires few { All (λ t. length u.now + length t.key + length v.now ≤ 200000) g.now }
+    requires few { All (λ t. length u.now + length t.key + length v.now ≤ max_letters) g.now }
     ensures appended { OnOk result
         (listed out.new.items ≡ listed out.old.items ++ multiples_of p c u.now g.now v.now) }
 {

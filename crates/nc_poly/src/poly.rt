@@ -1,5 +1,6 @@
 //! Polynomials.
 
+ghost use Rattle.nc_algebra.specs.Limits.{max_letters};
 ghost use Rattle.nc_algebra.specs.Polynomials.{AreResidues, IsDescending, Polynomial, coefficient, normal_form, polynomial_times};
 ghost use Rattle.nc_algebra.specs.Sums.{minus, scale};
 ghost use Rattle.std.specs.Prelude.{All, IfOk, IfSome, IsNone, IsTrue, OnErr, OnOk, [], length, take, vec_len, ◌+◌, ◌++◌, ◌<◌, ◌∷◌, ◌≡◌, ◌≤◌, ◌↔◌};
@@ -51,7 +52,7 @@ fn subtract(
     requires factor { c < p }
     requires residues { AreResidues p kept.old.items }
     requires other_residues { AreResidues p g.now }
-    requires few { All (λ t. length u.now + length t.key + length v.now ≤ 200000) g.now }
+    requires few { All (λ t. length u.now + length t.key + length v.now ≤ max_letters) g.now }
     ensures difference { OnOk result
         (kept.new.items ≡ normal_form p
         (minus p kept.old.items c (polynomial_times u.now g.now v.now))) }
@@ -166,7 +167,7 @@ impl Poly {
 
     /// The multiple u f v of this polynomial f. The order of words goes with multiplication, so no word is compared.
     pub fn shifted(&self, alloc: Global, u: &[Letter], v: &[Letter]) -> Result<Poly, AllocError>
-        requires few { All (λ t. length u.now + length t.key + length v.now ≤ 200000) self.now }
+        requires few { All (λ t. length u.now + length t.key + length v.now ≤ max_letters) self.now }
         ensures { IfOk result (λ g. g ≡ polynomial_times u.now self.now v.now) }
     {
         let mut kept = Vec::with_capacity(alloc, self.kept.len())?;
@@ -199,7 +200,7 @@ impl Poly {
         requires factor { c < p }
         requires residues { AreResidues p self.old }
         requires other_residues { AreResidues p g.now }
-        requires few { All (λ t. length u.now + length t.key + length v.now ≤ 200000) g.now }
+        requires few { All (λ t. length u.now + length t.key + length v.now ≤ max_letters) g.now }
         ensures difference { OnOk result
             (self.new ≡ normal_form p (minus p self.old c (polynomial_times u.now g.now v.now))) }
         ensures residues { AreResidues p self.new }

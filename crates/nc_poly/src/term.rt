@@ -1,5 +1,6 @@
 //! Terms.
 
+ghost use Rattle.nc_algebra.specs.Limits.{max_letters};
 ghost use Rattle.nc_algebra.specs.Words.{compare_words, same_word};
 ghost use Rattle.nc_poly.specs.Multiples.{shifted_of};
 ghost use Rattle.std.specs.Prelude.{IfOk, length, nat_eq, ◌%◌, ◌*◌, ◌+◌, ◌++◌, ◌<◌, ◌≡◌, ◌≤◌};
@@ -59,7 +60,7 @@ impl Term {
     /// The letters of the word.
     pub fn letters(&self) -> &[Letter]
         ensures letters { result.now ≡ self.now.key }
-        ensures few { length self.now.key ≤ 200000 }
+        ensures few { length self.now.key ≤ max_letters }
     {
         self.word.letters()
     }
@@ -118,7 +119,7 @@ impl Term {
     ) -> Result<Term, AllocError>
         requires factor { c < p }
         requires residue { self.now.coefficient < p }
-        requires few { length u.now + length self.now.key + length v.now ≤ 200000 }
+        requires few { length u.now + length self.now.key + length v.now ≤ max_letters }
         ensures { IfOk result (λ t. t ≡ record {
           coefficient = (c * self.now.coefficient) % p;
           key = u.now ++ (self.now.key ++ v.now);
@@ -130,7 +131,7 @@ impl Term {
 
     /// The multiple u t v of this term t.
     pub fn shifted(&self, alloc: Global, u: &[Letter], v: &[Letter]) -> Result<Term, AllocError>
-        requires few { length u.now + length self.now.key + length v.now ≤ 200000 }
+        requires few { length u.now + length self.now.key + length v.now ≤ max_letters }
         ensures { IfOk result (λ t. t ≡ shifted_of u.now v.now self.now) }
     {
         let word = Word::join(alloc, u, self.letters(), v)?;

@@ -4,6 +4,7 @@
 -- `IsStartAt` and `IsReadable` exclude that. Entries are counted from 1, and the polynomial of a
 -- number without an entry is zero.
 use Rattle.nc_algebra.specs.Elements.{IsGenerator, Setting, generator}
+use Rattle.nc_algebra.specs.Limits.{max_letters}
 use Rattle.nc_algebra.specs.Monomials.{Monomial, times, unit_monomial}
 use Rattle.nc_algebra.specs.Polynomials.{Polynomial, polynomial_times}
 use Rattle.nc_theory.specs.States.{Entry, Start}
@@ -30,4 +31,4 @@ abbrev pub IsReadable : Setting → List Entry → Start → Type 0
 IsReadable s entries (Start.a_generator i) = IsGenerator s i
 IsReadable s entries (Start.a_multiple u j v) =
     (1 ≤ j) × (j ≤ length entries)
-    × All (λ t. length u + length t.key + length v ≤ 200000) (polynomial_of entries j)
+    × All (λ t. length u + length t.key + length v ≤ max_letters) (polynomial_of entries j)

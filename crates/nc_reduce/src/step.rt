@@ -1,5 +1,6 @@
 //! One step.
 
+ghost use Rattle.nc_algebra.specs.Limits.{max_letters};
 ghost use Rattle.nc_algebra.specs.Polynomials.{AreResidues, IsNormal, leading, normal_form, polynomial_times};
 ghost use Rattle.nc_algebra.specs.Sums.{minus};
 ghost use Rattle.nc_algebra.specs.Words.{OccursAt};
@@ -36,7 +37,7 @@ fn around<'a>(word: &'a [Letter], part: &[Letter], place: usize) -> (&'a [Letter
 
 /// The word of these letters.
 fn word_of(alloc: Global, letters: &[Letter]) -> Result<Word, AllocError>
-    requires { length letters.now ≤ 200000 }
+    requires { length letters.now ≤ max_letters }
     ensures { IfOk result (λ w. w ≡ letters.now) }
 {
     Word::join(alloc, &[], &[], letters)
@@ -82,7 +83,7 @@ pub(crate) fn subtract(
     requires factor { step.now.coefficient < p }
     requires residues { AreResidues p rest.old }
     requires other_residues { AreResidues p divisor.now }
-    requires few { All (λ t. length step.now.left + length t.key + length step.now.right ≤ 200000)
+    requires few { All (λ t. length step.now.left + length t.key + length step.now.right ≤ max_letters)
         divisor.now }
     ensures { OnOk result (rest.new ≡ normal_form p
         (minus p rest.old step.now.coefficient

@@ -1,5 +1,6 @@
 //! Signatures.
 
+ghost use Rattle.nc_algebra.specs.Limits.{max_letters};
 ghost use Rattle.nc_algebra.specs.Monomials.{above_degree, compare_sigs, monomial_of, sig_times};
 ghost use Rattle.nc_algebra.specs.Words.{word_weight};
 ghost use Rattle.nc_sig.specs.Orders.{sigs_order};
@@ -93,8 +94,8 @@ impl Sig {
     /// The multiple `u self v`.
     pub fn times(&self, alloc: Global, u: &[Letter], v: &[Letter]) -> Result<Sig, AllocError>
         requires degree { word_weight u.now + self.now.degree + word_weight v.now ≤ 300000 }
-        requires left { length u.now + length self.now.left ≤ 200000 }
-        requires right { length self.now.right + length v.now ≤ 200000 }
+        requires left { length u.now + length self.now.left ≤ max_letters }
+        requires right { length self.now.right + length v.now ≤ max_letters }
         ensures { IfOk result (λ s. s ≡ sig_times u.now self.now v.now) }
     {
         let left = Word::join(alloc, u, self.left.letters(), &[])?;

@@ -1,6 +1,7 @@
 //! Snapshots.
 
 ghost use Rattle.nc_algebra.specs.Elements.{HasDegree, IsLess};
+ghost use Rattle.nc_algebra.specs.Limits.{max_steps};
 ghost use Rattle.nc_algebra.specs.Monomials.{Monomial, monomial_of};
 ghost use Rattle.nc_algebra.specs.Problems.{IsProblem};
 ghost use Rattle.nc_theory.specs.EndBases.{AreCanonical};
@@ -103,7 +104,7 @@ impl Snapshot {
     /// The number of entries.
     pub fn entries(&self) -> u32
         ensures count { result ≡ length self.now.state.entries }
-        ensures few { result ≤ 1000000000 }
+        ensures few { result ≤ max_steps }
     {
         self.found.entries() as u32
     }
@@ -111,7 +112,7 @@ impl Snapshot {
     /// The number of syzygies.
     pub fn syzygies(&self) -> u32
         ensures count { result ≡ length self.now.state.syzygies }
-        ensures few { result ≤ 1000000000 }
+        ensures few { result ≤ max_steps }
     {
         self.found.syzygies() as u32
     }

@@ -1,6 +1,7 @@
 //! Calls that the program does not make.
 
 ghost use Rattle.nc_algebra.specs.Elements.{HasDegree, IsGenerator};
+ghost use Rattle.nc_algebra.specs.Limits.{max_letters};
 ghost use Rattle.nc_algebra.specs.Polynomials.{AreResidues};
 ghost use Rattle.nc_algebra.specs.Words.{word_weight};
 ghost use Rattle.nc_poly.specs.Ordered.{AreResiduesBy};
@@ -39,7 +40,7 @@ fn square_minus_y(alloc: Global, p: Prime) -> Result<Poly, Fail>
 
 /// Whether the words of the multiple u g v are short.
 fn has_room(u: &[Letter], g: &Poly, v: &[Letter]) -> bool
-    ensures { IsTrue result → All (λ t. length u.now + length t.key + length v.now ≤ 200000) g.now }
+    ensures { IsTrue result → All (λ t. length u.now + length t.key + length v.now ≤ max_letters) g.now }
 {
     g.terms()
         .iter()
@@ -127,8 +128,8 @@ fn has_terms(m: &Module, want: &[(Residue, &str, u32)]) -> bool {
 fn are_small(u: &[Letter], m: &[ModuleTerm], v: &[Letter]) -> bool
     ensures degrees { IsTrue result
         → All (λ t. word_weight u.now + t.key.degree + word_weight v.now ≤ 300000) m.now }
-    ensures left { IsTrue result → All (λ t. length u.now + length t.key.left ≤ 200000) m.now }
-    ensures right { IsTrue result → All (λ t. length t.key.right + length v.now ≤ 200000) m.now }
+    ensures left { IsTrue result → All (λ t. length u.now + length t.key.left ≤ max_letters) m.now }
+    ensures right { IsTrue result → All (λ t. length t.key.right + length v.now ≤ max_letters) m.now }
 {
     m.iter().all(|t| weight_of(u) + u128::from(t.at.degree) + weight_of(v) <= 300000)
         && m.iter().all(|t| u.len() as u128 + t.at.left.letters().len() as u128 <= 200000)

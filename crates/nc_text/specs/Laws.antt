@@ -9,6 +9,7 @@
 use Rattle.nc_algebra.specs.Alphabets.{Alphabet, IsTextPolynomial, IsTextWord}
 use Rattle.nc_algebra.specs.Certificates.{Certificate, IsTextCertificate, element_lines}
 use Rattle.nc_algebra.specs.Elements.{Element, IsGenerator}
+use Rattle.nc_algebra.specs.Limits.{max_lines}
 use Rattle.nc_algebra.specs.Monomials.{Monomial}
 use Rattle.nc_algebra.specs.Polynomials.{Polynomial}
 use Rattle.nc_algebra.specs.Problems.{IsProblem}
@@ -28,7 +29,7 @@ use Rattle.std.specs.Prelude.{Bool, List, Ok, length, ℕ, ◌≡◌, ◌≤◌}
 -- the code keeps.
 abbrev pub ReadsWhatIsPrinted : Type 0
 ReadsWhatIsPrinted =
-    (c : Certificate) → IsTextCertificate c → length c.lines ≤ 4000000000
+    (c : Certificate) → IsTextCertificate c → length c.lines ≤ max_lines
     → reads_certificate (certificate_text c) ≡ Ok c
 
 -- What is printed of a claim and terms is read as the certificate with one line of those terms, and
@@ -57,8 +58,8 @@ ReadsMonomials =
 -- Two certificates with the same text are the same.
 abbrev pub OneCertificate : Type 0
 OneCertificate =
-    (c d : Certificate) → IsTextCertificate c → IsTextCertificate d → length c.lines ≤ 4000000000
-    → length d.lines ≤ 4000000000 → certificate_text c ≡ certificate_text d → c ≡ d
+    (c d : Certificate) → IsTextCertificate c → IsTextCertificate d → length c.lines ≤ max_lines
+    → length d.lines ≤ max_lines → certificate_text c ≡ certificate_text d → c ≡ d
 
 -- What is read is a certificate.
 abbrev pub ReadsCertificates : Type 0

@@ -10,6 +10,7 @@
 use Rattle.nc_algebra.specs.Alphabets.{Alphabet, is_name}
 use Rattle.nc_algebra.specs.Certificates.{Factor, Part, part_reach}
 use Rattle.nc_algebra.specs.Elements.{Setting}
+use Rattle.nc_algebra.specs.Limits.{max_reach}
 use Rattle.nc_algebra.specs.Monomials.{Monomial}
 use Rattle.nc_algebra.specs.Polynomials.{Polynomial}
 use Rattle.nc_algebra.specs.Problems.{Bound}
@@ -146,7 +147,7 @@ multiplied_at generators lines ts = do
 -- a part whose reach is not too great
 abbrev pub within_reach : Setting → List ℕ → Part → Result Part Kind
 within_reach s reaches part =
-    if nat_lt 100000 (part_reach s reaches part) then Err LongLine else Ok part
+    if nat_lt max_reach (part_reach s reaches part) then Err LongLine else Ok part
 
 -- part, behind the lines with these reaches: a literal, SIDE, what is multiplied, SIDE
 unfoldable pub part_at : NamedSetting → List ℕ → List Token → Result Part Kind

@@ -1,5 +1,6 @@
 //! Certificate texts.
 
+ghost use Rattle.nc_algebra.specs.Limits.{max_bytes};
 ghost use Rattle.nc_text.specs.Certificates.{body_lines, claim_line, end_line, form_line, reads_certificate, term_lines, terms_line};
 ghost use Rattle.nc_tokens.specs.Gives.{GivesText};
 ghost use Rattle.nc_tokens.specs.Lines.{lines_left};
@@ -78,7 +79,7 @@ fn body_of(
     setting: &Setting,
     text: &mut Text<'_>,
 ) -> Result<Lines, ReadFault>
-    requires { lines_left (left text.old) ≤ 16777216 }
+    requires { lines_left (left text.old) ≤ max_bytes }
     ensures { GivesText (λ ls. (ls, left text.new)) result
         (body_lines form setting.now (left text.old)) }
 {
@@ -104,7 +105,7 @@ fn end_line(text: &mut Text<'_>) -> Result<(), ReadFault>
 /// The text is not copied: each byte is looked at a few times, and the terms of each polynomial are sorted once.
 #[tactic(auto, unfolding(crate::specs::Certificates::certificate_at))]
 pub fn read_certificate(alloc: Global, bytes: &[u8]) -> Result<Certificate, ReadFault>
-    requires { length bytes.now ≤ 16777216 }
+    requires { length bytes.now ≤ max_bytes }
     ensures { GivesText (λ c. c) result (reads_certificate bytes.now) }
 {
     let mut text = Text::of(bytes);

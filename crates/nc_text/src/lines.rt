@@ -1,6 +1,7 @@
 //! The lines of a certificate in its second form.
 
 ghost use Rattle.nc_algebra.specs.Certificates.{IsFactor, factor_reach, longest as longest_of, part_reach};
+ghost use Rattle.nc_algebra.specs.Limits.{max_bytes, max_reach};
 ghost use Rattle.nc_module.specs.Factors.{factor_of};
 ghost use Rattle.nc_text.specs.Certificates.{line_lines, part_lines};
 ghost use Rattle.nc_text.specs.Rows.{part_at};
@@ -33,7 +34,7 @@ fn longest(f: &Poly) -> usize
 fn longest_of_generators(alloc: Global, setting: &Setting) -> Result<Vec<usize>, AllocError>
     ensures generators { IfOk result
         (λ ms. ms.items ≡ map longest_of setting.now.setting.generators) }
-    ensures short { IfOk result (λ ms. All (λ m. m ≤ 100000) ms.items) }
+    ensures short { IfOk result (λ ms. All (λ m. m ≤ max_reach) ms.items) }
 {
     let mut all = Vec::new(alloc);
     'generators: for f in setting.generators() {
@@ -46,10 +47,10 @@ fn longest_of_generators(alloc: Global, setting: &Setting) -> Result<Vec<usize>,
 fn inside_of(setting: &Setting, longest: &[usize], reaches: &[usize], of: Of) -> usize
     requires generators { longest.now ≡ map longest_of setting.now.setting.generators }
     requires factor { IsFactor setting.now.setting (length reaches.now) (factor_of of) }
-    requires short { All (λ m. m ≤ 100000) longest.now }
-    requires reached { All (λ m. m ≤ 100000) reaches.now }
+    requires short { All (λ m. m ≤ max_reach) longest.now }
+    requires reached { All (λ m. m ≤ max_reach) reaches.now }
     ensures value { result ≡ factor_reach setting.now.setting reaches.now (factor_of of) }
-    ensures short { result ≤ 100000 }
+    ensures short { result ≤ max_reach }
 {
     setting.recall_rule();
     match of {
@@ -62,8 +63,8 @@ fn inside_of(setting: &Setting, longest: &[usize], reaches: &[usize], of: Of) ->
 fn reach_of(setting: &Setting, longest: &[usize], reaches: &[usize], part: &Part) -> usize
     requires generators { longest.now ≡ map longest_of setting.now.setting.generators }
     requires factor { IsFactor setting.now.setting (length reaches.now) part.now.of }
-    requires short { All (λ m. m ≤ 100000) longest.now }
-    requires reached { All (λ m. m ≤ 100000) reaches.now }
+    requires short { All (λ m. m ≤ max_reach) longest.now }
+    requires reached { All (λ m. m ≤ max_reach) reaches.now }
     ensures { result ≡ part_reach setting.now.setting reaches.now part.now }
 {
     let inside = inside_of(setting, longest, reaches, part.of);
@@ -80,12 +81,12 @@ fn part_of(
     line: &mut Tokens<'_>,
 ) -> Result<(Part, usize), LineError>
     requires generators { longest.now ≡ map longest_of setting.now.setting.generators }
-    requires short { All (λ m. m ≤ 100000) longest.now }
-    requires reached { All (λ m. m ≤ 100000) reaches.now }
-    requires few { length reaches.now ≤ 16777216 }
+    requires short { All (λ m. m ≤ max_reach) longest.now }
+    requires reached { All (λ m. m ≤ max_reach) reaches.now }
+    requires few { length reaches.now ≤ max_bytes }
     ensures reads { Gives (λ r. r.0) result (part_at setting.now reaches.now line.old) }
     ensures reach { IfOk result (λ r. r.1 ≡ part_reach setting.now.setting reaches.now r.0) }
-    ensures short { IfOk result (λ r. r.1 ≤ 100000) }
+    ensures short { IfOk result (λ r. r.1 ≤ max_reach) }
 {
     let number = line.literal()?;
     let left = side_of(alloc, setting.alphabet(), line)?;
@@ -107,7 +108,7 @@ fn part_of(
 
 /// Reads the lines `part` and `line` behind the first line `line`.
 fn parts_of(alloc: Global, setting: &Setting, text: &mut Text<'_>) -> Result<Lines, ReadFault>
-    requires { lines_left (left text.old) ≤ 16777216 }
+    requires { lines_left (left text.old) ≤ max_bytes }
     ensures { GivesText (λ ls. (ls, left text.new)) result
         (part_lines setting.now [] [] (left text.old)) }
 {
@@ -142,7 +143,7 @@ fn parts_of(alloc: Global, setting: &Setting, text: &mut Text<'_>) -> Result<Lin
 /// Reads the lines `line`, with the lines `part` behind each.
 #[tactic(auto, unfolding(crate::specs::Certificates::line_lines))]
 pub fn lines_of(alloc: Global, setting: &Setting, text: &mut Text<'_>) -> Result<Lines, ReadFault>
-    requires { lines_left (left text.old) ≤ 16777216 }
+    requires { lines_left (left text.old) ≤ max_bytes }
     ensures { GivesText (λ ls. (ls, left text.new)) result (line_lines setting.now (left text.old)) }
 {
     match text.takes(b"line") {

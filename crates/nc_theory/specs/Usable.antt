@@ -5,6 +5,7 @@
 -- run of a problem within the limits of `IsProblem` keeps to them.
 use Rattle.nc_algebra.specs.Finite.{AreLetters}
 use Rattle.nc_algebra.specs.Elements.{Setting, WeighsAtMost, WordsAre, degree}
+use Rattle.nc_algebra.specs.Limits.{max_weight}
 use Rattle.nc_algebra.specs.Monomials.{Monomial}
 use Rattle.nc_algebra.specs.Polynomials.{IsNormal, Polynomial}
 use Rattle.nc_algebra.specs.Words.{Word, word_weight}
@@ -13,7 +14,7 @@ use Rattle.std.specs.Prelude.{[], ◌≢◌, ◌≤◌}
 
 -- a word within the length limit, over letters that a program can have
 abbrev pub IsSmall : Word → Type 0
-IsSmall w = (word_weight w ≤ 200000) × AreLetters 64 100 w
+IsSmall w = (word_weight w ≤ max_weight) × AreLetters 64 100 w
 
 -- each word of the polynomial is such
 abbrev pub HasSmallWords : Setting → Polynomial → Type 0
@@ -29,6 +30,6 @@ pub record IsUsable (s : Setting) (e : Entry) : Type 0 where
 
 -- a signature within the limit, over such letters
 pub record IsUsableSignature (s : Setting) (τ : Monomial) : Type 0 where
-  pub limited : degree s τ ≤ 200000
+  pub limited : degree s τ ≤ max_weight
   pub left : AreLetters 64 100 τ.left
   pub right : AreLetters 64 100 τ.right

@@ -11,6 +11,7 @@
 -- terms. If some label has more, the answer names the first item whose label has, and lists
 -- nothing.
 use Rattle.nc_algebra.specs.Elements.{Element, IsLabelled, Setting}
+use Rattle.nc_algebra.specs.Limits.{max_bytes}
 use Rattle.nc_algebra.specs.Monomials.{Monomial, Sig}
 use Rattle.nc_algebra.specs.Polynomials.{Polynomial}
 use Rattle.nc_algebra.specs.Problems.{NamedProblem}
@@ -39,7 +40,7 @@ use Rattle.std.specs.declared.result.Result.{Result}
 
 -- the bytes are a text of this problem, with or without a claim, and are not too many
 pub record IsProblemText (bytes : List ℕ) (P : NamedProblem) : Type 0 where
-  pub small : length bytes ≤ 16777216
+  pub small : length bytes ≤ max_bytes
   pub claim : Option Polynomial
   pub read : reads_problem false bytes ≡ Ok (record { problem = P; claim = claim })
 

@@ -5,6 +5,7 @@
 -- validity. A certificate over the limit is neither called valid nor invalid. The values are those
 -- of `Certificates.antt` of nc_algebra, so nothing here depends on how the check is carried out.
 use Rattle.nc_algebra.specs.Certificates.{Certificate, rest_of}
+use Rattle.nc_algebra.specs.Limits.{max_bytes, max_charge}
 use Rattle.nc_cert.specs.Charges.{IsTooMuch, IsChargeWithin}
 use Rattle.nc_cert.specs.Checking.{IsValidCertificate, certificate_charges}
 use Rattle.nc_text.specs.Certificates.{reads_certificate}
@@ -16,12 +17,12 @@ use Rattle.std.specs.Prelude.{List, Ok, codes, length, ℕ, ◌≡◌, ◌≤◌
 
 -- the bytes are a text of this certificate, and are not too many
 pub record IsText (bytes : List ℕ) (c : Certificate) : Type 0 where
-  pub small : length bytes ≤ 16777216
+  pub small : length bytes ≤ max_bytes
   pub read : reads_certificate bytes ≡ Ok c
 
 -- checking the certificate asks for no more work than the limit
 abbrev pub IsWithinWork : Certificate → Type 0
-IsWithinWork c = IsChargeWithin 100000000 (certificate_charges c)
+IsWithinWork c = IsChargeWithin max_charge (certificate_charges c)
 
 -- the bytes are a text of a certificate that is valid
 pub record IsDone (bytes report : List ℕ) : Type 0 where
@@ -45,7 +46,7 @@ pub record IsInvalid (bytes report : List ℕ) : Type 0 where
 pub record IsTooMuchWork (bytes : List ℕ) (line charge : ℕ) (report : List ℕ) : Type 0 where
   pub certificate : Certificate
   pub text : IsText bytes certificate
-  pub much : IsTooMuch 100000000 (certificate_charges certificate) line charge
+  pub much : IsTooMuch max_charge (certificate_charges certificate) line charge
   pub written : report ≡ too_much_report line charge
 
 -- status and report for the bytes of an input

@@ -2,6 +2,7 @@
 --
 -- A text has at most 16,777,216 bytes. The length comes first: a text that is too long is not read,
 -- whatever it has.
+use Rattle.nc_algebra.specs.Limits.{max_bytes}
 use Rattle.nc_tokens.specs.Kinds.{kind_number}
 use Rattle.nc_tokens.specs.declared.fault.TextFault.{TextFault}
 use Rattle.nc_top.specs.Reports.{bad_text_report}
@@ -12,7 +13,7 @@ use Rattle.std.specs.declared.result.Result.{Result}
 pub record IsBadText {T : Type 0} (reads : List ℕ → Result T TextFault) (bytes : List ℕ)
     (line kind : ℕ) (report : List ℕ) : Type 0 where
   pub fault : TextFault
-  pub small : length bytes ≤ 16777216
+  pub small : length bytes ≤ max_bytes
   pub read : reads bytes ≡ Err fault
   pub at_line : line ≡ fault.line
   pub of_kind : kind ≡ kind_number fault.kind
@@ -20,5 +21,5 @@ pub record IsBadText {T : Type 0} (reads : List ℕ → Result T TextFault) (byt
 
 -- the bytes are too many, whatever they are
 pub record IsTooLarge (bytes report : List ℕ) : Type 0 where
-  pub large : 16777216 < length bytes
+  pub large : max_bytes < length bytes
   pub written : report ≡ codes "too large\n"

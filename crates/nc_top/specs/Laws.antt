@@ -10,6 +10,7 @@
 use Rattle.nc_algebra.specs.Certificates.{Certificate, HasTextWords, IsCertificate, element_lines}
 use Rattle.nc_algebra.specs.Elements.{Element}
 use Rattle.nc_algebra.specs.Finite.{monomials_within}
+use Rattle.nc_algebra.specs.Limits.{max_bytes}
 use Rattle.nc_algebra.specs.Polynomials.{Polynomial}
 use Rattle.nc_algebra.specs.Problems.{IsWithin, NamedProblem, setting_of}
 use Rattle.nc_cert.specs.Checking.{IsValidCertificate}
@@ -121,7 +122,7 @@ IsPrintedAs Terms c report =
 -- work than the limit
 pub record IsCheckable (c : Certificate) (text : List ℕ) : Type 0 where
   pub words : All (λ line. All (HasTextWords c.setting) line) c.lines
-  pub small : length text ≤ 16777216
+  pub small : length text ≤ max_bytes
   pub within : IsWithinWork c
 
 -- what `member` prints of a claim that has a representation is a certificate of the claim; where it

@@ -10,6 +10,7 @@
 -- A certificate that is printed can be checked by `check`, which knows nothing of runs. Only form 1
 -- needs labels, and so has a limit on terms.
 use Rattle.nc_algebra.specs.Certificates.{Certificate, IsCertificate, Line, element_lines}
+use Rattle.nc_algebra.specs.Limits.{max_bytes}
 use Rattle.nc_algebra.specs.Monomials.{Sig}
 use Rattle.nc_algebra.specs.Polynomials.{Polynomial}
 use Rattle.nc_algebra.specs.Problems.{NamedProblem, setting_of}
@@ -38,7 +39,7 @@ reads_claim bytes = reads_problem true bytes
 
 -- the bytes are a text of this problem with this claim, and are not too many
 pub record IsClaimText (bytes : List ℕ) (P : NamedProblem) (claim : Polynomial) : Type 0 where
-  pub small : length bytes ≤ 16777216
+  pub small : length bytes ≤ max_bytes
   pub read : reads_claim bytes ≡ Ok (record { problem = P; claim = Some claim })
 
 -- ---- the end of the run

@@ -9,6 +9,7 @@
 -- known as such. Where a source does not tell its bytes, the contract speaks of some bytes, without
 -- saying which ones the source gave. The command `demo` has options, but no run here carries it
 -- out.
+use Rattle.nc_algebra.specs.Limits.{max_bytes}
 use Rattle.nc_io.specs.Adds.{Adds, AddsFront}
 use Rattle.nc_io.specs.Causes.{Rose}
 use Rattle.nc_io.specs.Pieces.{TakesWhole}
@@ -20,7 +21,7 @@ use Rattle.nc_top.specs.Check.{IsCheckAnswer}
 use Rattle.nc_top.specs.Member.{IsMemberAnswer}
 use Rattle.nc_top.specs.declared.status.Status.{Status}
 use Rattle.nc_top.specs.declared.status.Status.TheVariants.{OutOfMemory, ReadFault, Usage, WriteFault}
-use Rattle.std.specs.Prelude.{List, Some, [], codes, ℕ, ◌≡◌, ◌⊎◌}
+use Rattle.std.specs.Prelude.{List, Some, [], codes, ℕ, ◌+◌, ◌≡◌, ◌⊎◌}
 use Rattle.std.specs.declared.option.Option.{Option}
 
 -- `basis`, `member` and `check`
@@ -87,7 +88,7 @@ IsRefused sink result =
 pub record IsAnswered (options : Options) (source : SourceUse) (sink : SinkUse) (result : Status)
     : Type 0 where
   pub bytes : List ℕ
-  pub taken : TakesWhole source.left_before source.left_after bytes 16777217
+  pub taken : TakesWhole source.left_before source.left_after bytes (max_bytes + 1)
   pub status : Status
   pub report : List ℕ
   pub answer : IsAnswer options bytes status report

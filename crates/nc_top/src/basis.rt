@@ -1,5 +1,6 @@
 //! The answer of `basis`.
 
+ghost use Rattle.nc_algebra.specs.Limits.{max_bytes};
 ghost use Rattle.nc_desk.specs.Ends.{IsEndAt};
 ghost use Rattle.nc_reduce.specs.Leads.{LeadsOf};
 ghost use Rattle.nc_theory.specs.States.{State};
@@ -172,7 +173,7 @@ pub(crate) fn answer_basis(
     bytes: &[u8],
     options: BasisOptions,
 ) -> Result<(Status, Vec<u8>), AllocError>
-    requires small { length bytes.now ≤ 16777216 }
+    requires small { length bytes.now ≤ max_bytes }
     requires some { 1 ≤ options.window }
     requires few { options.window ≤ 4096 }
     ensures { IfOk result (λ r. IsBasisAnswer options bytes.now r.0 r.1.items) }

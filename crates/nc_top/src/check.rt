@@ -1,6 +1,7 @@
 //! The answer of `check`.
 
 ghost use Rattle.nc_algebra.specs.Certificates.{rest_of};
+ghost use Rattle.nc_algebra.specs.Limits.{max_bytes};
 ghost use Rattle.nc_text.specs.Certificates.{reads_certificate};
 ghost use Rattle.nc_top.specs.Check.{IsCheckAnswer};
 ghost use Rattle.nc_top.specs.Reports.{invalid_report, too_much_report};
@@ -51,7 +52,7 @@ fn answer_certificate(
     bytes: &[u8],
     certificate: &Certificate,
 ) -> Result<(Status, Vec<u8>), AllocError>
-    requires small { length bytes.now ≤ 16777216 }
+    requires small { length bytes.now ≤ max_bytes }
     requires certificate { reads_certificate bytes.now ≡ Ok certificate.now }
     ensures { IfOk result (λ r. IsCheckAnswer bytes.now r.0 r.1.items) }
 {
@@ -67,7 +68,7 @@ fn answer_certificate(
 
 /// Status and report for the bytes of an input that are not too many.
 pub(crate) fn answer_check(alloc: Global, bytes: &[u8]) -> Result<(Status, Vec<u8>), AllocError>
-    requires { length bytes.now ≤ 16777216 }
+    requires { length bytes.now ≤ max_bytes }
     ensures { IfOk result (λ r. IsCheckAnswer bytes.now r.0 r.1.items) }
 {
     match read_certificate(alloc, bytes) {

@@ -1,5 +1,6 @@
 //! The answer of `member`.
 
+ghost use Rattle.nc_algebra.specs.Limits.{max_bytes};
 ghost use Rattle.nc_options.specs.declared.options.Form.TheVariants.{Lines as AsLines, Terms as AsTerms};
 ghost use Rattle.nc_top.specs.Asked.{AreLinesOf, AreTermsOf, IsAsked, IsAskedAnswer, IsFoundOf, LeavesRest, StaysOpen};
 ghost use Rattle.nc_top.specs.Member.{IsClaimText, IsMemberAnswer, reads_claim};
@@ -227,7 +228,7 @@ fn answer_problem(
     text: ProblemText,
     options: MemberOptions,
 ) -> Result<(Status, Vec<u8>), AllocError>
-    requires small { length bytes.now ≤ 16777216 }
+    requires small { length bytes.now ≤ max_bytes }
     requires text { reads_claim bytes.now ≡ Ok text }
     requires some { 1 ≤ options.window }
     requires few { options.window ≤ 4096 }
@@ -246,7 +247,7 @@ pub(crate) fn answer_member(
     bytes: &[u8],
     options: MemberOptions,
 ) -> Result<(Status, Vec<u8>), AllocError>
-    requires small { length bytes.now ≤ 16777216 }
+    requires small { length bytes.now ≤ max_bytes }
     requires some { 1 ≤ options.window }
     requires few { options.window ≤ 4096 }
     ensures { IfOk result (λ r. IsMemberAnswer options bytes.now r.0 r.1.items) }

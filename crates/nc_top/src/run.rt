@@ -1,9 +1,10 @@
 //! The run of a command.
 
+ghost use Rattle.nc_algebra.specs.Limits.{max_bytes};
 ghost use Rattle.nc_io.specs.Pieces.{TakesFront};
 ghost use Rattle.nc_options.specs.Laws.{AreInRange};
 ghost use Rattle.nc_top.specs.Run.{IsAnswer, IsCommand, IsRefused, IsReported, IsRun, Ran, Runs};
-ghost use Rattle.std.specs.Prelude.{IfOk, IsTrue, codes, length, map, string_bytes, ◌↔◌, ◌≡◌, ◌≤◌};
+ghost use Rattle.std.specs.Prelude.{IfOk, IsTrue, codes, length, map, string_bytes, ◌+◌, ◌↔◌, ◌≡◌, ◌≤◌};
 
 use crate::basis::answer_basis;
 use crate::check::answer_check;
@@ -20,7 +21,7 @@ fn answer_text(
     options: Options,
     bytes: &[u8],
 ) -> Result<(Status, Vec<u8>), AllocError>
-    requires small { length bytes.now ≤ 16777216 }
+    requires small { length bytes.now ≤ max_bytes }
     requires runs { Runs options }
     requires range { AreInRange options }
     ensures { IfOk result (λ r. IsAnswer options bytes.now r.0 r.1.items) }
@@ -92,7 +93,7 @@ fn run_command<S: Source, K: Sink>(
       faults_before = K.faults sink.old;
       faults_after = K.faults sink.new;
     }) result }
-    ensures limit { TakesFront (S.left source.old) (S.left source.new) 16777217 }
+    ensures limit { TakesFront (S.left source.old) (S.left source.new) (max_bytes + 1) }
 {
     match take_whole(alloc, source, MAX_BYTES + 1) {
         Err(Fault::Read) => Status::ReadFault,
@@ -142,7 +143,7 @@ pub fn run_alone<S: Source, K: Sink>(
           faults_before = K.faults sink.old;
           faults_after = K.faults sink.new;
         }) result }
-    ensures limit { TakesFront (S.left source.old) (S.left source.new) 16777217 }
+    ensures limit { TakesFront (S.left source.old) (S.left source.new) (max_bytes + 1) }
 {
     options_are_in_range();
     match read_options(alloc, words) {

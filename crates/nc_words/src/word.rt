@@ -1,6 +1,7 @@
 //! Words.
 
 ghost use Rattle.nc_algebra.proofs.Words.{words_order};
+ghost use Rattle.nc_algebra.specs.Limits.{max_letters};
 ghost use Rattle.nc_algebra.specs.Words.{compare_words, same_word, word_weight};
 ghost use Rattle.std.specs.Cmp.{eq_by_cmp_equiv, partial_equiv_from_equiv, partial_order_from_total};
 ghost use Rattle.std.specs.Prelude.{IfOk, IsOk, Some, [], length, refl, ◌*◌, ◌+◌, ◌++◌, ◌≡◌, ◌≤◌};
@@ -35,6 +36,7 @@ pub struct Word {
 }
 
 impl Model for Word {
+    ghost use Rattle.nc_algebra.specs.Limits.{max_letters};
     ghost use Rattle.nc_algebra.specs.Words.{Word, word_weight};
     ghost use Rattle.std.specs.Prelude.{length, ◌*◌, ◌≡◌, ◌≤◌};
 
@@ -42,7 +44,7 @@ impl Model for Word {
 
     ghost view = { λ w. w.kept.items };
 
-    ghost invariant = { λ w. (length w.kept.items ≤ 200000) × (w.weight ≡ word_weight w.kept.items)
+    ghost invariant = { λ w. (length w.kept.items ≤ max_letters) × (w.weight ≡ word_weight w.kept.items)
         × (w.weight ≤ 100 * length w.kept.items) };
 }
 
@@ -59,7 +61,7 @@ impl Word {
 
     /// The three in a row.
     pub fn join(alloc: Global, a: &[Letter], b: &[Letter], c: &[Letter]) -> Result<Word, AllocError>
-        requires { length a.now + length b.now + length c.now ≤ 200000 }
+        requires { length a.now + length b.now + length c.now ≤ max_letters }
         ensures letters { IfOk result (λ w. w ≡ a.now ++ (b.now ++ c.now)) }
         ensures succeeds { length a.now + length b.now + length c.now ≤ 24 → IsOk result }
     {
@@ -75,7 +77,7 @@ impl Word {
     /// The letters, the first one first.
     pub fn letters(&self) -> &[Letter]
         ensures letters { result.now ≡ self.now }
-        ensures few { length self.now ≤ 200000 }
+        ensures few { length self.now ≤ max_letters }
     {
         self.kept.as_slice()
     }
