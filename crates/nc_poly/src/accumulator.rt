@@ -32,35 +32,6 @@ fn make_room(p: Prime, kept: &mut Vec<Term>, more: usize) -> Result<(), AllocErr
     Ok(())
 }
 
-/// Appends c u g v, or nothing where memory runs out.
-fn push_whole_multiple(
-    alloc: Global,
-    out: &mut Vec<Term>,
-    p: Prime,
-    c: Residue,
-    u: &[Letter],
-    g: &[Term],
-    v: &[Letter],
-) -> Result<(), AllocError>
-    requires factor { c < p }
-    requires residues { AreResidues p g.now }
-    requires few { All (λ t. length u.now + length t.key + length v.now ≤ max_letters) g.now }
-    requires before { AreResidues p out.old.items }
-    ensures appended { OnOk result
-        (out.new.items ≡ out.old.items ++ multiples_of p c u.now g.now v.now) }
-    ensures residues { AreResidues p out.new.items }
-    ensures err { OnErr result (out.new.items ≡ out.old.items) }
-{
-    let len = out.len();
-    match push_multiple(alloc, out, p, c, u, g, v) {
-        Ok(()) => Ok(()),
-        Err(error) => {
-            out.truncate(len);
-            Err(error)
-        }
-    }
-}
-
 /// A sum from which many multiples are subtracted. Contracts see a list of terms whose sum it is; only its coefficients
 /// count.
 ///
@@ -110,7 +81,14 @@ impl Accumulator {
         ensures err { OnErr result (SameSum same_word p self.new self.old) }
     {
         make_room(p, &mut self.kept, g.terms().len())?;
-        push_whole_multiple(alloc, &mut self.kept, p, p.neg(c), u, g.terms(), v)
+        let len = self.kept.len();
+        match push_multiple(alloc, &mut self.kept, p, p.neg(c), u, g.terms(), v) {
+            Ok(()) => Ok(()),
+            Err(error) => {
+                self.kept.truncate(len);
+                Err(error)
+            }
+        }
     }
 
     /// The polynomial that the sum is. No memory is taken.

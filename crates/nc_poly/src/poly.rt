@@ -23,50 +23,6 @@ fn push_copies(out: &mut Vec<Term>, terms: &[Term]) -> Result<(), AllocError>
     Ok(())
 }
 
-/// Adds the terms g to a list of terms, and brings it into normal form.
-fn add_terms(alloc: Global, kept: &mut Vec<Term>, p: Prime, g: &[Term]) -> Result<(), AllocError>
-    requires residues { AreResidues p kept.old.items }
-    requires other_residues { AreResidues p g.now }
-    ensures sum { OnOk result (kept.new.items ≡ normal_form p (kept.old.items ++ g.now)) }
-    ensures descending { IsDescending kept.old.items → IsDescending kept.new.items }
-    ensures residues { AreResidues p kept.new.items }
-    ensures err { OnErr result (kept.new.items ≡ kept.old.items) }
-{
-    let mut copies = Vec::with_capacity(alloc, g.len())?;
-    push_copies(&mut copies, g)?;
-    kept.append(&mut copies)?;
-    collect(p, kept);
-    Ok(())
-}
-
-/// Subtracts c u g v from a list of terms, and brings it into normal form.
-fn subtract(
-    alloc: Global,
-    kept: &mut Vec<Term>,
-    p: Prime,
-    c: Residue,
-    u: &[Letter],
-    g: &[Term],
-    v: &[Letter],
-) -> Result<(), AllocError>
-    requires factor { c < p }
-    requires residues { AreResidues p kept.old.items }
-    requires other_residues { AreResidues p g.now }
-    requires few { All (λ t. length u.now + length t.key + length v.now ≤ max_letters) g.now }
-    ensures difference { OnOk result
-        (kept.new.items ≡ normal_form p
-        (minus p kept.old.items c (polynomial_times u.now g.now v.now))) }
-    ensures descending { IsDescending kept.old.items → IsDescending kept.new.items }
-    ensures residues { AreResidues p kept.new.items }
-    ensures err { OnErr result (kept.new.items ≡ kept.old.items) }
-{
-    let mut product = Vec::with_capacity(alloc, g.len())?;
-    push_multiple(alloc, &mut product, p, p.neg(c), u, g, v)?;
-    kept.append(&mut product)?;
-    collect(p, kept);
-    Ok(())
-}
-
 /// A polynomial: its terms, each word once and the greatest first, with no coefficient 0.
 #[derive(Drop)]
 pub struct Poly {
@@ -183,8 +139,11 @@ impl Poly {
         ensures residues { AreResidues p self.new }
         ensures err { OnErr result (self.new ≡ self.old) }
     {
-        let alloc = *self.kept.allocator();
-        add_terms(alloc, &mut self.kept, p, g.terms())
+        let mut copies = Vec::with_capacity(*self.kept.allocator(), g.terms().len())?;
+        push_copies(&mut copies, g.terms())?;
+        self.kept.append(&mut copies)?;
+        collect(p, &mut self.kept);
+        Ok(())
     }
 
     /// Subtracts c u g v. After `Err` the polynomial is as it was.
@@ -206,6 +165,10 @@ impl Poly {
         ensures residues { AreResidues p self.new }
         ensures err { OnErr result (self.new ≡ self.old) }
     {
-        subtract(alloc, &mut self.kept, p, c, u, g.terms(), v)
+        let mut product = Vec::with_capacity(alloc, g.terms().len())?;
+        push_multiple(alloc, &mut product, p, p.neg(c), u, g.terms(), v)?;
+        self.kept.append(&mut product)?;
+        collect(p, &mut self.kept);
+        Ok(())
     }
 }
