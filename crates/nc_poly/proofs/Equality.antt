@@ -3,8 +3,8 @@ use Rattle.nc_algebra.proofs.Words.{word_laws}
 use Rattle.nc_algebra.specs.Polynomials.{Polynomial}
 use Rattle.nc_algebra.specs.Sums.{Term}
 use Rattle.nc_algebra.specs.Words.{Word, same_word}
-use Rattle.std.proofs.Common.{Bool, ap, arith, nat_eq, subst, true, ◌&&◌, ◌≡◌}
-use Rattle.std.proofs.lemmas.Bool.{eq-eqb, eqb-true}
+use Rattle.std.proofs.Common.{Bool, ap, nat_eq, subst, true, ◌&&◌, ◌≡◌}
+use Rattle.std.proofs.lemmas.Bool.{and_parts, eq-eqb, eqb-true}
 use Rattle.std.specs.Bool.{Decides}
 use Rattle.std.specs.Cmp.Derive.{both_true}
 use Rattle.std.specs.Cmp.Lexicographic.{pointwise, pointwise_decides}
@@ -15,14 +15,11 @@ same_term t u = nat_eq t.coefficient u.coefficient && same_word t.key u.key
 
 term_decides : (t u : Term Word) → Decides (same_term t u) (t ≡ u)
 term_decides t u = (
-  λ e. join (parts (nat_eq t.coefficient u.coefficient) (same_word t.key u.key) e),
+  λ e. join (and_parts (nat_eq t.coefficient u.coefficient) (same_word t.key u.key) e),
   λ e. both_true (eq-eqb t.coefficient u.coefficient (ap (λ z. z.coefficient) e))
       (subst (λ z. same_word t.key z ≡ true) (ap (λ z. z.key) e) (word_laws.same_refl t.key)),
 )
   where
-    parts : (a b : Bool) → (a && b) ≡ true → (a ≡ true) × (b ≡ true)
-    parts a b e = grind (arith, e)
-
     join : (nat_eq t.coefficient u.coefficient ≡ true) × (same_word t.key u.key ≡ true) → t ≡ u
     join (a, b) =
         let i : t.coefficient ≡ u.coefficient =

@@ -1,8 +1,8 @@
 -- Letters and words that are compared for equality.
 use Rattle.nc_algebra.proofs.Words.{word_laws}
 use Rattle.nc_algebra.specs.Words.{Letter, Word, same_word}
-use Rattle.std.proofs.Common.{Bool, ap, arith, nat_eq, subst, true, ◌&&◌, ◌≡◌}
-use Rattle.std.proofs.lemmas.Bool.{eq-eqb, eqb-true}
+use Rattle.std.proofs.Common.{Bool, ap, nat_eq, subst, true, ◌&&◌, ◌≡◌}
+use Rattle.std.proofs.lemmas.Bool.{and_parts, eq-eqb, eqb-true}
 use Rattle.std.specs.Bool.{Decides, one_answer}
 use Rattle.std.specs.Cmp.Derive.{both_true}
 use Rattle.std.specs.Cmp.Lexicographic.{pointwise, pointwise_decides}
@@ -13,14 +13,11 @@ same_letter x y = nat_eq x.index y.index && nat_eq x.extra y.extra
 
 letter_decides : (x y : Letter) → Decides (same_letter x y) (x ≡ y)
 letter_decides x y = (
-  λ e. join (parts (nat_eq x.index y.index) (nat_eq x.extra y.extra) e),
+  λ e. join (and_parts (nat_eq x.index y.index) (nat_eq x.extra y.extra) e),
   λ e. both_true (eq-eqb x.index y.index (ap (λ z. z.index) e))
       (eq-eqb x.extra y.extra (ap (λ z. z.extra) e)),
 )
   where
-    parts : (a b : Bool) → (a && b) ≡ true → (a ≡ true) × (b ≡ true)
-    parts a b e = grind (arith, e)
-
     join : (nat_eq x.index y.index ≡ true) × (nat_eq x.extra y.extra ≡ true) → x ≡ y
     join (a, b) =
         let i : x.index ≡ y.index =
