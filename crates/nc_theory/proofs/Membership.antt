@@ -2,16 +2,16 @@
 -- representation within the bound.
 use Rattle.nc_algebra.proofs.Elements.{HasGenerator, coefficient-evaluation, element_times_leads, evaluation-minus, evaluation_times, evaluation_zero, image, in_times}
 use Rattle.nc_algebra.proofs.Monomials.{monomial_laws}
-use Rattle.nc_algebra.proofs.Sums.{below_lead, coefficient-minus, lead_unique, linear_sum-append, linear_sum-scale, top, zero_add, zero_dec, zero_mul_left, zero_number}
-use Rattle.nc_algebra.proofs.Words.{word_laws}
+use Rattle.nc_algebra.proofs.Sums.{below_lead, coefficient-minus, linear_sum-append, linear_sum-scale, top, zero_add, zero_dec, zero_mul_left, zero_number}
 use Rattle.nc_algebra.specs.Elements.{Element, IsIn, IsLabelled, IsLess, IsSignatureOf, SamePolynomial, Setting, element_times, evaluation, generator_weight}
 use Rattle.nc_algebra.specs.Monomials.{Monomial, same_monomial}
 use Rattle.nc_algebra.specs.Polynomials.{Polynomial, coefficient}
 use Rattle.nc_algebra.specs.Primes.{IsField, IsZero}
 use Rattle.nc_algebra.specs.Sums.{coefficient_by, is_at, minus, scale}
-use Rattle.nc_algebra.specs.Words.{IsWordLess, Word, same_word}
-use Rattle.nc_theory.proofs.Chains.{coefficient_polynomial_minus, leads_same, sum_mod, times_mod}
+use Rattle.nc_algebra.specs.Words.{Word}
+use Rattle.nc_theory.proofs.Chains.{coefficient_polynomial_minus, same_lead, sum_mod, times_mod}
 use Rattle.nc_theory.proofs.Closure.{put_back}
+use Rattle.nc_theory.proofs.Relisted.{respelled}
 use Rattle.nc_theory.specs.Bases.{HasRepresentation, IsBasisBelow, IsSound, ReducesToZero}
 use Rattle.nc_theory.specs.Labels.{label_at, step_multiples}
 use Rattle.nc_theory.specs.Divisors.{Divisor, multiple_at, signature_at}
@@ -105,14 +105,7 @@ module _ (s : Setting) (field : IsField s.prime) (state : State) (sound : IsSoun
           → SamePolynomial s g f → ⊥
       begins σ b (ReducesToZero.done z) i = d.nonzero (sym (i.at w) ∙ z w)
       begins σ b (ReducesToZero.step {f = g} x gl v le k r rest') i =
-          any (record {
-            entry = v.entry;
-            listed = v.listed;
-            left = v.left;
-            right = v.right;
-            spells = v.spells ∙ lead_unique same_word IsWordLess word_laws
-                s.prime f x w (leads_same s g f x i gl) d;
-          }) (place le)
+          any (respelled v (same_lead s g f x w i gl d)) (place le)
         where
           place : (signature_at s state.entries x v ≡ σ)
               ⊎ IsLess s (signature_at s state.entries x v) σ

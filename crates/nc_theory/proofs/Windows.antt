@@ -17,7 +17,7 @@ use Rattle.nc_theory.proofs.Ascent.{waiting}
 use Rattle.nc_theory.proofs.Desk.{event_runs, found, own_stands, snapshot}
 use Rattle.nc_theory.proofs.Events.{held_dec}
 use Rattle.nc_theory.proofs.Plays.{some_same}
-use Rattle.nc_theory.specs.Desk.{Abandoned, Abandons, Advances, Claims, Desk, Does, Event, IsFirstUnheld, IsGiven, IsHeld, IsLawful, IsReadyWork, Node, Plays, Submits, Submitted, Ticket, Work, count_from, generation_at, insert_node, node_at, node_of, open_desk, with_work, without_node}
+use Rattle.nc_theory.specs.Desk.{Abandoned, Abandons, Advances, Claims, Desk, Does, Event, IsFirstUnheld, IsGiven, IsHeld, IsLawful, IsReadyWork, Node, Plays, Submits, Submitted, Ticket, Work, after_claimed, count_from, generation_at, insert_node, node_at, node_of, open_desk, with_work, without_node}
 use Rattle.nc_theory.specs.Runs.{Handles, IsNext, IsWaiting, Outcome, SequentialRun, state_after}
 use Rattle.nc_theory.specs.States.{State}
 use Rattle.nc_theory.specs.Windows.{AreFromOneClaim, IsFromClaim, WindowLaw, generation_of}
@@ -295,17 +295,15 @@ module _ (P : NamedProblem) (capacity : ℕ) where
       → (handled : ℕ) → d.handled ≤ handled
       → (state : State) (last : Option Monomial) (committed dropped abandoned : ℕ)
       → AllByRecursion (IsWaiting P.problem state last) (signatures rest) → (i : ℕ) → n.index ≡ i
-      → Kept (record {
+      → Kept (record d {
         handled = handled;
         state = state;
         last = last;
         window = rest;
         free = i ∷ d.free;
-        claimed = d.claimed;
         committed = committed;
         dropped = dropped;
         abandoned = abandoned;
-        alone = d.alone;
       })
   freed d k n rest a handled later state last committed dropped abandoned waits i e =
       record {
@@ -367,17 +365,8 @@ module _ (P : NamedProblem) (capacity : ℕ) where
       numbers = work_indices t.index w d.window
 
       go : At t.index given.0 d.window
-          → Kept (record {
-            handled = d.handled;
-            state = d.state;
-            last = d.last;
+          → Kept (record d {
             window = with_work t.index w d.window;
-            free = d.free;
-            claimed = d.claimed;
-            committed = d.committed;
-            dropped = d.dropped;
-            abandoned = d.abandoned;
-            alone = d.alone;
           })
       go (n, at, odd, out, worked, found) =
           record {
@@ -420,20 +409,7 @@ module _ (P : NamedProblem) (capacity : ℕ) where
   -- a claim's node goes into the window
   claim_keeps : (d : Desk) → Kept d → (i : ℕ) (others : List ℕ) → d.free ≡ i ∷ others
       → (τ : Monomial) → IsFirstUnheld P.problem d τ
-      → Kept (record {
-        handled = d.handled;
-        state = d.state;
-        last = d.last;
-        window = insert_node (generator_weight P.problem.setting)
-            (record { signature = τ; index = i; generation = 2 * d.claimed + 1; work = None })
-            d.window;
-        free = others;
-        claimed = d.claimed + 1;
-        committed = d.committed;
-        dropped = d.dropped;
-        abandoned = d.abandoned;
-        alone = d.alone;
-      })
+      → Kept (after_claimed (generator_weight P.problem.setting) d i others τ)
   claim_keeps d k i others free τ first =
       record {
         ascends = insert_ascends P.problem.setting n d.window unheld k.ascends;
