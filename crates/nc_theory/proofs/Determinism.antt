@@ -4,6 +4,7 @@
 -- (`residue_same`), and what is left of both is equal again.
 use Rattle.nc_algebra.proofs.Leading.{lead_leads}
 use Rattle.nc_algebra.proofs.Monomials.{monomial_laws}
+use Rattle.nc_algebra.proofs.Orders.{least_same}
 use Rattle.nc_algebra.proofs.Words.{cut, word_irrefl, word_trans}
 use Rattle.nc_algebra.specs.Elements.{IsLess, IsZeroPolynomial, SamePolynomial, Setting, generator, generator_weight}
 use Rattle.nc_algebra.specs.Monomials.{Monomial, unit_monomial}
@@ -305,14 +306,8 @@ module _ (s : Setting) (field : IsField s.prime) (state : State) (nonzero : (e :
 pub next_unique : (P : Problem) (state : State) (last : Option Monomial) (τ τ' : Monomial)
     → IsNext P state last τ → IsNext P state last τ' → τ ≡ τ'
 next_unique P state last τ τ' a b =
-    go (a.least τ' b.candidate b.left) (b.least τ a.candidate a.left)
-  where
-    go : (τ' ≡ τ) ⊎ IsLess P.setting τ τ' → (τ ≡ τ') ⊎ IsLess P.setting τ' τ → τ ≡ τ'
-    go (inl e) o = sym e
-    go (inr l) (inl e) = e
-    go (inr l) (inr m) =
-        absurd ((monomial_laws (generator_weight P.setting)).irrefl τ
-        ((monomial_laws (generator_weight P.setting)).trans τ τ' τ l m))
+    least_same (monomial_laws (generator_weight P.setting)) τ τ'
+    (a.least τ' b.candidate b.left) (b.least τ a.candidate a.left)
 
 -- a run has one state at each number
 pub run_unique : (P : Problem) → IsField P.setting.prime

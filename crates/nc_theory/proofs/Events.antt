@@ -2,13 +2,13 @@
 -- What an event asks can be decided. The least waiting signature that is not handed out is found in
 -- the list of candidates (`first_with`). An advance ends, since each commit takes a node out of the
 -- window (`advances_within`).
-use Rattle.nc_algebra.proofs.Orders.{Decided, nat_order}
+use Rattle.nc_algebra.proofs.Orders.{Decided, nat_dec, nat_order}
 use Rattle.nc_algebra.specs.Elements.{IsLess}
 use Rattle.nc_algebra.specs.Monomials.{Monomial}
 use Rattle.nc_algebra.specs.Primes.{IsField}
 use Rattle.nc_algebra.specs.Problems.{NamedProblem, Problem}
 use Rattle.nc_theory.proofs.Completeness.{invariant}
-use Rattle.nc_theory.proofs.Decisions.{any, nat_dec}
+use Rattle.nc_theory.proofs.Decisions.{any}
 use Rattle.nc_theory.proofs.Desk.{event_runs, found, remove_counts}
 use Rattle.nc_theory.proofs.Determinism.{handles_unique, next_unique}
 use Rattle.nc_theory.proofs.Ends.{first_with, handles_exists, next_exists, source}
