@@ -168,16 +168,16 @@ module _ (s : Setting) where
           (linear_sum_zero same_monomial (IsLess s) (monomial_laws (generator_weight s)) s.prime
           (λ τ. is_at same_monomial σ (times u τ v)) α (each nm))))
 
-  pub in_minus : (α : Element) (c : ℕ) (β : Element) → IsIn s α HasGenerator → IsIn s β HasGenerator
-      → IsIn s (minus s.prime α c β) HasGenerator
-  in_minus α c β h k σ n =
+  pub in_minus : {set : Monomial → Type 0} (α : Element) (c : ℕ) (β : Element) → IsIn s α set
+      → IsIn s β set → IsIn s (minus s.prime α c β) set
+  in_minus {set} α c β h k σ n =
       go (zero_dec s.prime (coefficient_by same_monomial α σ))
       (zero_dec s.prime (coefficient_by same_monomial β σ))
     where
       go : IsZero s.prime (coefficient_by same_monomial α σ)
           ⊎ ¬ IsZero s.prime (coefficient_by same_monomial α σ)
           → IsZero s.prime (coefficient_by same_monomial β σ)
-          ⊎ ¬ IsZero s.prime (coefficient_by same_monomial β σ) → HasGenerator σ
+          ⊎ ¬ IsZero s.prime (coefficient_by same_monomial β σ) → set σ
       go (inr nz) o = h σ nz
       go (inl z) (inr nz) = k σ nz
       go (inl z) (inl y) =

@@ -9,6 +9,7 @@ use Rattle.nc_algebra.specs.Problems.{IsWithin, Problem}
 use Rattle.nc_algebra.specs.Sums.{Term}
 use Rattle.nc_algebra.specs.Words.{Word}
 use Rattle.nc_theory.proofs.Completeness.{Invariant, IsReached, entries_after, high_old, invariant, low_old, reached_or_left}
+use Rattle.nc_theory.proofs.Relisted.{relisted_ambiguity}
 use Rattle.nc_theory.proofs.Stale.{front_or_later, last_is}
 use Rattle.nc_theory.specs.Ambiguities.{NewAmbiguity}
 use Rattle.nc_theory.specs.Reductions.{ReductionAt}
@@ -89,34 +90,7 @@ module _ (P : Problem) (field : IsField P.setting.prime) {n : ℕ} {state : Stat
           × BringsAmbiguity P.setting state τ (Outcome.an_entry f trace) ρ)
       go (inr (_, b)) o = inr (within, record { word = w; ambiguity = amb; newest = inr b })
       go (inl k) (inr (_, b)) = inr (within, record { word = w; ambiguity = amb; newest = inl b })
-      go (inl (k, _)) (inl (h, _)) = inl (
-        within,
-        inr (
-          w,
-          record {
-            high = record {
-              entry = amb.high.entry;
-              listed = h;
-              left = amb.high.left;
-              right = amb.high.right;
-              spells = amb.high.spells;
-            };
-            low = record {
-              entry = amb.low.entry;
-              listed = k;
-              left = amb.low.left;
-              right = amb.low.right;
-              spells = amb.low.spells;
-            };
-            spans_front = amb.spans_front;
-            spans_back = amb.spans_back;
-            high_begins = amb.high_begins;
-            low_begins = amb.low_begins;
-            below = amb.below;
-            signed = amb.signed;
-          },
-        ),
-      )
+      go (inl (k, _)) (inl (h, _)) = inl (within, inr (w, relisted_ambiguity amb h k))
 
   -- and a candidate stays one
   candidate_on : (o : Outcome) (ρ : Monomial) → IsCandidate P state ρ
@@ -126,28 +100,8 @@ module _ (P : Problem) (field : IsField P.setting.prime) {n : ℕ} {state : Stat
     within,
     inr (
       w,
-      record {
-        high = record {
-          entry = amb.high.entry;
-          listed = entries_after P.setting state τ o amb.high.entry amb.high.listed;
-          left = amb.high.left;
-          right = amb.high.right;
-          spells = amb.high.spells;
-        };
-        low = record {
-          entry = amb.low.entry;
-          listed = entries_after P.setting state τ o amb.low.entry amb.low.listed;
-          left = amb.low.left;
-          right = amb.low.right;
-          spells = amb.low.spells;
-        };
-        spans_front = amb.spans_front;
-        spans_back = amb.spans_back;
-        high_begins = amb.high_begins;
-        low_begins = amb.low_begins;
-        below = amb.below;
-        signed = amb.signed;
-      },
+      relisted_ambiguity amb (entries_after P.setting state τ o amb.high.entry amb.high.listed)
+          (entries_after P.setting state τ o amb.low.entry amb.low.listed),
     ),
   )
 

@@ -5,7 +5,7 @@
 -- (`vanishing`).
 use Rattle.nc_algebra.proofs.Elements.{polynomial_times_coefficient, polynomial_times_leads}
 use Rattle.nc_algebra.proofs.Monomials.{monomial_laws}
-use Rattle.nc_algebra.proofs.Sums.{coefficient-minus, domain, zero_add, zero_mul_left, zero_number, zero_rest}
+use Rattle.nc_algebra.proofs.Sums.{coefficient-minus, domain, lead_unique, zero_add, zero_mul_left, zero_number, zero_rest}
 use Rattle.nc_algebra.proofs.Words.{word_laws, word_total, word_trans}
 use Rattle.nc_algebra.specs.Elements.{IsLeadingWord, IsLess, IsZeroPolynomial, SamePolynomial, Setting, generator_weight}
 use Rattle.nc_algebra.specs.Monomials.{Monomial}
@@ -13,6 +13,7 @@ use Rattle.nc_algebra.specs.Polynomials.{Polynomial, coefficient, leading, polyn
 use Rattle.nc_algebra.specs.Primes.{IsField, IsZero}
 use Rattle.nc_algebra.specs.Sums.{minus}
 use Rattle.nc_algebra.specs.Words.{IsWordLess, Word, same_word}
+use Rattle.nc_theory.proofs.Relisted.{respelled}
 use Rattle.nc_theory.specs.Bases.{ReducesToZero}
 use Rattle.nc_theory.specs.Divisors.{Divisor, RegularDivisor, multiple_at, signature_at}
 use Rattle.nc_theory.specs.States.{Entry}
@@ -47,6 +48,11 @@ module _ (s : Setting) where
       → IsLeadingWord s f' w
   leads_same f f' w e d =
       record { nonzero = λ z. d.nonzero (e.at w ∙ z); above = λ x h. sym (e.at x) ∙ d.above x h }
+
+  pub same_lead : (f f' : Polynomial) (w w' : Word) → SamePolynomial s f f' → IsLeadingWord s f w
+      → IsLeadingWord s f' w' → w ≡ w'
+  same_lead f f' w w' e d d' =
+      lead_unique same_word IsWordLess word_laws s.prime f' w w' (leads_same f f' w e d) d'
 
   pub same_minus : (f f' : Polynomial) (c : ℕ) (g : Polynomial) → SamePolynomial s f f'
       → SamePolynomial s (minus s.prime f c g) (minus s.prime f' c g)
@@ -141,13 +147,7 @@ module _ (s : Setting) (field : IsField s.prime) (entries : List Entry) (τ : Mo
       → RegularDivisor s entries τ w
   regular σ l x e v o =
       record {
-        divisor = record {
-          entry = v.entry;
-          listed = v.listed;
-          left = v.left;
-          right = v.right;
-          spells = v.spells ∙ e;
-        };
+        divisor = respelled v e;
         below = go o;
       }
     where

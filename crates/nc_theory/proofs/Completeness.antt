@@ -20,6 +20,7 @@ use Rattle.nc_theory.proofs.Carrying.{Carries, carry}
 use Rattle.nc_theory.proofs.Closure.{basis_below, syzygies_below}
 use Rattle.nc_theory.proofs.Places.{at_most_multiple}
 use Rattle.nc_theory.proofs.Reductions.{From, kept_clear, kept_leads, kept_less, multiple_leads_at}
+use Rattle.nc_theory.proofs.Relisted.{relisted, relisted_ambiguity}
 use Rattle.nc_theory.specs.Ambiguities.{Ambiguity}
 use Rattle.nc_theory.specs.Bases.{IsBasisBelow, IsClosed, IsSound, IsSyzygyBasisBelow}
 use Rattle.nc_theory.specs.Divisors.{Divisor, IsBestMultiple, Multiple, RegularDivisor, multiple_at, signature_at, number_of}
@@ -148,13 +149,7 @@ module _ (s : Setting) where
       → Multiple s state.entries ρ w → Multiple s (state_after state τ o).entries ρ w
   multiple_after state τ o ρ w m =
       record {
-        divisor = record {
-          entry = m.divisor.entry;
-          listed = entries_after state τ o m.divisor.entry m.divisor.listed;
-          left = m.divisor.left;
-          right = m.divisor.right;
-          spells = m.divisor.spells;
-        };
+        divisor = relisted m.divisor (entries_after state τ o m.divisor.entry m.divisor.listed);
         signed = m.signed;
       }
 
@@ -617,28 +612,8 @@ module _ (P : Problem) (field : IsField P.setting.prime) (state : State) (last :
         go (inl k) (inr e) = absurd (high_old ρ w amb r k e)
         go (inl k) (inl h) =
             ambiguities_step (Outcome.an_entry (t ∷ kept) trace)
-            (λ v a. inr (t.key, less_word starts reduction v a, new_multiple)) ρ w (record {
-              high = record {
-                entry = amb.high.entry;
-                listed = h;
-                left = amb.high.left;
-                right = amb.high.right;
-                spells = amb.high.spells;
-              };
-              low = record {
-                entry = amb.low.entry;
-                listed = k;
-                left = amb.low.left;
-                right = amb.low.right;
-                spells = amb.low.spells;
-              };
-              spans_front = amb.spans_front;
-              spans_back = amb.spans_back;
-              high_begins = amb.high_begins;
-              low_begins = amb.low_begins;
-              below = amb.below;
-              signed = amb.signed;
-            }) within r
+            (λ v a. inr (t.key, less_word starts reduction v a, new_multiple)) ρ w
+            (relisted_ambiguity amb h k) within r
 
     step_entry : Invariant P (state_after state τ (Outcome.an_entry (t ∷ kept) trace)) (Some τ)
     step_entry = record {
@@ -709,13 +684,7 @@ module _ (P : Problem) (field : IsField P.setting.prime) (state : State) (last :
                 ⊎ (new_entry τ (t ∷ kept) trace ≡ r.divisor.entry) → ⊥
             go (inl k) =
                 inv.clear e c x nz (record {
-                  divisor = record {
-                    entry = r.divisor.entry;
-                    listed = k;
-                    left = r.divisor.left;
-                    right = r.divisor.right;
-                    spells = r.divisor.spells;
-                  };
+                  divisor = relisted r.divisor k;
                   below = r.below;
                 })
             go (inr i) = not_below e.signature x r.divisor i (inr (old_below e c)) r.below
@@ -727,13 +696,7 @@ module _ (P : Problem) (field : IsField P.setting.prime) (state : State) (last :
                 kept_clear P.setting field state.entries inv.sound.nonzero
                 (λ σ. IsLess P.setting σ τ) reduction x
                 (subst (λ y. ¬ IsZero P.setting.prime (coefficient y.polynomial x)) (sym d) nz)
-                (record {
-                  entry = r.divisor.entry;
-                  listed = k;
-                  left = r.divisor.left;
-                  right = r.divisor.right;
-                  spells = r.divisor.spells;
-                })
+                (relisted r.divisor k)
                 (subst (λ y. IsLess P.setting (signature_at P.setting entries' x r.divisor)
                 y.signature) (sym d) r.below)
             go (inr i) =

@@ -3,23 +3,23 @@
 -- a signature is covered (`covered_dec`). The best multiple is found entry after entry
 -- (`best_exists`).
 use Rattle.nc_algebra.proofs.Monomials.{monomial_laws, times-times}
-use Rattle.nc_algebra.proofs.Orders.{Decided, least, nat_order}
+use Rattle.nc_algebra.proofs.Orders.{Decided, least, nat_dec, nat_order}
 use Rattle.nc_algebra.proofs.Sums.{key_dec}
 use Rattle.nc_algebra.proofs.Words.{begins, split, word_laws, word_total, word_trans}
 use Rattle.nc_algebra.specs.Elements.{IsLess, IsZeroPolynomial, Setting, generator_weight}
-use Rattle.nc_algebra.specs.Monomials.{Divides, Monomial, times, unit_monomial}
+use Rattle.nc_algebra.specs.Monomials.{Divides, Monomial, times}
 use Rattle.nc_algebra.specs.Polynomials.{leading}
 use Rattle.nc_algebra.specs.Primes.{IsField}
 use Rattle.nc_algebra.specs.Words.{IsWordLess, Word, same_word}
 use Rattle.nc_theory.proofs.Determinism.{fronts_same, listed_same, one_multiple}
-use Rattle.nc_theory.proofs.Existence.{choose}
+use Rattle.nc_theory.proofs.Existence.{choose, listed_at, nobody}
 use Rattle.nc_theory.proofs.Traces.{only_one}
 use Rattle.nc_theory.specs.Divisors.{Divisor, IsBestMultiple, IsChosenDivisor, Multiple, RegularDivisor, signature_at}
-use Rattle.nc_theory.specs.States.{Entry, Start, State, Syzygy}
+use Rattle.nc_theory.specs.States.{Entry, State, Syzygy}
 use Rattle.nc_theory.specs.Syzygies.{Covered, IsSyzygySignature}
 use Rattle.std.proofs.Common.{Contains, List, [], ap, ap₂, append-nil, append_assoc, arith, get_or, inl, inr, length, length-append, refl, subst, subst₂, suc, sym, zero, ℕ, ◌+◌, ◌++◌, ◌-◌, ◌<◌, ◌∙◌, ◌∷◌, ◌≡◌, ◌≤◌, ◌⊎◌}
 use Rattle.std.proofs.lemmas.List.Elements.{Contains-append_cases, Contains-append_right}
-use Rattle.std.proofs.lemmas.List.{append_cancel_left, append_cancel_right, get_or_default}
+use Rattle.std.proofs.lemmas.List.{append_cancel_left, append_cancel_right}
 
 -- whether an element of a list has a property
 pub any : {X : Type 0} → (P : X → Type 0) → ((x : X) → Decided (P x)) → (xs : List X)
@@ -71,14 +71,6 @@ ends a b = go (nat_order (length a) (length b))
     go (inl l) = at (length b - length a) (omega arith)
     go (inr (inl e)) = at 0 (omega (arith, e))
     go (inr (inr l)) = inr (λ t. omega (arith, l, ap length t.1, length-append t.0 a))
-
-pub nat_dec : (a b : ℕ) → Decided (a ≡ b)
-nat_dec a b = go (nat_order a b)
-  where
-    go : (a < b) ⊎ ((a ≡ b) ⊎ (b < a)) → Decided (a ≡ b)
-    go (inl l) = inr (λ e. omega (arith, l, e))
-    go (inr (inl e)) = inl e
-    go (inr (inr l)) = inr (λ e. omega (arith, l, e))
 
 pub divides_dec : (σ τ : Monomial) → Decided (Divides σ τ)
 divides_dec σ τ = go (ends σ.left τ.left) (nat_dec σ.generator τ.generator) (begins σ.right τ.right)
@@ -137,14 +129,6 @@ module _ (s : Setting) (field : IsField s.prime) (state : State) (nonzero : (e :
   at_dec : (n : ℕ) → Decided (At n)
   at_dec n = inside (nat_order n (length state.entries))
     where
-      nobody : Entry
-      nobody =
-          record {
-            signature = unit_monomial 0;
-            polynomial = [];
-            trace = record { start = Start.a_generator 0; steps = [] };
-          }
-
       found : n < length state.entries
           → Decided (Divides (get_or state.entries n nobody).signature τ) → Decided (At n)
       found l (inl (u, v, e)) =
@@ -152,12 +136,7 @@ module _ (s : Setting) (field : IsField s.prime) (state : State) (nonzero : (e :
             u ++ (leading s.prime (get_or state.entries n nobody).polynomial ++ v),
             record {
               entry = get_or state.entries n nobody;
-              listed = (
-                n,
-                l,
-                get_or_default state.entries n (get_or state.entries n nobody) nobody
-                    l,
-              );
+              listed = listed_at state.entries n l;
               left = u;
               right = v;
               spells = refl;
@@ -170,12 +149,8 @@ module _ (s : Setting) (field : IsField s.prime) (state : State) (nonzero : (e :
             t.1.left,
             t.1.right,
             ap (λ x. times t.1.left x.signature t.1.right)
-                (listed_same state.entries (get_or state.entries n nobody) t.1.entry (
-                  n,
-                  l,
-                  get_or_default state.entries n (get_or state.entries n nobody) nobody l,
-                )
-                t.1.listed (sym t.3)) ∙ t.2,
+                (listed_same state.entries (get_or state.entries n nobody) t.1.entry
+                (listed_at state.entries n l) t.1.listed (sym t.3)) ∙ t.2,
           ))
 
       inside : (n < length state.entries)

@@ -1,6 +1,6 @@
 -- After each list of events the desk is at a state of the run, and its counts add up.
 -- Claims, works that come in and tickets that are given back leave the state as it is; a commit is
--- a step of the run (`advance_runs`). Counts: a claim adds one node (`insert_counts`), a work none
+-- a step of the run (`advance_holds`). Counts: a claim adds one node (`insert_counts`), a work none
 -- (`work_counts`). A commit takes out one, since the node was found in the window (`found`,
 -- `remove_counts`). So does a ticket that is given back: its generation is odd, hence not the 0 of
 -- a free index (`generation_counts`).
@@ -12,48 +12,79 @@ use Rattle.nc_algebra.specs.Primes.{IsField}
 use Rattle.nc_algebra.specs.Problems.{NamedProblem, Problem}
 use Rattle.nc_theory.proofs.Determinism.{run_unique}
 use Rattle.nc_theory.proofs.Ends.{next_exists}
-use Rattle.nc_theory.specs.Desk.{IsFinished, node_of, Abandoned, Abandons, Advances, Claims, Desk, Does, Event, IsCounted, IsGiven, IsLawful, Node, Plays, Submits, Submitted, Ticket, Work, generation_at, insert_node, open_desk, with_work, without_node}
-use Rattle.nc_theory.specs.Runs.{End, Handles, IsEnd, IsNext, NoneWaits, SequentialRun}
+use Rattle.nc_theory.proofs.Untraced.{same_length}
+use Rattle.nc_theory.specs.Desk.{IsFinished, node_of, Abandoned, Abandons, Advances, Claims, Desk, Does, Event, IsCounted, IsGiven, IsLawful, Node, Plays, Submits, Submitted, Ticket, Work, generation_at, insert_node, laid, node_at, open_desk, with_work, without_node}
+use Rattle.nc_theory.specs.Runs.{End, Handles, IsEnd, IsNext, NoneWaits, Outcome, SequentialRun, state_after}
 use Rattle.nc_theory.specs.States.{State}
-use Rattle.std.proofs.Common.{Bool, List, None, Option, Some, [], ap, arith, cond, false, inl, inr, length, nat_eq, refl, subst, sym, true, ℕ, ◌*◌, ◌+◌, ◌∙◌, ◌∷◌, ◌<◌, ◌≡◌, ◌≤◌, ◌⊎◌, suc, ◌↔◌}
+use Rattle.std.proofs.Common.{Bool, List, None, Option, Some, [], ap, arith, cond, false, inl, inr, length, map, nat_eq, refl, subst, sym, true, ℕ, ◌*◌, ◌+◌, ◌∙◌, ◌∷◌, ◌<◌, ◌≡◌, ◌≤◌, ◌⊎◌, suc, ◌↔◌}
 use Rattle.std.proofs.lemmas.Bool.{eq-eqb, false≢true}
 use Rattle.std.specs.Ordering.{is_lt}
 
 -- ---- the snapshot
 
+-- ---- what events do
+
+-- a work that comes in is refused, which changes nothing, or it is laid into its node
+abbrev pub IsLaid : NamedProblem → Desk → Ticket → Work → Type 0
+IsLaid P d t w =
+    (n : Node) × (t.generation ≡ generation_at d.window t.index) × (w.problem ≡ P)
+    × (w.number ≤ d.handled) × (node_at d.window t.index ≡ Some n) × (n.signature ≡ w.signature)
+
+pub refused_or_laid : (P : NamedProblem) (d : Desk) (t : Ticket) (w : Work) (answer : Submitted)
+    (d' : Desk) → Submits P d t w answer d' → (d ≡ d')
+    ⊎ (IsLaid P d t w × (record d { window = with_work t.index w d.window } ≡ d'))
+refused_or_laid P d t w answer d' (Submits.is_gone n) = inl refl
+refused_or_laid P d t w answer d' (Submits.is_foreign g n) = inl refl
+refused_or_laid P d t w answer d' (Submits.is_ahead g p n) = inl refl
+refused_or_laid P d t w answer d' (Submits.is_other g p l n i s) = inl refl
+refused_or_laid P d t w answer d' (Submits.is_taken g p l n i s) = inr ((n, g, p, l, i, s), refl)
+
+-- what holds of the state and of the counts beside the window is changed by a commit alone
+module _ (P : NamedProblem) (Holds : ℕ → State → Option Monomial → ℕ → Type 0)
+    (commit : (d : Desk) → ¬ IsFinished P.problem d → (τ : Monomial)
+    → IsNext P.problem d.state d.last τ → (o : Outcome) → Handles P.problem.setting d.state τ o
+    → Holds d.handled d.state d.last d.alone
+    → Holds (suc d.handled) (state_after d.state τ o) (Some τ) d.alone) where
+  abbrev Now : Desk → Type 0
+  Now d = Holds d.handled d.state d.last d.alone
+
+  advance_holds : {d d' : Desk} → Advances P.problem d d' → Now d → Now d'
+  advance_holds (Advances.at_end f) h = h
+  advance_holds (Advances.no_work f none) h = h
+  advance_holds (Advances.drops f τ n w ready not) h = h
+  advance_holds (Advances.commits {d = d} f τ n w ready handles more) h =
+      advance_holds more (commit d f τ ready.next w.outcome handles h)
+
+  abandon_holds : (d : Desk) (t : Ticket) (answer : Abandoned) (d' : Desk) → Abandons d t answer d'
+      → Now d → Now d'
+  abandon_holds d t answer d' (Abandons.is_gone n) h = h
+  abandon_holds d t answer d' (Abandons.is_freed g) h = h
+
+  event_holds : {d d' : Desk} {e : Event} → Does P d e d' → Now d → Now d'
+  event_holds (Does.claims (Claims.is_finished f)) h = h
+  event_holds (Does.claims (Claims.is_none f o)) h = h
+  event_holds (Does.claims (Claims.is_task f i others free few τ first)) h = h
+  event_holds {d} {d'} (Does.submits {answer = answer} t given w lawful s) h =
+      elim (refused_or_laid P d t w answer d' s) [
+        | inl e ↦ subst Now e h
+        | inr l ↦ subst Now l.1 h
+      ]
+  event_holds {d} {d'} (Does.abandons {answer = answer} t given a) h =
+      abandon_holds d t answer d' a h
+  event_holds (Does.advances a) h = advance_holds a h
+
+  play_holds : {d d' : Desk} {events : List Event} → Plays P events d d' → Now d → Now d'
+  play_holds Plays.ends h = h
+  play_holds (Plays.goes e does more) h = play_holds more (event_holds does h)
+
 module _ (P : NamedProblem) where
-  abbrev pub IsAtRun : Desk → Type 0
+  abbrev IsAtRun : Desk → Type 0
   IsAtRun d = SequentialRun P.problem d.handled d.state d.last
 
-  pub advance_runs : {d d' : Desk} → Advances P.problem d d' → IsAtRun d → IsAtRun d'
-  advance_runs (Advances.at_end f) run = run
-  advance_runs (Advances.no_work f none) run = run
-  advance_runs (Advances.drops f τ n w ready not) run = run
-  advance_runs (Advances.commits f τ n w ready handles more) run =
-      advance_runs more (SequentialRun.handled run τ ready.next w.outcome handles)
-
-  submit_runs : (d : Desk) (t : Ticket) (w : Work) (answer : Submitted) (d' : Desk)
-      → Submits P d t w answer d' → IsAtRun d → IsAtRun d'
-  submit_runs d t w answer d' (Submits.is_gone n) run = run
-  submit_runs d t w answer d' (Submits.is_foreign g n) run = run
-  submit_runs d t w answer d' (Submits.is_ahead g p n) run = run
-  submit_runs d t w answer d' (Submits.is_other g p n node i s) run = run
-  submit_runs d t w answer d' (Submits.is_taken g p n node i s) run = run
-
-  abandon_runs : (d : Desk) (t : Ticket) (answer : Abandoned) (d' : Desk) → Abandons d t answer d'
-      → IsAtRun d → IsAtRun d'
-  abandon_runs d t answer d' (Abandons.is_gone n) run = run
-  abandon_runs d t answer d' (Abandons.is_freed g) run = run
-
   pub event_runs : {d d' : Desk} {e : Event} → Does P d e d' → IsAtRun d → IsAtRun d'
-  event_runs (Does.claims (Claims.is_finished f)) run = run
-  event_runs (Does.claims (Claims.is_none f o)) run = run
-  event_runs (Does.claims (Claims.is_task f i others free few τ first)) run = run
-  event_runs {d} {d'} (Does.submits {answer = answer} t given w l s) run =
-      submit_runs d t w answer d' s run
-  event_runs {d} {d'} (Does.abandons {answer = answer} t given a) run =
-      abandon_runs d t answer d' a run
-  event_runs (Does.advances a) run = advance_runs a run
+  event_runs does run =
+      event_holds P (λ n state last a. SequentialRun P.problem n state last)
+      (λ d f τ next o handles run. SequentialRun.handled run τ next o handles) does run
 
   play_runs : {d d' : Desk} {events : List Event} → Plays P events d d' → IsAtRun d → IsAtRun d'
   play_runs Plays.ends run = run
@@ -63,47 +94,18 @@ module _ (P : NamedProblem) where
   abbrev IsLimited : Desk → Type 0
   IsLimited d = d.handled ≤ P.problem.steps
 
-  advance_limits : {d d' : Desk} → Advances P.problem d d' → IsLimited d → IsLimited d'
-  advance_limits (Advances.at_end f) l = l
-  advance_limits (Advances.no_work f none) l = l
-  advance_limits (Advances.drops f τ n w ready not) l = l
-  advance_limits (Advances.commits {d = d} f τ n w ready handles more) l =
-      advance_limits more (go (nat_order d.handled P.problem.steps))
-    where
-      go : (d.handled < P.problem.steps)
-          ⊎ ((d.handled ≡ P.problem.steps) ⊎ (P.problem.steps < d.handled))
-          → suc d.handled ≤ P.problem.steps
-      go (inl k) = omega (arith, k)
-      go (inr (inl e)) = absurd (f (inr e))
-      go (inr (inr k)) = absurd (omega (arith, l, k))
-
-  submit_limits : (d : Desk) (t : Ticket) (w : Work) (answer : Submitted) (d' : Desk)
-      → Submits P d t w answer d' → IsLimited d → IsLimited d'
-  submit_limits d t w answer d' (Submits.is_gone n) l = l
-  submit_limits d t w answer d' (Submits.is_foreign g n) l = l
-  submit_limits d t w answer d' (Submits.is_ahead g p n) l = l
-  submit_limits d t w answer d' (Submits.is_other g p n node i s) l = l
-  submit_limits d t w answer d' (Submits.is_taken g p n node i s) l = l
-
-  abandon_limits : (d : Desk) (t : Ticket) (answer : Abandoned) (d' : Desk) → Abandons d t answer d'
-      → IsLimited d → IsLimited d'
-  abandon_limits d t answer d' (Abandons.is_gone n) l = l
-  abandon_limits d t answer d' (Abandons.is_freed g) l = l
-
-  event_limits : {d d' : Desk} {e : Event} → Does P d e d' → IsLimited d → IsLimited d'
-  event_limits (Does.claims (Claims.is_finished f)) l = l
-  event_limits (Does.claims (Claims.is_none f o)) l = l
-  event_limits (Does.claims (Claims.is_task f i others free few τ first)) l = l
-  event_limits {d} {d'} (Does.submits {answer = answer} t given w lawful s) l =
-      submit_limits d t w answer d' s l
-  event_limits {d} {d'} (Does.abandons {answer = answer} t given a) l =
-      abandon_limits d t answer d' a l
-  event_limits (Does.advances a) l = advance_limits a l
-
   play_limits : {d d' : Desk} {events : List Event} → Plays P events d d' → IsLimited d
       → IsLimited d'
-  play_limits Plays.ends l = l
-  play_limits (Plays.goes e does more) l = play_limits more (event_limits does l)
+  play_limits plays l =
+      play_holds P (λ n state last a. n ≤ P.problem.steps)
+      (λ d f τ next o handles l. go d f l (nat_order d.handled P.problem.steps)) plays l
+    where
+      go : (d : Desk) → ¬ IsFinished P.problem d → IsLimited d → (d.handled < P.problem.steps)
+          ⊎ ((d.handled ≡ P.problem.steps) ⊎ (P.problem.steps < d.handled))
+          → suc d.handled ≤ P.problem.steps
+      go d f l (inl k) = omega (arith, k)
+      go d f l (inr (inl e)) = absurd (f (inr e))
+      go d f l (inr (inr k)) = absurd (omega (arith, l, k))
 
   -- a play goes on from a state of the run to one, within the steps
   pub goes_on : {d d' : Desk} {events : List Event} → Plays P events d d' → (IsAtRun d → IsAtRun d')
@@ -127,21 +129,22 @@ insert_counts weight n (m ∷ ns) =
     go true e = omega arith
     go false e = omega (arith, e)
 
+-- a work that is laid into a node changes nothing that each node keeps
+pub work_keeps : {X : Type 0} (f : Node → X) (w : Work) → ((n : Node) → f (laid n w) ≡ f n)
+    → (i : ℕ) (window : List Node) → map f (with_work i w window) ≡ map f window
+work_keeps f w same i [] = refl
+work_keeps f w same i (n ∷ ns) = go (nat_eq n.index i) (work_keeps f w same i ns)
+  where
+    go : (b : Bool) → map f (with_work i w ns) ≡ map f ns
+        → map f (cond b (laid n w ∷ ns) (n ∷ with_work i w ns)) ≡ f n ∷ map f ns
+    go true e = ap (λ x. x ∷ map f ns) (same n)
+    go false e = ap (λ xs. f n ∷ xs) e
+
 work_counts : (i : ℕ) (w : Work) (window : List Node)
     → length (with_work i w window) ≡ length window
-work_counts i w [] = refl
-work_counts i w (n ∷ ns) = go (nat_eq n.index i) (work_counts i w ns)
-  where
-    go : (b : Bool) → length (with_work i w ns) ≡ length ns
-        → length (cond b (record {
-          signature = n.signature;
-          index = n.index;
-          generation = n.generation + 1;
-          work = Some w;
-        } ∷ ns)
-        (n ∷ with_work i w ns)) ≡ length (n ∷ ns)
-    go true e = refl
-    go false e = omega (arith, e)
+work_counts i w window =
+    same_length (λ n. n.index) (with_work i w window) window
+    (work_keeps (λ n. n.index) w (λ n. refl) i window)
 
 -- a node is taken out, where one has the index
 pub remove_counts : (i : ℕ) (window : List Node) (n : Node) → Among n window → n.index ≡ i
@@ -201,12 +204,12 @@ module _ (P : NamedProblem) where
 
   submit_counts : (d : Desk) (t : Ticket) (w : Work) (answer : Submitted) (d' : Desk)
       → Submits P d t w answer d' → IsCounted d → IsCounted d'
-  submit_counts d t w answer d' (Submits.is_gone n) h = h
-  submit_counts d t w answer d' (Submits.is_foreign g n) h = h
-  submit_counts d t w answer d' (Submits.is_ahead g p n) h = h
-  submit_counts d t w answer d' (Submits.is_other g p n node i s) h = h
-  submit_counts d t w answer d' (Submits.is_taken g p n node i s) h =
-      (omega (arith, h.0, work_counts t.index w d.window), h.1)
+  submit_counts d t w answer d' s h =
+      elim (refused_or_laid P d t w answer d' s) [
+        | inl e ↦ subst IsCounted e h
+        | inr l ↦ subst IsCounted l.1
+            (omega (arith, h.0, work_counts t.index w d.window), h.1)
+      ]
 
   abandon_counts : (d : Desk) (t : Ticket) → IsGiven t → (answer : Abandoned) (d' : Desk)
       → Abandons d t answer d' → IsCounted d → IsCounted d'
@@ -233,37 +236,9 @@ module _ (P : NamedProblem) where
       abandon_counts d t given answer d' a h
   event_counts (Does.advances a) h = advance_counts a h
 
-  advance_alone : {d d' : Desk} → Advances P.problem d d' → d'.alone ≡ d.alone
-  advance_alone (Advances.at_end f) = refl
-  advance_alone (Advances.no_work f none) = refl
-  advance_alone (Advances.drops f τ n w ready not) = refl
-  advance_alone (Advances.commits f τ n w ready handles more) = advance_alone more
-
-  submit_alone : (d : Desk) (t : Ticket) (w : Work) (answer : Submitted) (d' : Desk)
-      → Submits P d t w answer d' → d'.alone ≡ d.alone
-  submit_alone d t w answer d' (Submits.is_gone n) = refl
-  submit_alone d t w answer d' (Submits.is_foreign g n) = refl
-  submit_alone d t w answer d' (Submits.is_ahead g p n) = refl
-  submit_alone d t w answer d' (Submits.is_other g p n node i s) = refl
-  submit_alone d t w answer d' (Submits.is_taken g p n node i s) = refl
-
-  abandon_alone : (d : Desk) (t : Ticket) (answer : Abandoned) (d' : Desk) → Abandons d t answer d'
-      → d'.alone ≡ d.alone
-  abandon_alone d t answer d' (Abandons.is_gone n) = refl
-  abandon_alone d t answer d' (Abandons.is_freed g) = refl
-
-  event_alone : {d d' : Desk} {e : Event} → Does P d e d' → d'.alone ≡ d.alone
-  event_alone (Does.claims (Claims.is_finished f)) = refl
-  event_alone (Does.claims (Claims.is_none f o)) = refl
-  event_alone (Does.claims (Claims.is_task f i others free few τ first)) = refl
-  event_alone {d} {d'} (Does.submits {answer = answer} t given w l s) =
-      submit_alone d t w answer d' s
-  event_alone {d} {d'} (Does.abandons {answer = answer} t given a) = abandon_alone d t answer d' a
-  event_alone (Does.advances a) = advance_alone a
-
   play_alone : {d d' : Desk} {events : List Event} → Plays P events d d' → d'.alone ≡ d.alone
-  play_alone Plays.ends = refl
-  play_alone (Plays.goes e does more) = play_alone more ∙ event_alone does
+  play_alone {d} plays =
+      play_holds P (λ n state last a. a ≡ d.alone) (λ d f τ next o handles e. e) plays refl
 
   play_counts : {d d' : Desk} {events : List Event} → Plays P events d d' → IsCounted d
       → IsCounted d'

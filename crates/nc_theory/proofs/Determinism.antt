@@ -4,17 +4,18 @@
 -- (`residue_same`), and what is left of both is equal again.
 use Rattle.nc_algebra.proofs.Leading.{lead_leads}
 use Rattle.nc_algebra.proofs.Monomials.{monomial_laws}
-use Rattle.nc_algebra.proofs.Sums.{lead_unique}
-use Rattle.nc_algebra.proofs.Words.{cut, word_irrefl, word_laws, word_trans}
+use Rattle.nc_algebra.proofs.Orders.{least_same}
+use Rattle.nc_algebra.proofs.Words.{cut, word_irrefl, word_trans}
 use Rattle.nc_algebra.specs.Elements.{IsLess, IsZeroPolynomial, SamePolynomial, Setting, generator, generator_weight}
 use Rattle.nc_algebra.specs.Monomials.{Monomial, unit_monomial}
 use Rattle.nc_algebra.specs.Polynomials.{Polynomial, coefficient, leading, polynomial_times}
 use Rattle.nc_algebra.specs.Primes.{IsField, IsZero}
 use Rattle.nc_algebra.specs.Problems.{Problem}
 use Rattle.nc_algebra.specs.Sums.{minus}
-use Rattle.nc_algebra.specs.Words.{IsWordLess, Word, same_word}
-use Rattle.nc_theory.proofs.Chains.{leads_same, same_minus, times_mod}
+use Rattle.nc_algebra.specs.Words.{IsWordLess, Word}
+use Rattle.nc_theory.proofs.Chains.{same_lead, same_minus, times_mod}
 use Rattle.nc_theory.proofs.Completeness.{invariant}
+use Rattle.nc_theory.proofs.Relisted.{respelled}
 use Rattle.nc_theory.specs.Divisors.{Divisor, IsBestMultiple, IsChosenDivisor, RegularDivisor, multiple_at, signature_at}
 use Rattle.nc_theory.specs.Reductions.{Reduction}
 use Rattle.nc_theory.specs.Runs.{Handles, IsNext, Outcome, SequentialRun, Starts, state_after}
@@ -119,31 +120,16 @@ module _ (s : Setting) (field : IsField s.prime) (entries : List Entry) where
       absurd (d.nonzero (e.at w ∙ n w))
   reduction_unique nonzero set (Reduction.subtract {f = f} w d v chosen k small q rest)
       (Reduction.keep {f = f'} w' d' any k' q' rest') e =
-      absurd (any (record {
-        entry = v.entry;
-        listed = v.listed;
-        left = v.left;
-        right = v.right;
-        spells = v.spells ∙ lead_unique same_word IsWordLess word_laws s.prime
-            f' w w' (leads_same s f f' w e d) d';
-      }) chosen.allowed)
+      absurd (any (respelled v (same_lead s f f' w w' e d d')) chosen.allowed)
   reduction_unique nonzero set (Reduction.keep {f = f} w d any k q rest)
       (Reduction.subtract {f = f'} w' d' v chosen k' small q' rest') e =
-      absurd (any (record {
-        entry = v.entry;
-        listed = v.listed;
-        left = v.left;
-        right = v.right;
-        spells = v.spells
-            ∙ sym (lead_unique same_word IsWordLess word_laws s.prime f' w w'
-            (leads_same s f f' w e d) d');
-      }) chosen.allowed)
+      absurd (any (respelled v (sym (same_lead s f f' w w' e d d'))) chosen.allowed)
   reduction_unique nonzero set (Reduction.keep {f = f} {kept = kept} {steps = steps} w d any k q
       rest) (Reduction.keep {f = f'} {kept = kept'} {steps = steps'} w' d' any' k' q' rest') e =
       join (reduction_unique nonzero set rest rest' next)
     where
       ww : w ≡ w'
-      ww = lead_unique same_word IsWordLess word_laws s.prime f' w w' (leads_same s f f' w e d) d'
+      ww = same_lead s f f' w w' e d d'
 
       kk : k ≡ k'
       kk = q ∙ (e.at w ∙ (ap (λ x. coefficient f' x % s.prime) ww ∙ sym q'))
@@ -164,29 +150,17 @@ module _ (s : Setting) (field : IsField s.prime) (entries : List Entry) where
       chosen' k' small' q' rest') e = join (reduction_unique nonzero set rest rest' next)
     where
       ww : w ≡ w'
-      ww = lead_unique same_word IsWordLess word_laws s.prime f' w w' (leads_same s f f' w e d) d'
+      ww = same_lead s f f' w w' e d d'
 
       -- the other divisor, as one of w
       v'' : Divisor s entries w
-      v'' = record {
-        entry = v'.entry;
-        listed = v'.listed;
-        left = v'.left;
-        right = v'.right;
-        spells = v'.spells ∙ sym ww;
-      }
+      v'' = respelled v' (sym ww)
 
       place : (v.listed.0 ≡ v'.listed.0) × (v.left ≡ v'.left)
       place = chosen_same set w v v'' chosen
           (record {
             allowed = chosen'.allowed;
-            least = λ g a. chosen'.least (record {
-              entry = g.entry;
-              listed = g.listed;
-              left = g.left;
-              right = g.right;
-              spells = g.spells ∙ ww;
-            }) a;
+            least = λ g a. chosen'.least (respelled g ww) a;
           })
 
       parts : (v.entry ≡ v'.entry) × (v.right ≡ v'.right)
@@ -332,14 +306,8 @@ module _ (s : Setting) (field : IsField s.prime) (state : State) (nonzero : (e :
 pub next_unique : (P : Problem) (state : State) (last : Option Monomial) (τ τ' : Monomial)
     → IsNext P state last τ → IsNext P state last τ' → τ ≡ τ'
 next_unique P state last τ τ' a b =
-    go (a.least τ' b.candidate b.left) (b.least τ a.candidate a.left)
-  where
-    go : (τ' ≡ τ) ⊎ IsLess P.setting τ τ' → (τ ≡ τ') ⊎ IsLess P.setting τ' τ → τ ≡ τ'
-    go (inl e) o = sym e
-    go (inr l) (inl e) = e
-    go (inr l) (inr m) =
-        absurd ((monomial_laws (generator_weight P.setting)).irrefl τ
-        ((monomial_laws (generator_weight P.setting)).trans τ τ' τ l m))
+    least_same (monomial_laws (generator_weight P.setting)) τ τ'
+    (a.least τ' b.candidate b.left) (b.least τ a.candidate a.left)
 
 -- a run has one state at each number
 pub run_unique : (P : Problem) → IsField P.setting.prime

@@ -7,7 +7,7 @@
 -- state of the shorter one (`passes`), so that was no end.
 use Rattle.nc_algebra.proofs.Elements.{generator_dec}
 use Rattle.nc_algebra.proofs.Monomials.{monomial_laws}
-use Rattle.nc_algebra.proofs.Orders.{Decided, nat_order}
+use Rattle.nc_algebra.proofs.Orders.{Decided, lt_dec, nat_order}
 use Rattle.nc_algebra.proofs.Words.{begins, split}
 use Rattle.nc_algebra.specs.Elements.{IsGenerator, IsLess, IsZeroPolynomial, Setting, generator_weight}
 use Rattle.nc_algebra.specs.Monomials.{Monomial, degree_of, times, unit_monomial}
@@ -18,7 +18,7 @@ use Rattle.nc_algebra.specs.Words.{Word}
 use Rattle.nc_theory.proofs.Completeness.{invariant}
 use Rattle.nc_theory.proofs.Decisions.{best_exists, covered_dec, less_dec, pair_dec, regular_dec, word_dec}
 use Rattle.nc_theory.proofs.Determinism.{fronts_same, next_unique, run_unique}
-use Rattle.nc_theory.proofs.Existence.{reduce_exists}
+use Rattle.nc_theory.proofs.Existence.{listed_at, nobody, reduce_exists}
 use Rattle.nc_theory.proofs.Traces.{only_one}
 use Rattle.nc_theory.specs.Ambiguities.{Ambiguity}
 use Rattle.nc_theory.specs.Divisors.{Divisor, IsBestMultiple, Multiple, RegularDivisor}
@@ -167,14 +167,6 @@ over_end u v q Good good l = parts (split q u l)
             last (inr m) =
                 inr (λ t. m (subst₂ Good (front t) (append_cancel_left y t.1 r (back t ∙ sym i))
                 t.3))
-
-lt_dec : (m n : ℕ) → Decided (m < n)
-lt_dec m n = go (nat_order m n)
-  where
-    go : (m < n) ⊎ ((m ≡ n) ⊎ (n < m)) → Decided (m < n)
-    go (inl l) = inl l
-    go (inr (inl e)) = inr (λ l. omega (arith, e, l))
-    go (inr (inr k)) = inr (λ l. omega (arith, k, l))
 
 -- ---- the ambiguities of two entries, listed
 
@@ -588,25 +580,17 @@ in_join {X} N F Good k has (suc n) l h = go (nat_order k n) (in_join N F Good k 
     go (inr (inr g)) f = absurd (omega arith)
 
 module _ (s : Setting) (entries : List Entry) where
-  nobody : Entry
-  nobody =
-      record {
-        signature = unit_monomial 0;
-        polynomial = [];
-        trace = record { start = Start.a_generator 0; steps = [] };
-      }
-
   entry_at : ℕ → Entry
   entry_at k = get_or entries k nobody
 
-  listed_at : (k : ℕ) → k < length entries → Contains entries (entry_at k)
+  entry_listed : (k : ℕ) → k < length entries → Contains entries (entry_at k)
   unfolding entry_at
-  listed_at k l = (k, l, get_or_default entries k (get_or entries k nobody) nobody l)
+  entry_listed k l = listed_at entries k l
 
   all_pairs : List (FoundAmbiguity s entries)
   all_pairs =
       join_below (length entries) (λ k l. join_below (length entries)
-      (λ m h. pair s entries (entry_at k) (listed_at k l) (entry_at m) (listed_at m h))
+      (λ m h. pair s entries (entry_at k) (entry_listed k l) (entry_at m) (entry_listed m h))
       (length entries) (le_refl (length entries))) (length entries) (le_refl (length entries))
 
   -- an entry is the one that stands at its number
@@ -619,11 +603,11 @@ module _ (s : Setting) (entries : List Entry) where
   unfolding all_pairs
   in_all_pairs ρ w amb =
       in_join (length entries) (λ k l. join_below (length entries)
-      (λ m h. pair s entries (entry_at k) (listed_at k l) (entry_at m) (listed_at m h))
+      (λ m h. pair s entries (entry_at k) (entry_listed k l) (entry_at m) (entry_listed m h))
       (length entries) (le_refl (length entries))) (λ x. x.0 ≡ ρ) amb.high.listed.0
       (λ l. in_join (length entries)
-      (λ m h. pair s entries (entry_at amb.high.listed.0) (listed_at amb.high.listed.0 l)
-      (entry_at m) (listed_at m h)) (λ x. x.0 ≡ ρ) amb.low.listed.0 (λ h. here l h)
+      (λ m h. pair s entries (entry_at amb.high.listed.0) (entry_listed amb.high.listed.0 l)
+      (entry_at m) (entry_listed m h)) (λ x. x.0 ≡ ρ) amb.low.listed.0 (λ h. here l h)
       (length entries) (le_refl (length entries)) amb.low.listed.1) (length entries)
       (le_refl (length entries)) amb.high.listed.1
     where
@@ -635,16 +619,16 @@ module _ (s : Setting) (entries : List Entry) where
 
       here : (l : amb.high.listed.0 < length entries) (h : amb.low.listed.0 < length entries)
           → (x : FoundAmbiguity s entries)
-          × Contains (pair s entries (entry_at amb.high.listed.0) (listed_at amb.high.listed.0 l)
-          (entry_at amb.low.listed.0) (listed_at amb.low.listed.0 h)) x × (x.0 ≡ ρ)
+          × Contains (pair s entries (entry_at amb.high.listed.0) (entry_listed amb.high.listed.0 l)
+          (entry_at amb.low.listed.0) (entry_listed amb.low.listed.0 h)) x × (x.0 ≡ ρ)
       here l h =
           let t : (x : FoundAmbiguity s entries)
           × Contains (pair s entries (entry_at amb.high.listed.0)
-          (listed_at amb.high.listed.0 l) (entry_at amb.low.listed.0)
-          (listed_at amb.low.listed.0 h)) x
+          (entry_listed amb.high.listed.0 l) (entry_at amb.low.listed.0)
+          (entry_listed amb.low.listed.0 h)) x
           × (x.0 ≡ times amb.high.left (entry_at amb.high.listed.0).signature amb.high.right) =
-          in_pair s entries (entry_at amb.high.listed.0) (listed_at amb.high.listed.0 l)
-          (entry_at amb.low.listed.0) (listed_at amb.low.listed.0 h) amb.high.left
+          in_pair s entries (entry_at amb.high.listed.0) (entry_listed amb.high.listed.0 l)
+          (entry_at amb.low.listed.0) (entry_listed amb.low.listed.0 h) amb.high.left
           amb.high.right amb.low.left amb.low.right
           ((ap (λ e. amb.high.left ++ (leading s.prime e.polynomial ++ amb.high.right)) i
           ∙ amb.high.spells) ∙ sym (ap (λ e. amb.low.left

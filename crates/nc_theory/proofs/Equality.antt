@@ -2,7 +2,7 @@
 -- A desk compares the problem of a work with its own, and the outcome with what handling gives.
 -- Records are equal if their parts are.
 use Rattle.nc_algebra.proofs.Monomials.{monomial_laws}
-use Rattle.nc_algebra.proofs.Orders.{Decided}
+use Rattle.nc_algebra.proofs.Orders.{Decided, nat_dec}
 use Rattle.nc_algebra.proofs.Sums.{key_dec}
 use Rattle.nc_algebra.specs.Elements.{Setting}
 use Rattle.nc_algebra.specs.Monomials.{IsMonomialLess, Monomial, same_monomial}
@@ -11,7 +11,7 @@ use Rattle.nc_algebra.specs.Alphabets.{Alphabet}
 use Rattle.nc_algebra.specs.Problems.{Bound, NamedProblem, Problem}
 use Rattle.nc_algebra.specs.Sums.{Term}
 use Rattle.nc_algebra.specs.Words.{Word}
-use Rattle.nc_theory.proofs.Decisions.{nat_dec, pair_dec, word_dec}
+use Rattle.nc_theory.proofs.Decisions.{pair_dec, word_dec}
 use Rattle.nc_theory.specs.Runs.{Outcome}
 use Rattle.nc_theory.specs.States.{Start, Step, Trace}
 use Rattle.std.proofs.Common.{List, [], ap, inl, inr, refl, ◌∷◌, ◌≡◌}

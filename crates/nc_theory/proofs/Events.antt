@@ -2,19 +2,19 @@
 -- What an event asks can be decided. The least waiting signature that is not handed out is found in
 -- the list of candidates (`first_with`). An advance ends, since each commit takes a node out of the
 -- window (`advances_within`).
-use Rattle.nc_algebra.proofs.Orders.{Decided, nat_order}
-use Rattle.nc_algebra.specs.Elements.{IsLess, generator_weight}
+use Rattle.nc_algebra.proofs.Orders.{Decided, nat_dec, nat_order}
+use Rattle.nc_algebra.specs.Elements.{IsLess}
 use Rattle.nc_algebra.specs.Monomials.{Monomial}
 use Rattle.nc_algebra.specs.Primes.{IsField}
 use Rattle.nc_algebra.specs.Problems.{NamedProblem, Problem}
 use Rattle.nc_theory.proofs.Completeness.{invariant}
-use Rattle.nc_theory.proofs.Decisions.{any, nat_dec}
+use Rattle.nc_theory.proofs.Decisions.{any}
 use Rattle.nc_theory.proofs.Desk.{event_runs, found, remove_counts}
 use Rattle.nc_theory.proofs.Determinism.{handles_unique, next_unique}
 use Rattle.nc_theory.proofs.Ends.{first_with, handles_exists, next_exists, source}
 use Rattle.nc_theory.proofs.Equality.{monomial_dec, named_dec, outcome_dec}
 use Rattle.nc_theory.proofs.Plays.{some_same}
-use Rattle.nc_theory.specs.Desk.{Abandoned, Abandons, Advances, Claimed, Claims, Desk, Does, Event, IsFinished, IsFirstUnheld, IsGiven, IsHeld, IsReadyWork, Node, Plays, Submits, Submitted, Ticket, Work, after_committed, after_dropped, generation_at, claim_limit, insert_node, node_at, node_of, open_desk}
+use Rattle.nc_theory.specs.Desk.{Abandoned, Abandons, Advances, Claimed, Claims, Desk, Does, Event, IsFinished, IsFirstUnheld, IsGiven, IsHeld, IsReadyWork, Node, Plays, Submits, Submitted, Ticket, Work, after_committed, after_dropped, generation_at, claim_limit, node_at, node_of, open_desk}
 use Rattle.nc_theory.specs.States.{State}
 use Rattle.nc_theory.specs.Runs.{Handles, IsAfter, IsCandidate, IsNext, IsWaiting, Outcome, SequentialRun}
 use Rattle.std.proofs.Common.{Bool, List, None, Option, Some, [], ap, arith, cond, false, inl, inr, le_refl, length, nat_eq, refl, subst, suc, sym, true, zero, ℕ, ◌*◌, ◌+◌, ◌<◌, ◌∙◌, ◌∷◌, ◌≡◌, ◌≤◌, ◌⊎◌}
@@ -87,24 +87,8 @@ module _ (P : Problem) where
       go (inr n) (i ∷ others) e (inr (inl m)) first = none n (inr (inr (omega (arith, m))))
       go (inr n) (i ∷ others) e (inr (inr m)) first = none n (inr (inr (omega (arith, m))))
       go (inr n) (i ∷ others) e (inl m) (inr all) = none n (inr (inl all))
-      go (inr n) (i ∷ others) e (inl m) (inl (τ, first)) = (
-        Claimed.a_task τ (record { index = i; generation = 2 * d.claimed + 1 }),
-        record {
-          handled = d.handled;
-          state = d.state;
-          last = d.last;
-          window = insert_node (generator_weight P.setting)
-              (record { signature = τ; index = i; generation = 2 * d.claimed + 1; work = None })
-              d.window;
-          free = others;
-          claimed = d.claimed + 1;
-          committed = d.committed;
-          dropped = d.dropped;
-          abandoned = d.abandoned;
-          alone = d.alone;
-        },
-        Claims.is_task n i others e m τ first,
-      )
+      go (inr n) (i ∷ others) e (inl m) (inl (τ, first)) =
+          (_, _, Claims.is_task n i others e m τ first)
 
 submits_exist : (P : NamedProblem) (d : Desk) (t : Ticket) → IsGiven t → (w : Work)
     → (answer : Submitted) × (d' : Desk) × Submits P d t w answer d'

@@ -23,6 +23,19 @@ use Rattle.std.proofs.Common.{Contains, List, [], ap, ap₂, arith, get_or, inl,
 use Rattle.std.proofs.Math.Nat.{mod-lt}
 use Rattle.std.proofs.lemmas.List.{append_cancel_left, get_or_default}
 
+-- an entry, for an index where a list has none
+abbrev pub nobody : Entry
+nobody =
+    record {
+      signature = unit_monomial 0;
+      polynomial = [];
+      trace = record { start = Start.a_generator 0; steps = [] };
+    }
+
+abbrev pub listed_at : (entries : List Entry) (k : ℕ) → k < length entries
+    → Contains entries (get_or entries k nobody)
+listed_at entries k l = (k, l, get_or_default entries k (get_or entries k nobody) nobody l)
+
 module _ (s : Setting) (field : IsField s.prime) (entries : List Entry) (nonzero : (e : Entry)
     → Contains entries e → ¬ IsZeroPolynomial s e.polynomial) (set : Monomial → Type 0)
     (decide : (σ : Monomial) → Decided (set σ)) where
@@ -38,14 +51,6 @@ module _ (s : Setting) (field : IsField s.prime) (entries : List Entry) (nonzero
   place_dec : (w : Word) (k q : ℕ) → Decided (AtPlace w k q)
   place_dec w k q = bounds (nat_order k (length entries)) (nat_order q (length w))
     where
-      nobody : Entry
-      nobody =
-          record {
-            signature = unit_monomial 0;
-            polynomial = [];
-            trace = record { start = Start.a_generator 0; steps = [] };
-          }
-
       too_far : (d : Divisor s entries w) → length d.left ≤ length w
       too_far d =
           omega (
@@ -57,9 +62,6 @@ module _ (s : Setting) (field : IsField s.prime) (entries : List Entry) (nonzero
       inside : k < length entries → q ≤ length w → Decided (AtPlace w k q)
       inside l m = parts (split q w m)
         where
-          listed : Contains entries (get_or entries k nobody)
-          listed = (k, l, get_or_default entries k (get_or entries k nobody) nobody l)
-
           parts : (a : Word) × (b : Word) × (a ++ b ≡ w) × (length a ≡ q) → Decided (AtPlace w k q)
           parts (a, b, e, n) =
               ends (begins (leading s.prime (get_or entries k nobody).polynomial) b)
@@ -78,19 +80,15 @@ module _ (s : Setting) (field : IsField s.prime) (entries : List Entry) (nonzero
                         (leading s.prime (get_or entries k nobody).polynomial ++ t.0.right) b
                         (ap₂ (λ x y. x ++ (leading s.prime y.polynomial ++ t.0.right))
                         (sym (left_is t.0 t.3)) (listed_same entries (get_or entries k nobody)
-                        t.0.entry listed t.0.listed (sym t.2)) ∙ (t.0.spells ∙ sym e)),
+                        t.0.entry (listed_at entries k l) t.0.listed (sym t.2))
+                        ∙ (t.0.spells ∙ sym e)),
                   ))
               ends (inl (r, i)) = tried (decide (times a (get_or entries k nobody).signature r))
                 where
                   d0 : Divisor s entries w
                   d0 = record {
                     entry = get_or entries k nobody;
-                    listed = (
-                      k,
-                      l,
-                      get_or_default entries k (get_or entries k nobody) nobody
-                          l,
-                    );
+                    listed = listed_at entries k l;
                     left = a;
                     right = r;
                     spells = ap (λ z. a ++ z) i ∙ e;

@@ -7,7 +7,7 @@ use Rattle.nc_algebra.specs.Alphabets.{Alphabet, AreWordsIn, IsAlphabet, IsLette
 use Rattle.nc_algebra.specs.Settings.{IsSetting, NamedSetting}
 use Rattle.nc_algebra.specs.Elements.{IsGenerator, IsLess, Setting, generator}
 use Rattle.nc_algebra.specs.Monomials.{Monomial, times, unit_monomial}
-use Rattle.nc_algebra.specs.Polynomials.{IsNormal, Polynomial, coefficient, polynomial_times}
+use Rattle.nc_algebra.specs.Polynomials.{IsNormal, Polynomial, polynomial_times}
 use Rattle.nc_algebra.specs.Sums.{SameSum}
 use Rattle.nc_algebra.specs.Words.{Word, same_word, word_weight}
 use Rattle.nc_theory.proofs.Multiples.{shifted_few, shifted_small}

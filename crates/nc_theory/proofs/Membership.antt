@@ -1,17 +1,17 @@
 -- What is left of a claim, reduced within the bound, is zero exactly where the claim has a
 -- representation within the bound.
-use Rattle.nc_algebra.proofs.Elements.{HasGenerator, coefficient-evaluation, element_times_leads, evaluation-minus, evaluation_times, evaluation_zero, image, in_times}
+use Rattle.nc_algebra.proofs.Elements.{HasGenerator, coefficient-evaluation, element_times_leads, evaluation-minus, evaluation_times, evaluation_zero, image, in_minus, in_times}
 use Rattle.nc_algebra.proofs.Monomials.{monomial_laws}
-use Rattle.nc_algebra.proofs.Sums.{below_lead, coefficient-minus, lead_unique, linear_sum-append, linear_sum-scale, top, zero_add, zero_dec, zero_mul_left, zero_number}
-use Rattle.nc_algebra.proofs.Words.{word_laws}
+use Rattle.nc_algebra.proofs.Sums.{below_lead, linear_sum-append, linear_sum-scale, top, zero_add, zero_dec, zero_mul_left, zero_number}
 use Rattle.nc_algebra.specs.Elements.{Element, IsIn, IsLabelled, IsLess, IsSignatureOf, SamePolynomial, Setting, element_times, evaluation, generator_weight}
 use Rattle.nc_algebra.specs.Monomials.{Monomial, same_monomial}
 use Rattle.nc_algebra.specs.Polynomials.{Polynomial, coefficient}
 use Rattle.nc_algebra.specs.Primes.{IsField, IsZero}
 use Rattle.nc_algebra.specs.Sums.{coefficient_by, is_at, minus, scale}
-use Rattle.nc_algebra.specs.Words.{IsWordLess, Word, same_word}
-use Rattle.nc_theory.proofs.Chains.{coefficient_polynomial_minus, leads_same, sum_mod, times_mod}
+use Rattle.nc_algebra.specs.Words.{Word}
+use Rattle.nc_theory.proofs.Chains.{coefficient_polynomial_minus, same_lead, sum_mod, times_mod}
 use Rattle.nc_theory.proofs.Closure.{put_back}
+use Rattle.nc_theory.proofs.Relisted.{respelled}
 use Rattle.nc_theory.specs.Bases.{HasRepresentation, IsBasisBelow, IsSound, ReducesToZero}
 use Rattle.nc_theory.specs.Labels.{label_at, step_multiples}
 use Rattle.nc_theory.specs.Divisors.{Divisor, multiple_at, signature_at}
@@ -40,25 +40,6 @@ module _ (s : Setting) (field : IsField s.prime) (state : State) (sound : IsSoun
       go (inl e) = subst bound (sym e) b
       go (inr l) =
           down σ (signature_at s state.entries w d) b l (in_times s d.left β d.right label.lies σ n)
-
-  within_minus : (α : Element) (c : ℕ) (β : Element) → IsIn s α bound → IsIn s β bound
-      → IsIn s (minus s.prime α c β) bound
-  within_minus α c β h k σ n =
-      go (zero_dec s.prime (coefficient_by same_monomial α σ))
-      (zero_dec s.prime (coefficient_by same_monomial β σ))
-    where
-      go : IsZero s.prime (coefficient_by same_monomial α σ)
-          ⊎ ¬ IsZero s.prime (coefficient_by same_monomial α σ)
-          → IsZero s.prime (coefficient_by same_monomial β σ)
-          ⊎ ¬ IsZero s.prime (coefficient_by same_monomial β σ) → bound σ
-      go (inr nz) o = h σ nz
-      go (inl z) (inr nz) = k σ nz
-      go (inl z) (inl y) =
-          absurd (n (subst (IsZero s.prime)
-          (sym (coefficient-minus same_monomial (IsLess s) (monomial_laws (generator_weight s))
-          s.prime α c β σ)) (zero_add s.prime (coefficient_by same_monomial α σ)
-          ((s.prime - 1) * c * coefficient_by same_monomial β σ) z
-          (zero_mul_left s.prime ((s.prime - 1) * c) (coefficient_by same_monomial β σ) y))))
 
   module_of : (e : Entry) → Contains state.entries e → HasGenerator s e.signature
   module_of e k =
@@ -94,7 +75,7 @@ module _ (s : Setting) (field : IsField s.prime) (state : State) (sound : IsSoun
       sound.entries v.entry v.listed in
       none_kept basis rest (
         minus s.prime α c (element_times v.left t.0 v.right),
-        within_minus α c (element_times v.left t.0 v.right) lies
+        in_minus s α c (element_times v.left t.0 v.right) lies
             (multiple_within w v chosen.allowed t.0 t.1),
         same_minus_eval f α c w v t.0 t.1 e,
       )
@@ -105,14 +86,7 @@ module _ (s : Setting) (field : IsField s.prime) (state : State) (sound : IsSoun
           → SamePolynomial s g f → ⊥
       begins σ b (ReducesToZero.done z) i = d.nonzero (sym (i.at w) ∙ z w)
       begins σ b (ReducesToZero.step {f = g} x gl v le k r rest') i =
-          any (record {
-            entry = v.entry;
-            listed = v.listed;
-            left = v.left;
-            right = v.right;
-            spells = v.spells ∙ lead_unique same_word IsWordLess word_laws
-                s.prime f x w (leads_same s g f x i gl) d;
-          }) (place le)
+          any (respelled v (same_lead s g f x w i gl d)) (place le)
         where
           place : (signature_at s state.entries x v ≡ σ)
               ⊎ IsLess s (signature_at s state.entries x v) σ

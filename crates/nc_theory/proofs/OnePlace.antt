@@ -1,7 +1,7 @@
 -- Places of a word in a word, by how many letters stand before them.
 use Rattle.nc_algebra.specs.Words.{Word}
 use Rattle.nc_theory.proofs.Determinism.{fronts_same}
-use Rattle.std.proofs.Common.{ap, length, sym, ◌+◌, ◌++◌, ◌∙◌, ◌≡◌}
+use Rattle.std.proofs.Common.{ap, length, sym, ◌++◌, ◌∙◌, ◌≡◌}
 use Rattle.std.proofs.lemmas.List.{append_cancel_left}
 
 -- a place is known by how many letters stand before it

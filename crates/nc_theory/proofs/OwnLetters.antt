@@ -1,8 +1,8 @@
 -- A representation needs no letters but those of the generators and of what it represents.
--- The terms with other letters are left out of the module element (`kept_terms`). What they evaluate
--- to has only words with other letters, and the rest has none, so neither gives to the other: over
--- the letters the sum is what it was (`at_over`), and elsewhere both the rest and the polynomial are
--- zero (`own_evaluates`). For an alphabet this is `in_alphabet`.
+-- The terms with other letters are left out of the module element (`kept_terms`). What they
+-- evaluate to has only words with other letters, and the rest has none, so neither gives to the
+-- other: over the letters the sum is what it was (`at_over`), and elsewhere both the rest and the
+-- polynomial are zero (`own_evaluates`). For an alphabet this is `in_alphabet`.
 use Rattle.nc_algebra.proofs.Finite.{over-append, over_back, over_dec, over_front}
 use Rattle.nc_algebra.proofs.Monomials.{monomial_laws}
 use Rattle.nc_algebra.proofs.Orders.{Decided}

@@ -15,7 +15,7 @@ use Rattle.nc_theory.specs.Usable.{IsUsable, IsUsableSignature}
 use Rattle.nc_theory.proofs.Determinism.{one_multiple}
 use Rattle.nc_theory.specs.Divisors.{Divisor, number_of, signature_at}
 use Rattle.nc_theory.specs.States.{Entry}
-use Rattle.std.proofs.Common.{Bool, List, None, Option, Some, ap, arith, cond, false, get_or, inl, inr, length, refl, subst, sym, true, ℕ, ◌+◌, ◌++◌, ◌-◌, ◌<◌, ◌∙◌, ◌≡◌, ◌≤◌, ◌⊎◌}
+use Rattle.std.proofs.Common.{Bool, List, None, Option, Some, ap, arith, cond, false, get_or, inl, inr, length, refl, subst, sym, true, ℕ, ◌+◌, ◌++◌, ◌<◌, ◌∙◌, ◌≡◌, ◌≤◌, ◌⊎◌}
 use Rattle.std.proofs.lemmas.Bool.{false≢true}
 use Rattle.std.specs.Ordering.{is_lt}
 

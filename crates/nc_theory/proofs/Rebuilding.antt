@@ -15,6 +15,7 @@ use Rattle.nc_algebra.specs.Words.{Word}
 use Rattle.nc_theory.proofs.Completeness.{Invariant, IsReached, invariant, reached_less}
 use Rattle.nc_theory.proofs.Determinism.{reduction_unique, starts_unique}
 use Rattle.nc_theory.proofs.Places.{at_most_multiple}
+use Rattle.nc_theory.proofs.Relisted.{relisted}
 use Rattle.nc_theory.proofs.Stale.{front_or_later, in_front}
 use Rattle.nc_theory.proofs.Traces.{only_one}
 use Rattle.nc_theory.specs.Divisors.{Divisor, IsChosenDivisor, RegularDivisor, signature_at}
@@ -49,13 +50,7 @@ module _ (s : Setting) (first rest : List Entry) (τ : Monomial) (others : (e : 
   -- a place of one of the first entries is one among all
   abbrev in_all : (w : Word) → Divisor s first w → Divisor s (first ++ rest) w
   in_all w d =
-      record {
-        entry = d.entry;
-        listed = in_front first rest d.entry d.listed;
-        left = d.left;
-        right = d.right;
-        spells = d.spells;
-      }
+      relisted d (in_front first rest d.entry d.listed)
 
   first_at : (w : Word) (d : Divisor s (first ++ rest) w)
       → IsLess s (signature_at s (first ++ rest) w d) τ → (d.listed.0 < length first)
@@ -73,17 +68,7 @@ module _ (s : Setting) (first rest : List Entry) (τ : Monomial) (others : (e : 
   abbrev in_first : (w : Word) (d : Divisor s (first ++ rest) w)
       → IsLess s (signature_at s (first ++ rest) w d) τ → Divisor s first w
   in_first w d below =
-      record {
-        entry = d.entry;
-        listed = (
-          d.listed.0,
-          (first_at w d below).0,
-          (first_at w d below).1,
-        );
-        left = d.left;
-        right = d.right;
-        spells = d.spells;
-      }
+      relisted d (d.listed.0, (first_at w d below).0, (first_at w d below).1)
 
   pub regular_front : (w : Word) → RegularDivisor s (first ++ rest) τ w ↔ RegularDivisor s first τ w
   regular_front w = (

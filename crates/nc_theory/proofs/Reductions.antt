@@ -14,6 +14,7 @@ use Rattle.nc_algebra.specs.Primes.{IsField, IsZero}
 use Rattle.nc_algebra.specs.Sums.{Term, is_at, minus}
 use Rattle.nc_algebra.specs.Words.{IsWordLess, Word, same_word}
 use Rattle.nc_theory.proofs.Chains.{coefficient_polynomial_minus, times_mod}
+use Rattle.nc_theory.proofs.Relisted.{respelled}
 use Rattle.nc_theory.specs.Divisors.{Divisor, multiple_at, signature_at}
 use Rattle.nc_theory.specs.Reductions.{Reduction}
 use Rattle.nc_theory.specs.States.{Entry, Step}
@@ -139,13 +140,7 @@ module _ (s : Setting) (field : IsField s.prime) (entries : List Entry) (nonzero
       go : (x ≡ w) ⊎ (x ≢ w) → (¬ IsZero s.prime (coefficient kept x) → (d : Divisor s entries x)
           → ¬ set (signature_at s entries x d)) → ⊥
       go (inl i) f =
-          not_any (record {
-            entry = v.entry;
-            listed = v.listed;
-            left = v.left;
-            right = v.right;
-            spells = v.spells ∙ i;
-          }) a
+          not_any (respelled v i) a
       go (inr n) f =
           f (λ z. nz (subst (IsZero s.prime) (sym (omega (arith, single_other c w x n))) z)) v a
 
@@ -184,14 +179,8 @@ module _ (s : Setting) (field : IsField s.prime) (entries : List Entry) (nonzero
       (subst (λ z. From z y) (lead_unique same_word IsWordLess word_laws s.prime f w w' d d') k))
       x u
   kept_less (Reduction.keep {f = f} w' d' not_any c e rest) w d v a x u =
-      absurd (not_any (record {
-        entry = v.entry;
-        listed = v.listed;
-        left = v.left;
-        right = v.right;
-        spells = v.spells ∙ lead_unique same_word IsWordLess word_laws s.prime
-            f w w' d d';
-      }) a)
+      absurd (not_any
+      (respelled v (lead_unique same_word IsWordLess word_laws s.prime f w w' d d')) a)
 
   -- a word kept after w is a word of the whole
   pub kept_tail : (f kept : Polynomial) (steps : List Step) (w : Word) → IsLeadingWord s f w

@@ -4,7 +4,7 @@
 -- (`difference_small`).
 use Rattle.nc_algebra.proofs.Leading.{lead_leads}
 use Rattle.nc_algebra.proofs.NormalForms.{normal_leads}
-use Rattle.nc_algebra.proofs.Orders.{Decided, nat_order}
+use Rattle.nc_algebra.proofs.Orders.{Decided, lt_dec, nat_order}
 use Rattle.nc_algebra.specs.Finite.{AreLetters, IsLetterOf}
 use Rattle.nc_algebra.proofs.Sums.{below_lead}
 use Rattle.nc_algebra.proofs.Words.{length_at_most, less_weighs, weight-append, word_laws}
@@ -34,16 +34,8 @@ module _ (k m : ℕ) where
   letters-append [] v a b = b
   letters-append (x ∷ u) v a b = (a.0, letters-append u v a.1 b)
 
-  below_dec : (a b : ℕ) → Decided (a < b)
-  below_dec a b = go (nat_order a b)
-    where
-      go : (a < b) ⊎ ((a ≡ b) ⊎ (b < a)) → Decided (a < b)
-      go (inl h) = inl h
-      go (inr (inl h)) = inr (λ l. omega (arith, h, l))
-      go (inr (inr h)) = inr (λ l. omega (arith, h, l))
-
   letter_of_dec : (x : Letter) → Decided (IsLetterOf k m x)
-  letter_of_dec x = go (below_dec x.index k) (below_dec m (letter_weight x))
+  letter_of_dec x = go (lt_dec x.index k) (lt_dec m (letter_weight x))
     where
       go : Decided (x.index < k) → Decided (m < letter_weight x) → Decided (IsLetterOf k m x)
       go (inl h) (inr n) = inl (h, last (nat_order m (letter_weight x)) n)
@@ -67,7 +59,7 @@ module _ (k m : ℕ) where
       go (inl a) (inr n) = inr (λ b. n b.1)
 
 small_dec : (w : Word) → Decided (IsSmall w)
-small_dec w = go (below_dec 64 100 200000 (word_weight w)) (letters_dec 64 100 w)
+small_dec w = go (lt_dec 200000 (word_weight w)) (letters_dec 64 100 w)
   where
     go : Decided (200000 < word_weight w) → Decided (AreLetters 64 100 w) → Decided (IsSmall w)
     go (inl h) d = inr (λ a. omega (arith, h, a.0))

@@ -14,6 +14,7 @@ use Rattle.nc_algebra.specs.Polynomials.{Polynomial, coefficient, leading}
 use Rattle.nc_algebra.specs.Primes.{IsField, IsZero}
 use Rattle.nc_algebra.specs.Words.{IsWordLess, Word}
 use Rattle.nc_theory.proofs.Reductions.{kept_clear, kept_leads, kept_tail}
+use Rattle.nc_theory.proofs.Relisted.{relisted}
 use Rattle.nc_theory.specs.Divisors.{Divisor, IsBestMultiple, IsChosenDivisor, RegularDivisor, signature_at}
 use Rattle.nc_theory.specs.Reductions.{Reduction, ReductionAt}
 use Rattle.nc_theory.specs.Runs.{Handles, Outcome, Starts}
@@ -58,7 +59,8 @@ last_is xs y x k b = go (front_or_later xs (y ∷ []) x k)
   where
     go : ((l : Contains xs x) × (l.0 ≡ k.0)) ⊎ (Contains (y ∷ []) x × (length xs ≤ k.0)) → y ≡ x
     go (inl (l, e)) = absurd (omega (arith, l.1, e, b))
-    go (inr (c, _)) = elim (Contains-push_cases [] y x c) [ inl n ↦ absurd (omega (arith, n.1)) | inr e ↦ e ]
+    go (inr (c, _)) =
+        elim (Contains-push_cases [] y x c) [ inl n ↦ absurd (omega (arith, n.1)) | inr e ↦ e ]
 
 -- the last of a list stands behind the others
 abbrev pub last_listed : {X : Type 0} → (xs : List X) (y : X) → Contains (xs ++ y ∷ []) y
@@ -74,13 +76,7 @@ module _ (s : Setting) (field : IsField s.prime) (old : State) (nonzero : (e : E
   -- the divisor in the longer list, under its number
   abbrev on : (w : Word) → Divisor s old.entries w → Divisor s (old.entries ++ es) w
   on w d =
-      record {
-        entry = d.entry;
-        listed = in_front old.entries es d.entry d.listed;
-        left = d.left;
-        right = d.right;
-        spells = d.spells;
-      }
+      relisted d (in_front old.entries es d.entry d.listed)
 
   back : (w : Word) (d : Divisor s (old.entries ++ es) w)
       → ((e : Divisor s old.entries w) × (e.entry ≡ d.entry) × (e.listed.0 ≡ d.listed.0)
@@ -95,13 +91,7 @@ module _ (s : Setting) (field : IsField s.prime) (old : State) (nonzero : (e : E
           ⊎ (Contains es d.entry × (length old.entries ≤ d.listed.0))
       go (inl (l, e)) =
           inl (
-            record {
-              entry = d.entry;
-              listed = l;
-              left = d.left;
-              right = d.right;
-              spells = d.spells;
-            },
+            relisted d l,
             refl,
             e,
             refl,
@@ -167,13 +157,7 @@ module _ (s : Setting) (field : IsField s.prime) (old : State) (nonzero : (e : E
         go e a (inl (l, i)) =
             subst (λ n. (d.listed.0 + 1 < n + 1)
             ⊎ ((d.listed.0 + 1 ≡ n + 1) × (length d.left ≤ length e.left))) i
-            (chosen.least (record {
-              entry = e.entry;
-              listed = l;
-              left = e.left;
-              right = e.right;
-              spells = e.spells;
-            }) a)
+            (chosen.least (relisted e l) a)
         go e a (inr (c, b)) = inl (omega (arith, b, d.listed.1))
 
     best_on : (w : Word) (d : Divisor s old.entries w) → IsBestMultiple s old.entries τ w d
@@ -192,13 +176,7 @@ module _ (s : Setting) (field : IsField s.prime) (old : State) (nonzero : (e : E
             ⊎ ((w ≡ v) × (d.listed.0 + 1 ≤ e.listed.0 + 1))
         go v e i (inl (l, j)) =
             subst (λ n. IsWordLess w v ⊎ ((w ≡ v) × (d.listed.0 + 1 ≤ n + 1))) j
-            (best.least v (record {
-              entry = e.entry;
-              listed = l;
-              left = e.left;
-              right = e.right;
-              spells = e.spells;
-            }) i)
+            (best.least v (relisted e l) i)
         go v e i (inr (c, b)) = place (word_total w v)
           where
             place : IsWordLess w v ⊎ ((w ≡ v) ⊎ IsWordLess v w) → IsWordLess w v
@@ -226,13 +204,7 @@ module _ (s : Setting) (field : IsField s.prime) (old : State) (nonzero : (e : E
             → ((l : Contains old.entries v.entry) × (l.0 ≡ v.listed.0))
             ⊎ (Contains es v.entry × (length old.entries ≤ v.listed.0)) → ⊥
         go v a (inl (l, i)) =
-            not_any (record {
-              entry = v.entry;
-              listed = l;
-              left = v.left;
-              right = v.right;
-              spells = v.spells;
-            }) a
+            not_any (relisted v l) a
         go v a (inr (k, b)) =
             none w (kept_leads s field old.entries nonzero (λ σ. IsLess s σ τ)
             (Reduction.keep w d not_any c e rest) (record { coefficient = c; key = w }) kept
@@ -287,13 +259,7 @@ module _ (s : Setting) (field : IsField s.prime) (old : State) (nonzero : (e : E
             ⊎ (Contains es r.divisor.entry × (length old.entries ≤ r.divisor.listed.0)) → ⊥
         go (inl (l, e)) =
             n (record {
-              divisor = record {
-                entry = r.divisor.entry;
-                listed = l;
-                left = r.divisor.left;
-                right = r.divisor.right;
-                spells = r.divisor.spells;
-              };
+              divisor = relisted r.divisor l;
               below = r.below;
             })
         go (inr (c, b)) = m (r, b)

@@ -1,7 +1,7 @@
 -- An entry's polynomial is the one canonical polynomial at its signature.
 use Rattle.nc_algebra.proofs.Elements.{HasGenerator, evaluation-minus, evaluation_zero, in_minus, strike_top}
 use Rattle.nc_algebra.proofs.Monomials.{monomial_laws}
-use Rattle.nc_algebra.proofs.Sums.{below_lead, lead_unique, same_from_zero, top, zero_add, zero_dec, zero_mul_left}
+use Rattle.nc_algebra.proofs.Sums.{below_lead, same_from_zero, top, zero_add, zero_dec, zero_mul_left}
 use Rattle.nc_algebra.proofs.Words.{word_laws}
 use Rattle.nc_algebra.specs.Elements.{Element, IsLabelled, IsLeadingWord, IsLess, IsSignatureOf, SamePolynomial, Setting, evaluation, generator_weight}
 use Rattle.nc_algebra.specs.Monomials.{Monomial, same_monomial}
@@ -10,8 +10,9 @@ use Rattle.nc_algebra.specs.Primes.{IsField, IsZero}
 use Rattle.nc_algebra.specs.Problems.{Problem}
 use Rattle.nc_algebra.specs.Sums.{coefficient_by, minus}
 use Rattle.nc_algebra.specs.Words.{IsWordLess, Word, same_word}
-use Rattle.nc_theory.proofs.Chains.{coefficient_polynomial_minus, leads_same, sum_mod, times_mod}
+use Rattle.nc_theory.proofs.Chains.{coefficient_polynomial_minus, same_lead, sum_mod, times_mod}
 use Rattle.nc_theory.proofs.Completeness.{IsWithinReached, enough_reached, invariant, reached_down, within_down}
+use Rattle.nc_theory.proofs.Relisted.{respelled}
 use Rattle.nc_theory.specs.Bases.{IsBasisBelow, IsCanonical, ReducesToZero}
 use Rattle.nc_theory.specs.Divisors.{RegularDivisor, signature_at}
 use Rattle.nc_theory.specs.Runs.{SequentialRun}
@@ -63,15 +64,7 @@ module _ (s : Setting) (field : IsField s.prime) (state : State) (τ : Monomial)
       begins σ l (ReducesToZero.done z) e = d.nonzero (sym (e.at w) ∙ z w)
       begins σ l (ReducesToZero.step {f = h} x hl v le k q rest) e =
           clash (record {
-            divisor = record {
-              entry = v.entry;
-              listed = v.listed;
-              left = v.left;
-              right = v.right;
-              spells = v.spells ∙ lead_unique same_word IsWordLess word_laws
-                  s.prime (minus s.prime f 1 f') x w (leads_same s h (minus s.prime f 1 f') x e hl)
-                  d;
-            };
+            divisor = respelled v (same_lead s h (minus s.prime f 1 f') x w e hl d);
             below = under le;
           })
         where

@@ -14,10 +14,10 @@ use Rattle.nc_algebra.specs.Primes.{IsField}
 use Rattle.nc_algebra.specs.Problems.{NamedProblem}
 use Rattle.nc_theory.proofs.Added.{Inserts, IsSymmetric, Pairs, adds_behind, adds_map, adds_permutes, among_here, among_map, among_mapped, among_more, each_at, each_from, each_less, each_map, each_more, pairs_all, pairs_around, pairs_back, pairs_less, pairs_map, pairs_mapped, pairs_more}
 use Rattle.nc_theory.proofs.Ascent.{waiting}
-use Rattle.nc_theory.proofs.Desk.{event_runs, found, own_stands, snapshot}
+use Rattle.nc_theory.proofs.Desk.{IsLaid, event_runs, found, own_stands, refused_or_laid, snapshot, work_keeps}
 use Rattle.nc_theory.proofs.Events.{held_dec}
 use Rattle.nc_theory.proofs.Plays.{some_same}
-use Rattle.nc_theory.specs.Desk.{Abandoned, Abandons, Advances, Claims, Desk, Does, Event, IsFirstUnheld, IsGiven, IsHeld, IsLawful, IsReadyWork, Node, Plays, Submits, Submitted, Ticket, Work, count_from, generation_at, insert_node, node_at, node_of, open_desk, with_work, without_node}
+use Rattle.nc_theory.specs.Desk.{Abandoned, Abandons, Advances, Claims, Desk, Does, Event, IsFirstUnheld, IsGiven, IsHeld, IsLawful, IsReadyWork, Node, Plays, Submits, Submitted, Ticket, Work, after_claimed, count_from, generation_at, insert_node, laid, node_at, node_of, open_desk, with_work, without_node}
 use Rattle.nc_theory.specs.Runs.{Handles, IsNext, IsWaiting, Outcome, SequentialRun, state_after}
 use Rattle.nc_theory.specs.States.{State}
 use Rattle.nc_theory.specs.Windows.{AreFromOneClaim, IsFromClaim, WindowLaw, generation_of}
@@ -38,16 +38,6 @@ indices ns = map (λ n. n.index) ns
 
 differ : {X : Type 0} → IsSymmetric (λ (x : X) (y : X). x ≢ y)
 differ x y n e = n (sym e)
-
--- the node with a work laid into it
-abbrev pub laid : Node → Work → Node
-laid n w =
-    record {
-      signature = n.signature;
-      index = n.index;
-      generation = n.generation + 1;
-      work = Some w;
-    }
 
 -- ---- what the operations on a window do to it
 
@@ -136,26 +126,6 @@ node_at_generation i c (n ∷ ns) e = go (nat_eq n.index i) refl e (node_at_gene
     go false d g f =
         let t : At i c ns =
         f g in (t.0, t.1, t.2, Inserts.later t.3, λ w. Inserts.later (t.4 w), t.5)
-
-work_signatures : (i : ℕ) (w : Work) (window : List Node)
-    → signatures (with_work i w window) ≡ signatures window
-work_signatures i w [] = refl
-work_signatures i w (n ∷ ns) = go (nat_eq n.index i) (work_signatures i w ns)
-  where
-    go : (b : Bool) → signatures (with_work i w ns) ≡ signatures ns
-        → signatures (cond b (laid n w ∷ ns) (n ∷ with_work i w ns)) ≡ signatures (n ∷ ns)
-    go true e = refl
-    go false e = ap (λ xs. n.signature ∷ xs) e
-
-work_indices : (i : ℕ) (w : Work) (window : List Node)
-    → indices (with_work i w window) ≡ indices window
-work_indices i w [] = refl
-work_indices i w (n ∷ ns) = go (nat_eq n.index i) (work_indices i w ns)
-  where
-    go : (b : Bool) → indices (with_work i w ns) ≡ indices ns
-        → indices (cond b (laid n w ∷ ns) (n ∷ with_work i w ns)) ≡ indices (n ∷ ns)
-    go true e = refl
-    go false e = ap (λ xs. n.index ∷ xs) e
 
 -- where no index stands twice, a node that is found by its signature is the one that its index
 -- takes out
@@ -295,17 +265,15 @@ module _ (P : NamedProblem) (capacity : ℕ) where
       → (handled : ℕ) → d.handled ≤ handled
       → (state : State) (last : Option Monomial) (committed dropped abandoned : ℕ)
       → AllByRecursion (IsWaiting P.problem state last) (signatures rest) → (i : ℕ) → n.index ≡ i
-      → Kept (record {
+      → Kept (record d {
         handled = handled;
         state = state;
         last = last;
         window = rest;
         free = i ∷ d.free;
-        claimed = d.claimed;
         committed = committed;
         dropped = dropped;
         abandoned = abandoned;
-        alone = d.alone;
       })
   freed d k n rest a handled later state last committed dropped abandoned waits i e =
       record {
@@ -351,34 +319,19 @@ module _ (P : NamedProblem) (capacity : ℕ) where
       d.committed d.dropped (d.abandoned + 1)
       (left_waits d k a.0 (without_node t.index d.window) a.3) t.index a.1
 
-  submit_keeps : (d : Desk) (t : Ticket) → IsGiven t → (w : Work) → IsLawful w
-      → (answer : Submitted) (d' : Desk) → Submits P d t w answer d' → Kept d → Kept d'
-  submit_keeps d t given w lawful answer d' (Submits.is_gone n) k = k
-  submit_keeps d t given w lawful answer d' (Submits.is_foreign g n) k = k
-  submit_keeps d t given w lawful answer d' (Submits.is_ahead g p n) k = k
-  submit_keeps d t given w lawful answer d' (Submits.is_other g p n node i s) k = k
-  submit_keeps d t given w lawful answer d' (Submits.is_taken g p l node i s) k =
+  laid_keeps : (d : Desk) (t : Ticket) → IsGiven t → (w : Work) → IsLawful w → IsLaid P d t w
+      → Kept d → Kept (record d { window = with_work t.index w d.window })
+  laid_keeps d t given w lawful (node, g, p, l, i, s) k =
       go (node_at_generation t.index given.0 d.window (sym given.1 ∙ g))
     where
       same : signatures (with_work t.index w d.window) ≡ signatures d.window
-      same = work_signatures t.index w d.window
+      same = work_keeps (λ n. n.signature) w (λ n. refl) t.index d.window
 
       numbers : indices (with_work t.index w d.window) ≡ indices d.window
-      numbers = work_indices t.index w d.window
+      numbers = work_keeps (λ n. n.index) w (λ n. refl) t.index d.window
 
       go : At t.index given.0 d.window
-          → Kept (record {
-            handled = d.handled;
-            state = d.state;
-            last = d.last;
-            window = with_work t.index w d.window;
-            free = d.free;
-            claimed = d.claimed;
-            committed = d.committed;
-            dropped = d.dropped;
-            abandoned = d.abandoned;
-            alone = d.alone;
-          })
+          → Kept (record d { window = with_work t.index w d.window })
       go (n, at, odd, out, worked, found) =
           record {
             ascends = subst (Pairs (IsLess P.problem.setting)) (sym same) k.ascends;
@@ -417,23 +370,18 @@ module _ (P : NamedProblem) (capacity : ℕ) where
           other : (m : Node) → ¬ AreFromOneClaim n m → ¬ AreFromOneClaim (laid n w) m
           other m h (c, i, j) = h (c, claim_kept n w given.0 odd made.0.0 made.0.2 c i, j)
 
+  submit_keeps : (d : Desk) (t : Ticket) → IsGiven t → (w : Work) → IsLawful w
+      → (answer : Submitted) (d' : Desk) → Submits P d t w answer d' → Kept d → Kept d'
+  submit_keeps d t given w lawful answer d' s k =
+      elim (refused_or_laid P d t w answer d' s) [
+        | inl e ↦ subst Kept e k
+        | inr l ↦ subst Kept l.1 (laid_keeps d t given w lawful l.0 k)
+      ]
+
   -- a claim's node goes into the window
   claim_keeps : (d : Desk) → Kept d → (i : ℕ) (others : List ℕ) → d.free ≡ i ∷ others
       → (τ : Monomial) → IsFirstUnheld P.problem d τ
-      → Kept (record {
-        handled = d.handled;
-        state = d.state;
-        last = d.last;
-        window = insert_node (generator_weight P.problem.setting)
-            (record { signature = τ; index = i; generation = 2 * d.claimed + 1; work = None })
-            d.window;
-        free = others;
-        claimed = d.claimed + 1;
-        committed = d.committed;
-        dropped = d.dropped;
-        abandoned = d.abandoned;
-        alone = d.alone;
-      })
+      → Kept (after_claimed (generator_weight P.problem.setting) d i others τ)
   claim_keeps d k i others free τ first =
       record {
         ascends = insert_ascends P.problem.setting n d.window unheld k.ascends;

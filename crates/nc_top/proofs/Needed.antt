@@ -2,7 +2,7 @@
 -- `needed_dec` decides, `needed_list` makes the list with the traces, and `needed_once` says that
 -- there is one: numbers that ascend are known by their members (`rises_once`).
 use Rattle.nc_algebra.proofs.Finite.{among_contains, contains_among}
-use Rattle.nc_algebra.proofs.Orders.{Decided, least, nat_order}
+use Rattle.nc_algebra.proofs.Orders.{Decided, least, nat_dec, nat_order}
 use Rattle.nc_algebra.specs.Lists.{Among}
 use Rattle.nc_algebra.specs.Monomials.{Monomial}
 use Rattle.nc_algebra.specs.Polynomials.{Polynomial}
@@ -96,24 +96,16 @@ increases xs r k l =
 
 -- ---- what is named
 
-pub number_dec : (a b : ℕ) → Decided (a ≡ b)
-number_dec a b = go (nat_order a b)
-  where
-    go : (a < b) ⊎ ((a ≡ b) ⊎ (b < a)) → Decided (a ≡ b)
-    go (inl l) = inr (λ e. omega (arith, l, e))
-    go (inr (inl e)) = inl e
-    go (inr (inr l)) = inr (λ e. omega (arith, l, e))
-
 start_dec : (start : Start) (j : ℕ) → Decided (StartNames start j)
 start_dec (Start.a_generator i) j = inr (λ h. h)
-start_dec (Start.a_multiple u k v) j = number_dec k j
+start_dec (Start.a_multiple u k v) j = nat_dec k j
 
 abbrev AmongSteps : List Step → ℕ → Type 0
 AmongSteps steps j = (step : Step) × Among step steps × (step.number ≡ j)
 
 steps_dec : (steps : List Step) (j : ℕ) → Decided (AmongSteps steps j)
 steps_dec [] j = inr (λ (step, a, e). a)
-steps_dec (t ∷ steps) j = go (number_dec t.number j) (steps_dec steps j)
+steps_dec (t ∷ steps) j = go (nat_dec t.number j) (steps_dec steps j)
   where
     neither : ¬ (t.number ≡ j) → ¬ AmongSteps steps j → (step : Step) → Among step (t ∷ steps)
         → step.number ≡ j → ⊥
@@ -139,7 +131,7 @@ names_dec t j = go (start_dec t.start j) (steps_dec t.steps j)
 
 among_dec : (xs : List ℕ) (j : ℕ) → Decided (Among j xs)
 among_dec [] j = inr (λ a. a)
-among_dec (x ∷ xs) j = go (number_dec j x) (among_dec xs j)
+among_dec (x ∷ xs) j = go (nat_dec j x) (among_dec xs j)
   where
     neither : ¬ (j ≡ x) → ¬ Among j xs → Among j (x ∷ xs) → ⊥
     neither n none (inl e) = n e
