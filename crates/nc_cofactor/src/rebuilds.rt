@@ -9,23 +9,14 @@ ghost use Rattle.nc_criteria.specs.Multiples.{IsBestWithin};
 ghost use Rattle.nc_reduce.specs.Leads.{LeadsOf};
 ghost use Rattle.nc_snapshot.specs.Traces.{start_of};
 ghost use Rattle.nc_theory.specs.Rebuilding.{Rebuilds};
-ghost use Rattle.nc_theory.specs.States.{Start as Beginning};
-ghost use Rattle.std.specs.Prelude.{IfOk, IsTrue, Some, drop, length, take, ◌≡◌, ◌≢◌, ◌≤◌, ◌↔◌};
+ghost use Rattle.std.specs.Prelude.{IfOk, Some, length, ◌≢◌, ◌≤◌};
 
 use nc_criteria::{Multiple, best_multiple};
 use nc_index::Leads;
 use nc_reduce::{Reduced, reduce};
 use nc_sig::Sig;
 use nc_snapshot::{Snapshot, Start, Trace};
-use nc_words::Word;
 use std::alloc::{AllocError, Global};
-
-/// Whether the signature is its generator by itself.
-fn is_unit(sig: &Sig) -> bool
-    ensures { IsTrue result ↔ (monomial_of sig.now ≡ unit_monomial sig.now.generator) }
-{
-    sig.left.letters().is_empty() && sig.right.letters().is_empty()
-}
 
 /// The best multiple of the first entries.
 fn best_of_first(snapshot: &Snapshot, sig: &Sig, entries: u32) -> Multiple
@@ -42,24 +33,6 @@ fn best_of_first(snapshot: &Snapshot, sig: &Sig, entries: u32) -> Multiple
     }
 }
 
-/// The start at this multiple.
-fn multiple_start(alloc: Global, sig: &Sig, best: &Multiple) -> Result<Start, AllocError>
-    requires left { best.now.left ≤ length sig.now.left }
-    requires right { best.now.right ≤ length sig.now.right }
-    ensures { IfOk result (λ a. start_of a ≡ Beginning.a_multiple (take best.now.left sig.now.left)
-        best.now.number (drop best.now.right sig.now.right)) }
-{
-    let left = &sig.left.letters()[..best.left];
-    let right = &sig.right.letters()[best.right..];
-    let left = Word::join(alloc, left, &[], &[])?;
-    let right = Word::join(alloc, right, &[], &[])?;
-    Ok(Start::Multiple {
-        left,
-        number: best.number,
-        right,
-    })
-}
-
 /// What is reduced at the signature over the first entries.
 fn start_over(
     alloc: Global,
@@ -74,11 +47,11 @@ fn start_over(
     ensures { IfOk result (λ a. IsStartOver snapshot.now.problem.problem.setting
         snapshot.now.state.entries (monomial_of sig.now) entries (start_of a)) }
 {
-    if is_unit(sig) {
+    if sig.is_unit() {
         return Ok(Start::Generator(sig.generator));
     }
     let best = best_of_first(snapshot, sig, entries);
-    multiple_start(alloc, sig, &best)
+    best.start(alloc, sig)
 }
 
 /// The trace that handling the signature over the first entries gives, where these are the ones with lesser signatures.

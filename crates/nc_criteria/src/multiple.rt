@@ -1,14 +1,18 @@
 //! The best multiple at a signature.
 
+ghost use Rattle.nc_algebra.specs.Limits.{max_letters};
 ghost use Rattle.nc_algebra.specs.Monomials.{monomial_of};
 ghost use Rattle.nc_criteria.specs.Multiples.{BestMultipleLaw, IsBestWithin};
 ghost use Rattle.nc_criteria.specs.Searches.{IsBestBetween, found_of};
+ghost use Rattle.nc_snapshot.specs.Traces.{start_of};
 ghost use Rattle.nc_theory.specs.Best.{IsMultipleAt, best_of};
-ghost use Rattle.std.specs.Prelude.{length, option_map, ◌-◌, ◌<◌, ◌≡◌, ◌≤◌};
+ghost use Rattle.nc_theory.specs.States.{Start as Beginning};
+ghost use Rattle.std.specs.Prelude.{IfOk, drop, length, option_map, take, ◌-◌, ◌<◌, ◌≡◌, ◌≤◌};
 
 use nc_sig::Sig;
-use nc_snapshot::Snapshot;
-use nc_words::Joined;
+use nc_snapshot::{Snapshot, Start};
+use nc_words::{Joined, Letter, Word};
+use std::alloc::{AllocError, Global};
 
 /// A multiple of an entry: the entry's number, and what stands around it in the signature: u is the first `left` letters of
 /// the signature's left word, v its right word from place `right` on.
@@ -17,6 +21,40 @@ pub struct Multiple {
     pub number: u32,
     pub left: usize,
     pub right: usize,
+}
+
+impl Multiple {
+    /// What stands before and behind the entry in the signature.
+    pub fn around<'a>(&self, sig: &'a Sig) -> (&'a [Letter], &'a [Letter])
+        requires left { self.now.left ≤ length sig.now.left }
+        requires right { self.now.right ≤ length sig.now.right }
+        ensures left { result.0.now ≡ take self.now.left sig.now.left }
+        ensures right { result.1.now ≡ drop self.now.right sig.now.right }
+        ensures few_left { length result.0.now ≤ max_letters }
+        ensures few_right { length result.1.now ≤ max_letters }
+    {
+        let left = sig.left.letters();
+        let right = sig.right.letters();
+        (&left[..self.left], &right[self.right..])
+    }
+
+    /// The start of a reduction at this multiple.
+    pub fn start(&self, alloc: Global, sig: &Sig) -> Result<Start, AllocError>
+        requires left { self.now.left ≤ length sig.now.left }
+        requires right { self.now.right ≤ length sig.now.right }
+        ensures { IfOk result (λ s. start_of s ≡ Beginning.a_multiple
+            (take self.now.left sig.now.left) self.now.number
+            (drop self.now.right sig.now.right)) }
+    {
+        let (left, right) = self.around(sig);
+        let left = Word::join(alloc, left, &[], &[])?;
+        let right = Word::join(alloc, right, &[], &[])?;
+        Ok(Start::Multiple {
+            left,
+            number: self.number,
+            right,
+        })
+    }
 }
 
 /// A multiple of the entry with this number, and its leading word, which is not made: the entry's, with what stands before

@@ -54,13 +54,13 @@ module _ (s : Setting) (entries : List Entry) (usable : All (IsUsable s) entries
 -- ---- the best multiple
 
 module _ (s : Setting) (state : State) (τ : Monomial) (m : Multiple)
-    (best : IsBestWithin s state.entries τ 0 (length state.entries) (Some m)) (u v : Word)
-    (is_left : u ≡ take m.left τ.left) (is_right : v ≡ drop m.right τ.right) where
-  left : best.1.left ≡ u
-  left = best.4 ∙ sym is_left
+    (best : IsBestWithin s state.entries τ 0 (length state.entries) (Some m)) where
+  -- what stands before and behind the entry
+  abbrev u : Word
+  u = take m.left τ.left
 
-  right : best.1.right ≡ v
-  right = best.5 ∙ sym is_right
+  abbrev v : Word
+  v = drop m.right τ.right
 
   some : 1 ≤ m.number
   some = omega (arith, best.3)
@@ -77,7 +77,7 @@ module _ (s : Setting) (state : State) (τ : Monomial) (m : Multiple)
     best.1.entry,
     some,
     at,
-    ap₂ (λ x y. times x best.1.entry.signature y) (sym left) (sym right)
+    ap₂ (λ x y. times x best.1.entry.signature y) (sym best.4) (sym best.5)
         ∙ best.2.multiple.signed,
   )
 
@@ -86,8 +86,8 @@ module _ (s : Setting) (state : State) (τ : Monomial) (m : Multiple)
 
   spells : u ++ (leading s.prime (polynomial_of state.entries m.number) ++ v) ≡ best.0
   spells =
-      ap₂ (λ x y. x ++ (leading s.prime (polynomial_of state.entries m.number) ++ y)) (sym left)
-      (sym right) ∙ (ap (λ f. best.1.left ++ (leading s.prime f ++ best.1.right)) (sym read_best)
+      ap₂ (λ x y. x ++ (leading s.prime (polynomial_of state.entries m.number) ++ y)) (sym best.4)
+      (sym best.5) ∙ (ap (λ f. best.1.left ++ (leading s.prime f ++ best.1.right)) (sym read_best)
       ∙ best.1.spells)
 
   module _ (law : BestMultipleLaw) (uncovered : ¬ Covered s state τ)
@@ -126,10 +126,10 @@ module _ (s : Setting) (state : State) (τ : Monomial) (m : Multiple)
         (Start.a_multiple best.1.left j best.1.right)) best.3 from) in
         subst (λ y. Starts s state.entries τ
         (polynomial_times u (polynomial_of state.entries m.number) y)
-        (Start.a_multiple u m.number y)) right
+        (Start.a_multiple u m.number y)) best.5
         (subst (λ y. Starts s state.entries τ
         (polynomial_times y (polynomial_of state.entries m.number) best.1.right)
-        (Start.a_multiple y m.number best.1.right)) left read)
+        (Start.a_multiple y m.number best.1.right)) best.4 read)
 
     pub best_reduced : RegularDivisor s state.entries τ x
         → (start : Start) (kept : Polynomial) (steps : List Step) (o : Outcome)

@@ -9,9 +9,9 @@ ghost use Rattle.nc_theory.specs.Usable.{IsUsableSignature};
 ghost use Rattle.nc_snapshot.specs.Outcomes.{outcome_of};
 ghost use Rattle.nc_theory.specs.Runs.{Handles, IsCandidate};
 ghost use Rattle.nc_theory.specs.Syzygies.{Covered};
-ghost use Rattle.std.specs.Prelude.{IfOk, IsTrue, Some, length, ◌≡◌, ◌≢◌, ◌↔◌};
+ghost use Rattle.std.specs.Prelude.{IfOk, Some, length, ◌≡◌, ◌≢◌};
 
-use crate::multiple::{around, best_at, is_reducible, leading_word, multiple_start};
+use crate::multiple::{best_at, is_reducible, leading_word};
 use nc_criteria::{Multiple, best_multiple_law, syzygy_divides};
 use nc_index::Leads;
 use nc_reduce::{Reduced, reduce};
@@ -29,13 +29,6 @@ fn outcome_from(reduced: Reduced) -> Outcome
     } else {
         Outcome::Entry { poly, trace }
     }
-}
-
-/// Whether the signature is its generator by itself.
-fn is_unit(sig: &Sig) -> bool
-    ensures { IsTrue result ↔ (monomial_of sig.now ≡ unit_monomial sig.now.generator) }
-{
-    sig.left.letters().is_empty() && sig.right.letters().is_empty()
 }
 
 /// What becomes of the signature of a generator that nothing covers.
@@ -81,13 +74,13 @@ fn from_multiple(
 {
     best_multiple_law();
     snapshot.recall_rule();
-    let number = best.number;
-    let (left, right) = around(sig, &best);
-    let word = leading_word(alloc, snapshot, left, number, right)?;
+    let word = leading_word(alloc, snapshot, sig, &best)?;
     if !is_reducible(snapshot, leads, sig, &word) {
-        return Ok(Outcome::Settled { number });
+        return Ok(Outcome::Settled {
+            number: best.number,
+        });
     }
-    let start = multiple_start(alloc, left, number, right)?;
+    let start = best.start(alloc, sig)?;
     let reduced = reduce(alloc, snapshot, leads, start, sig)?;
     Ok(outcome_from(reduced))
 }
@@ -114,7 +107,7 @@ pub fn handle(
     if syzygy_divides(snapshot, sig) {
         return Ok(Outcome::Covered);
     }
-    if is_unit(sig) {
+    if sig.is_unit() {
         return from_generator(alloc, snapshot, leads, sig);
     }
     let best = best_at(snapshot, sig);

@@ -1,23 +1,21 @@
 //! The best multiple at a signature, and its leading word.
 
 ghost use Rattle.nc_algebra.specs.Elements.{HasDegree};
-ghost use Rattle.nc_algebra.specs.Limits.{max_letters};
 ghost use Rattle.nc_algebra.specs.Monomials.{monomial_of};
 ghost use Rattle.nc_algebra.specs.Polynomials.{leading};
 ghost use Rattle.nc_algebra.specs.Words.{Word as WordValue};
 ghost use Rattle.nc_criteria.specs.Multiples.{IsBestWithin};
 ghost use Rattle.nc_reduce.specs.Leads.{LeadsOf};
 ghost use Rattle.nc_reduce.specs.Starts.{IsReadable, polynomial_of};
-ghost use Rattle.nc_snapshot.specs.Traces.{start_of};
 ghost use Rattle.nc_theory.specs.Divisors.{Multiple as MultipleAt, RegularDivisor};
 ghost use Rattle.nc_theory.specs.States.{Start as Beginning};
-ghost use Rattle.std.specs.Prelude.{IfOk, IsTrue, Some, drop, length, take, ◌+◌, ◌++◌, ◌≡◌, ◌≤◌, ◌↔◌};
+ghost use Rattle.std.specs.Prelude.{IfOk, IsTrue, Some, drop, length, take, ◌++◌, ◌≡◌, ◌≤◌, ◌↔◌};
 
 use nc_criteria::{Multiple, best_multiple, best_multiple_law};
 use nc_index::{Leads, leads_law};
 use nc_sig::Sig;
-use nc_snapshot::{Snapshot, Start};
-use nc_words::{Letter, Word};
+use nc_snapshot::Snapshot;
+use nc_words::Word;
 use std::alloc::{AllocError, Global};
 
 /// The best multiple at a signature that has one.
@@ -34,54 +32,27 @@ pub(crate) fn best_at(snapshot: &Snapshot, sig: &Sig) -> Multiple
     }
 }
 
-/// What stands before and behind the entry in its multiple.
-pub(crate) fn around<'a>(sig: &'a Sig, best: &Multiple) -> (&'a [Letter], &'a [Letter])
-    requires left { best.now.left ≤ length sig.now.left }
-    requires right { best.now.right ≤ length sig.now.right }
-    ensures left { result.0.now ≡ take best.now.left sig.now.left }
-    ensures right { result.1.now ≡ drop best.now.right sig.now.right }
-{
-    let left = sig.left.letters();
-    let right = sig.right.letters();
-    (&left[..best.left], &right[best.right..])
-}
-
-/// The leading word of the multiple of the entry with this number.
+/// The leading word of the best multiple.
 pub(crate) fn leading_word(
     alloc: Global,
     snapshot: &Snapshot,
-    left: &[Letter],
-    number: u32,
-    right: &[Letter],
+    sig: &Sig,
+    best: &Multiple,
 ) -> Result<Word, AllocError>
-    requires { IsReadable snapshot.now.problem.problem.setting snapshot.now.state.entries
-        (Beginning.a_multiple left.now number right.now) }
-    ensures { IfOk result (λ w. w ≡ left.now
+    requires left { best.now.left ≤ length sig.now.left }
+    requires right { best.now.right ≤ length sig.now.right }
+    requires readable { IsReadable snapshot.now.problem.problem.setting snapshot.now.state.entries
+        (Beginning.a_multiple (take best.now.left sig.now.left) best.now.number
+        (drop best.now.right sig.now.right)) }
+    ensures { IfOk result (λ w. w ≡ take best.now.left sig.now.left
         ++ (leading snapshot.now.problem.problem.setting.prime
-        (polynomial_of snapshot.now.state.entries number) ++ right.now)) }
+        (polynomial_of snapshot.now.state.entries best.now.number)
+        ++ drop best.now.right sig.now.right)) }
 {
     snapshot.recall_rule();
-    let lead = snapshot.entry(number).lead();
+    let (left, right) = best.around(sig);
+    let lead = snapshot.entry(best.number).lead();
     Word::join(alloc, left, lead.letters(), right)
-}
-
-/// The start at the multiple of the entry with this number.
-pub(crate) fn multiple_start(
-    alloc: Global,
-    left: &[Letter],
-    number: u32,
-    right: &[Letter],
-) -> Result<Start, AllocError>
-    requires { length left.now + length right.now ≤ max_letters }
-    ensures { IfOk result (λ s. start_of s ≡ Beginning.a_multiple left.now number right.now) }
-{
-    let left = Word::join(alloc, left, &[], &[])?;
-    let right = Word::join(alloc, right, &[], &[])?;
-    Ok(Start::Multiple {
-        left,
-        number,
-        right,
-    })
 }
 
 /// Whether a multiple of an entry with a signature below this one has the word as its leading word.

@@ -1,13 +1,13 @@
 //! Signatures.
 
 ghost use Rattle.nc_algebra.specs.Limits.{max_letters};
-ghost use Rattle.nc_algebra.specs.Monomials.{above_degree, compare_sigs, monomial_of, sig_times};
+ghost use Rattle.nc_algebra.specs.Monomials.{above_degree, compare_sigs, monomial_of, sig_times, unit_monomial};
 ghost use Rattle.nc_algebra.specs.Words.{word_weight};
 ghost use Rattle.nc_sig.specs.Orders.{sigs_order};
 ghost use Rattle.nc_sig.specs.Sigs.{IsBoundBy, IsQuotient};
 ghost use Rattle.std.specs.Cmp.{eq_by_cmp_equiv, partial_equiv_from_equiv, partial_order_from_total};
 ghost use Rattle.std.specs.Ordering.{is_eq};
-ghost use Rattle.std.specs.Prelude.{IfOk, Some, length, refl, ◌+◌, ◌<◌, ◌≡◌, ◌≤◌};
+ghost use Rattle.std.specs.Prelude.{IfOk, IsTrue, Some, length, refl, ◌+◌, ◌<◌, ◌≡◌, ◌≤◌, ◌↔◌};
 
 use nc_words::{Joined, Letter, Word, weight_of};
 use std::alloc::{AllocError, Global};
@@ -75,6 +75,13 @@ impl Sig {
             left: Word::empty(alloc),
             right: Word::empty(alloc),
         }
+    }
+
+    /// Whether it is its generator by itself: no word stands before or behind it.
+    pub fn is_unit(&self) -> bool
+        ensures { IsTrue result ↔ (monomial_of self.now ≡ unit_monomial self.now.generator) }
+    {
+        self.left.letters().is_empty() && self.right.letters().is_empty()
     }
 
     /// An equal one.

@@ -20,7 +20,7 @@ returns-then-is_unit c =
 
 pub returns : goal.returns
 returns c =
-    IfOk-weaker c.multiple_start.result
+    IfOk-weaker c.start.result
     (λ (a : Begin). start_of a ≡ Start.a_multiple
     (take c.best_of_first-best.result.left c.args.sig.now.left)
     c.best_of_first-best.result.number
@@ -32,4 +32,4 @@ returns c =
     c.args.snapshot.now.state.entries (monomial_of c.args.sig.now) c.args.entries
     (λ e. false≢true (sym c.if-is_unit.false ∙ c.is_unit.ensures.1 e))
     c.best_of_first-best.result c.best_of_first-best.ensures c.requires.start (start_of a) is)
-    c.multiple_start.ensures
+    c.start.ensures

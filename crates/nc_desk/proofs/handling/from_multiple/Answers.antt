@@ -7,26 +7,25 @@ use Rattle.nc_reduce.specs.Starts.{IsStartAt}
 use Rattle.nc_theory.specs.Outcomes.{outcome_after}
 use Rattle.nc_snapshot.specs.Traces.{start_of}
 use Rattle.nc_theory.specs.States.{Start}
-use Rattle.std.proofs.Common.{ap, subst, sym, ◌∙◌}
+use Rattle.std.proofs.Common.{ap, drop, subst, sym, take, ◌∙◌}
 use Rattle.std.proofs.lemmas.Bool.{false≢true}
 use Rattle.nc_desk.proofs.handling.from_multiple.Goals as goal
 
-pub leading_word-requires : goal.leading_word-requires
-leading_word-requires c =
+pub leading_word-requires-clause-readable : goal.leading_word-requires-clause-readable
+leading_word-requires-clause-readable c =
     start_readable (setting_of c.args.snapshot.now.problem)
     c.recall_rule.ensures.snapshot.problem.setting c.args.snapshot.now.state.entries
     (snapshot_usable c.args.snapshot.now c.recall_rule.ensures.snapshot)
     (monomial_of c.args.sig.now) c.requires.usable
-    (Start.a_multiple c.around.result.0.now c.args.best.number c.around.result.1.now)
+    (Start.a_multiple (take c.args.best.left c.args.sig.now.left) c.args.best.number
+    (drop c.args.best.right c.args.sig.now.right))
     (best_start c.args.snapshot.now.problem.problem.setting c.args.snapshot.now.state
-    (monomial_of c.args.sig.now) c.args.best c.requires.best c.around.result.0.now
-    c.around.result.1.now c.around.ensures.left c.around.ensures.right)
+    (monomial_of c.args.sig.now) c.args.best c.requires.best)
 
 pub returns-then-not-is_reducible : goal.returns-then-not-is_reducible
 returns-then-not-is_reducible c =
     best_settled c.args.snapshot.now.problem.problem.setting c.args.snapshot.now.state
-    (monomial_of c.args.sig.now) c.args.best c.requires.best c.around.result.0.now
-    c.around.result.1.now c.around.ensures.left c.around.ensures.right
+    (monomial_of c.args.sig.now) c.args.best c.requires.best
     c.best_multiple_law.ensures c.requires.uncovered c.requires.other c.in_ok-word.word
     c.in_ok-word.ensures (λ r. false≢true (sym c.if-not-is_reducible.true
     ∙ c.is_reducible.ensures.1 r))
@@ -36,14 +35,12 @@ reduce-requires-clause-start c =
     subst (IsStartAt c.args.snapshot.now.problem.problem.setting c.args.snapshot.now.state.entries
     (monomial_of c.args.sig.now)) (sym c.in_ok-start.ensures)
     (best_start c.args.snapshot.now.problem.problem.setting c.args.snapshot.now.state
-    (monomial_of c.args.sig.now) c.args.best c.requires.best c.around.result.0.now
-    c.around.result.1.now c.around.ensures.left c.around.ensures.right)
+    (monomial_of c.args.sig.now) c.args.best c.requires.best)
 
 pub returns : goal.returns
 returns c =
     best_reduced c.args.snapshot.now.problem.problem.setting c.args.snapshot.now.state
-    (monomial_of c.args.sig.now) c.args.best c.requires.best c.around.result.0.now
-    c.around.result.1.now c.around.ensures.left c.around.ensures.right
+    (monomial_of c.args.sig.now) c.args.best c.requires.best
     c.best_multiple_law.ensures c.requires.uncovered c.requires.other c.in_ok-word.word
     c.in_ok-word.ensures (c.is_reducible.ensures.0 c.if-not-is_reducible.false)
     (start_of c.in_ok-start.start) c.in_ok-reduced.reduced.poly c.in_ok-reduced.reduced.trace.steps
