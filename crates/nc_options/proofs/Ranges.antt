@@ -1,5 +1,5 @@
 -- The numbers of options lie in their ranges.
-use Rattle.std.proofs.Common.{◌≡◌, ◌≤◌, ◌&&◌, ℕ, Bool, true, false, refl, subst, ap, arith, List, [], ◌∷◌, Option, Some, None, codes}
+use Rattle.std.proofs.Common.{◌≡◌, ◌≤◌, ◌&&◌, ℕ, Bool, true, false, refl, subst, arith, List, [], ◌∷◌, Option, Some, None, codes}
 use Rattle.std.specs.Prelude.{if◌then◌else◌, nat_le, option_and_then, option_map}
 use Rattle.std.specs.Str.{bytes_eq}
 use Rattle.std.proofs.lemmas.Bool.{leb-true}
@@ -7,12 +7,10 @@ use Rattle.nc_options.proofs.Turns.{none_of_some}
 use Rattle.nc_options.specs.Pieces.{Text}
 use Rattle.nc_options.specs.Uses.{Use, number_id, uses_of, value_of}
 use Rattle.nc_options.specs.Laws.{AreInRange, IsInRange, OptionsAreInRange}
-use Rattle.nc_options.specs.Options.{basis_after, basis_names, basis_of, basis_with, check_after, demo_after, demo_names, demo_of, demo_with, member_after, member_names, member_of, member_with}
+use Rattle.nc_options.specs.Options.{basis_after, basis_names, basis_of, basis_with, check_after, demo_after, demo_names, demo_of, demo_with, member_after, member_names, member_of, member_with, of_four}
 use Rattle.nc_options.specs.Values.{cofactors_option, degree_option, digits_of, form_option, limit_option, number_in, number_option, number_or, window_option, within, workers_option}
 use Rattle.nc_options.specs.declared.options.BasisOptions.{BasisOptions}
-use Rattle.nc_options.specs.declared.options.Cofactors.{Cofactors}
 use Rattle.nc_options.specs.declared.options.DemoOptions.{DemoOptions}
-use Rattle.nc_options.specs.declared.options.Form.{Form}
 use Rattle.nc_options.specs.declared.options.MemberOptions.{MemberOptions}
 use Rattle.nc_options.specs.declared.options.Options.{Options}
 use Rattle.nc_options.specs.declared.options.Options.TheVariants.{Basis, Check, Demo, Member}
@@ -47,97 +45,67 @@ or_in_range low high default None n above below e =
     (omega arith, omega arith)
 or_in_range low high default (Some text) n above below e = in_range low high text n e
 
--- ---- options, by their parts
+-- ---- options
 
-basis_parts : (w x l : Option ℕ) (c : Option Cofactors) (o : BasisOptions)
-    → basis_with w x l c ≡ Some o → (w ≡ Some o.workers) × (x ≡ Some o.window) × (l ≡ Some o.limit)
-basis_parts (Some w) (Some x) (Some l) (Some c) o e =
-    let same : record { workers = w; window = x; limit = l; cofactors = c } ≡ o = cc in (
-      ap (λ (p : BasisOptions). Some p.workers) same,
-      ap (λ (p : BasisOptions). Some p.window) same,
-      ap (λ (p : BasisOptions). Some p.limit) same,
-    )
-basis_parts (Some w) (Some x) (Some l) None o e = absurd (none_of_some o e)
-basis_parts (Some w) (Some x) None c o e = absurd (none_of_some o e)
-basis_parts (Some w) None l c o e = absurd (none_of_some o e)
-basis_parts None x l c o e = absurd (none_of_some o e)
+-- what holds of all that can be made of four values holds of what is made
+of_four_holds : {A B C D O : Type 0} (make : A → B → C → D → O) (P : O → Type 0) (x : Option A)
+    (y : Option B) (z : Option C) (u : Option D) (o : O)
+    → ((a : A) (b : B) (c : C) (d : D) → x ≡ Some a → y ≡ Some b → z ≡ Some c → u ≡ Some d
+    → P (make a b c d)) → of_four make x y z u ≡ Some o → P o
+of_four_holds make P (Some a) (Some b) (Some c) (Some d) o h e =
+    let same : make a b c d ≡ o = cc in
+    subst P same (h a b c d refl refl refl refl)
+of_four_holds make P (Some a) (Some b) (Some c) None o h e = absurd (none_of_some o e)
+of_four_holds make P (Some a) (Some b) None u o h e = absurd (none_of_some o e)
+of_four_holds make P (Some a) None z u o h e = absurd (none_of_some o e)
+of_four_holds make P None y z u o h e = absurd (none_of_some o e)
 
-member_parts : (w x l : Option ℕ) (f : Option Form) (o : MemberOptions)
-    → member_with w x l f ≡ Some o → (w ≡ Some o.workers) × (x ≡ Some o.window) × (l ≡ Some o.limit)
-member_parts (Some w) (Some x) (Some l) (Some f) o e =
-    let same : record { workers = w; window = x; limit = l; form = f } ≡ o = cc in (
-      ap (λ (p : MemberOptions). Some p.workers) same,
-      ap (λ (p : MemberOptions). Some p.window) same,
-      ap (λ (p : MemberOptions). Some p.limit) same,
-    )
-member_parts (Some w) (Some x) (Some l) None o e = absurd (none_of_some o e)
-member_parts (Some w) (Some x) None f o e = absurd (none_of_some o e)
-member_parts (Some w) None l f o e = absurd (none_of_some o e)
-member_parts None x l f o e = absurd (none_of_some o e)
+module _ (given : Text → Option Text) where
+  workers_in : (n : ℕ) → workers_option given ≡ Some n → IsInRange 1 64 n
+  workers_in n e = or_in_range 1 64 1 (given (codes "workers")) n (omega arith) (omega arith) e
 
-demo_parts : (n d w x : Option ℕ) (o : DemoOptions) → demo_with n d w x ≡ Some o
-    → (n ≡ Some o.number) × (d ≡ Some o.degree) × (w ≡ Some o.workers) × (x ≡ Some o.window)
-demo_parts (Some n) (Some d) (Some w) (Some x) o e =
-    let same : record { number = n; degree = d; workers = w; window = x } ≡ o = cc in (
-      ap (λ (p : DemoOptions). Some p.number) same,
-      ap (λ (p : DemoOptions). Some p.degree) same,
-      ap (λ (p : DemoOptions). Some p.workers) same,
-      ap (λ (p : DemoOptions). Some p.window) same,
-    )
-demo_parts (Some n) (Some d) (Some w) None o e = absurd (none_of_some o e)
-demo_parts (Some n) (Some d) None x o e = absurd (none_of_some o e)
-demo_parts (Some n) None w x o e = absurd (none_of_some o e)
-demo_parts None d w x o e = absurd (none_of_some o e)
+  window_in : (n : ℕ) → window_option given ≡ Some n → IsInRange 1 4096 n
+  window_in n e = or_in_range 1 4096 64 (given (codes "window")) n (omega arith) (omega arith) e
 
-workers_in : (given : Text → Option Text) (n : ℕ) → workers_option given ≡ Some n → IsInRange 1 64 n
-workers_in given n e = or_in_range 1 64 1 (given (codes "workers")) n (omega arith) (omega arith) e
+  limit_in : (n : ℕ) → limit_option given ≡ Some n → IsInRange 1 10000000 n
+  limit_in n e =
+      or_in_range 1 10000000 10000 (given (codes "limit")) n (omega arith) (omega arith) e
 
-window_in : (given : Text → Option Text) (n : ℕ) → window_option given ≡ Some n → IsInRange 1 4096 n
-window_in given n e = or_in_range 1 4096 64 (given (codes "window")) n (omega arith) (omega arith) e
+  degree_in : (n : ℕ) → degree_option given ≡ Some n → IsInRange 2 10 n
+  degree_in n e = or_in_range 2 10 6 (given (codes "degree")) n (omega arith) (omega arith) e
 
-limit_in : (given : Text → Option Text) (n : ℕ) → limit_option given ≡ Some n
-    → IsInRange 1 10000000 n
-limit_in given n e =
-    or_in_range 1 10000000 10000 (given (codes "limit")) n (omega arith) (omega arith) e
+  number_in_range : (n : ℕ) → number_option given ≡ Some n → IsInRange 0 65536 n
+  number_in_range n e = go (given number_id) e
+    where
+      go : (text : Option Text) → option_and_then (number_in 0 65536) text ≡ Some n
+          → IsInRange 0 65536 n
+      go None f = absurd (none_of_some n f)
+      go (Some text) f = in_range 0 65536 text n f
 
-basis_in : (given : Text → Option Text) (o : BasisOptions) → basis_of given ≡ Some o
-    → AreInRange (Basis o)
-basis_in given o e =
-    let parts =
-    basis_parts (workers_option given) (window_option given) (limit_option given)
-    (cofactors_option given) o e in (
-      workers_in given o.workers parts.0,
-      window_in given o.window parts.1,
-      limit_in given o.limit parts.2,
-    )
+  -- `basis` and `member` have three numbers in common
+  usual_in : {L O : Type 0} (make : ℕ → ℕ → ℕ → L → O) (P : O → Type 0) (last : Option L)
+      → ((w x l : ℕ) (y : L)
+      → IsInRange 1 64 w × IsInRange 1 4096 x × IsInRange 1 10000000 l → P (make w x l y))
+      → (o : O)
+      → of_four make (workers_option given) (window_option given) (limit_option given) last ≡ Some o
+      → P o
+  usual_in make P last h o e =
+      of_four_holds make P (workers_option given) (window_option given) (limit_option given) last o
+      (λ w x l y a b c d. h w x l y (workers_in w a, window_in x b, limit_in l c)) e
 
-member_in : (given : Text → Option Text) (o : MemberOptions) → member_of given ≡ Some o
-    → AreInRange (Member o)
-member_in given o e =
-    let parts =
-    member_parts (workers_option given) (window_option given) (limit_option given)
-    (form_option given) o e in (
-      workers_in given o.workers parts.0,
-      window_in given o.window parts.1,
-      limit_in given o.limit parts.2,
-    )
+  basis_in : (o : BasisOptions) → basis_of given ≡ Some o → AreInRange (Basis o)
+  basis_in =
+      usual_in basis_with (λ o. AreInRange (Basis o)) (cofactors_option given) (λ w x l y h. h)
 
-demo_in : (given : Text → Option Text) (o : DemoOptions) → demo_of given ≡ Some o
-    → AreInRange (Demo o)
-demo_in given o e =
-    let parts =
-    demo_parts (number_option given) (degree_option given) (workers_option given)
-    (window_option given) o e in (
-      number_in_range (given number_id) parts.0,
-      or_in_range 2 10 6 (given (codes "degree")) o.degree (omega arith) (omega arith) parts.1,
-      workers_in given o.workers parts.2,
-      window_in given o.window parts.3,
-    )
-  where
-    number_in_range : (text : Option Text)
-        → option_and_then (number_in 0 65536) text ≡ Some o.number → IsInRange 0 65536 o.number
-    number_in_range None f = absurd (none_of_some o.number f)
-    number_in_range (Some text) f = in_range 0 65536 text o.number f
+  member_in : (o : MemberOptions) → member_of given ≡ Some o → AreInRange (Member o)
+  member_in =
+      usual_in member_with (λ o. AreInRange (Member o)) (form_option given) (λ w x l y h. h)
+
+  demo_in : (o : DemoOptions) → demo_of given ≡ Some o → AreInRange (Demo o)
+  demo_in o e =
+      of_four_holds demo_with (λ p. AreInRange (Demo p)) (number_option given) (degree_option given)
+      (workers_option given) (window_option given) o
+      (λ n d w x a b c f. (number_in_range n a, degree_in d b, workers_in w c, window_in x f)) e
 
 -- ---- command lines
 

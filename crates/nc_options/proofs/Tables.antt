@@ -7,6 +7,7 @@ use Rattle.clap.specs.Walk.{Rule, arg_by_id, arg_by_long, arg_by_index}
 use Rattle.clap.specs.Simple.{Shape, new_rule, new_shape}
 use Rattle.clap.specs.declared.builder.action.ArgAction.TheVariants.{Set}
 use Rattle.clap.specs.declared.builder.value_parser.ValueParser.TheVariants as vp
+use Rattle.std.proofs.Math.Bool.{or-false}
 use Rattle.std.proofs.lemmas.Bool.{or_parts}
 use Rattle.nc_options.specs.Pieces.{Text, is_among}
 use Rattle.nc_options.specs.Uses.{number_id}
@@ -45,28 +46,32 @@ shape_for name names number = record (new_shape name) {
 
 -- ---- what is found in the table
 
-pub long_found : (names : List Text) (number : Bool) (n : Text) → is_among names n ≡ true
-    → arg_by_long (table names number) n ≡ Some (option_rule n)
-long_found [] number n e = absurd (true≢false (sym e))
-long_found (m ∷ ms) number n e = go (bytes_eq m n) refl e (long_found ms number n)
+-- a search that compares the name of each option finds the rule of each of the names
+found_by : (search_by : List Rule → Text → Option Rule)
+    → ((m n : Text) (rules : List Rule) → search_by (option_rule m ∷ rules) n
+    ≡ cond (bytes_eq m n) (Some (option_rule m)) (search_by rules n))
+    → (names : List Text) (number : Bool) (n : Text) → is_among names n ≡ true
+    → search_by (table names number) n ≡ Some (option_rule n)
+found_by search_by step [] number n e = absurd (true≢false (sym e))
+found_by search_by step (m ∷ ms) number n e =
+    step m n (table ms number)
+    ∙ go (bytes_eq m n) refl e (found_by search_by step ms number n)
   where
     go : (b : Bool) → bytes_eq m n ≡ b → (b || is_among ms n) ≡ true
-        → (is_among ms n ≡ true → arg_by_long (table ms number) n ≡ Some (option_rule n))
-        → cond (b || false) (Some (option_rule m)) (arg_by_long (table ms number) n)
-        ≡ Some (option_rule n)
+        → (is_among ms n ≡ true → search_by (table ms number) n ≡ Some (option_rule n))
+        → cond b (Some (option_rule m)) (search_by (table ms number) n) ≡ Some (option_rule n)
     go true is e rec = ap (λ x. Some (option_rule x)) ((bytes_eq-Decides m n).0 is)
     go false is e rec = rec e
 
+pub long_found : (names : List Text) (number : Bool) (n : Text) → is_among names n ≡ true
+    → arg_by_long (table names number) n ≡ Some (option_rule n)
+long_found =
+    found_by arg_by_long (λ m n rules. ap
+    (λ b. cond b (Some (option_rule m)) (arg_by_long rules n)) (or-false (bytes_eq m n)))
+
 pub id_found : (names : List Text) (number : Bool) (n : Text) → is_among names n ≡ true
     → arg_by_id (table names number) n ≡ Some (option_rule n)
-id_found [] number n e = absurd (true≢false (sym e))
-id_found (m ∷ ms) number n e = go (bytes_eq m n) refl e (id_found ms number n)
-  where
-    go : (b : Bool) → bytes_eq m n ≡ b → (b || is_among ms n) ≡ true
-        → (is_among ms n ≡ true → arg_by_id (table ms number) n ≡ Some (option_rule n))
-        → cond b (Some (option_rule m)) (arg_by_id (table ms number) n) ≡ Some (option_rule n)
-    go true is e rec = ap (λ x. Some (option_rule x)) ((bytes_eq-Decides m n).0 is)
-    go false is e rec = rec e
+id_found = found_by arg_by_id (λ m n rules. refl)
 
 pub number_found : (names : List Text) → is_among names number_id ≡ false
     → arg_by_id (table names true) number_id ≡ Some number_rule

@@ -17,38 +17,38 @@ use Rattle.nc_options.specs.declared.options.DemoOptions.{DemoOptions}
 use Rattle.nc_options.specs.declared.options.Options.{Options}
 use Rattle.nc_options.specs.declared.options.Options.TheVariants.{Basis, Member, Check, Demo}
 
--- options where each value is one
-abbrev pub basis_with : Option ℕ → Option ℕ → Option ℕ → Option Cofactors → Option BasisOptions
-basis_with (Some workers) (Some window) (Some limit) (Some cofactors) =
-    Some (record { workers = workers; window = window; limit = limit; cofactors = cofactors })
-basis_with _ _ _ _ = None
+-- what is made of four values, where each is there
+abbrev pub of_four : {A B C D O : Type 0} → (A → B → C → D → O) → Option A → Option B → Option C
+    → Option D → Option O
+of_four make (Some a) (Some b) (Some c) (Some d) = Some (make a b c d)
+of_four make _ _ _ _ = None
 
--- the same of `member`
-abbrev pub member_with : Option ℕ → Option ℕ → Option ℕ → Option Form → Option MemberOptions
-member_with (Some workers) (Some window) (Some limit) (Some form) =
-    Some (record { workers = workers; window = window; limit = limit; form = form })
-member_with _ _ _ _ = None
+abbrev pub basis_with : ℕ → ℕ → ℕ → Cofactors → BasisOptions
+basis_with workers window limit cofactors =
+    record { workers = workers; window = window; limit = limit; cofactors = cofactors }
 
--- the same of `demo`
-abbrev pub demo_with : Option ℕ → Option ℕ → Option ℕ → Option ℕ → Option DemoOptions
-demo_with (Some number) (Some degree) (Some workers) (Some window) =
-    Some (record { number = number; degree = degree; workers = workers; window = window })
-demo_with _ _ _ _ = None
+abbrev pub member_with : ℕ → ℕ → ℕ → Form → MemberOptions
+member_with workers window limit form =
+    record { workers = workers; window = window; limit = limit; form = form }
+
+abbrev pub demo_with : ℕ → ℕ → ℕ → ℕ → DemoOptions
+demo_with number degree workers window =
+    record { number = number; degree = degree; workers = workers; window = window }
 
 -- the options of a command, by the texts that were given under each name
 abbrev pub basis_of : (Text → Option Text) → Option BasisOptions
 basis_of given =
-    basis_with (workers_option given) (window_option given) (limit_option given)
+    of_four basis_with (workers_option given) (window_option given) (limit_option given)
     (cofactors_option given)
 
 abbrev pub member_of : (Text → Option Text) → Option MemberOptions
 member_of given =
-    member_with (workers_option given) (window_option given) (limit_option given)
+    of_four member_with (workers_option given) (window_option given) (limit_option given)
     (form_option given)
 
 abbrev pub demo_of : (Text → Option Text) → Option DemoOptions
 demo_of given =
-    demo_with (number_option given) (degree_option given) (workers_option given)
+    of_four demo_with (number_option given) (degree_option given) (workers_option given)
     (window_option given)
 
 -- the names of a command's options

@@ -3,7 +3,8 @@
 ghost use Rattle.clap.specs.Words.{first_value, found_of};
 ghost use Rattle.nc_options.specs.Answers.{Answers};
 ghost use Rattle.nc_options.specs.Options.{basis_after, basis_of, check_after, demo_after, demo_of, member_after, member_of, options_of};
-ghost use Rattle.std.specs.Prelude.{◌<◌, ◌≡◌, drop, length, map, string_bytes};
+ghost use Rattle.nc_options.specs.declared.options.Options.TheVariants.{Basis, Demo, Member};
+ghost use Rattle.std.specs.Prelude.{◌<◌, ◌≡◌, drop, length, map, option_map, string_bytes};
 
 use crate::error::OptionsError;
 use crate::options::{BasisOptions, DemoOptions, MemberOptions, Options};
@@ -21,39 +22,39 @@ static CHECK_NAMES: [&str; 0] = [];
 static DEMO_NAMES: [&str; 3] = ["degree", "workers", "window"];
 
 /// The options of `basis`, by what `clap` found.
-fn basis_options(matches: &ArgMatches<'_>) -> Option<BasisOptions>
-    ensures { result ≡ basis_of (first_value (found_of matches.now)) }
+fn basis_options(matches: &ArgMatches<'_>) -> Option<Options>
+    ensures { result ≡ option_map Basis (basis_of (first_value (found_of matches.now))) }
 {
-    Some(BasisOptions {
+    Some(Options::Basis(BasisOptions {
         workers: workers(matches)?,
         window: window(matches)?,
         limit: limit(matches)?,
         cofactors: wanted_cofactors(matches)?,
-    })
+    }))
 }
 
 /// The options of `member`, by what `clap` found.
-fn member_options(matches: &ArgMatches<'_>) -> Option<MemberOptions>
-    ensures { result ≡ member_of (first_value (found_of matches.now)) }
+fn member_options(matches: &ArgMatches<'_>) -> Option<Options>
+    ensures { result ≡ option_map Member (member_of (first_value (found_of matches.now))) }
 {
-    Some(MemberOptions {
+    Some(Options::Member(MemberOptions {
         workers: workers(matches)?,
         window: window(matches)?,
         limit: limit(matches)?,
         form: form(matches)?,
-    })
+    }))
 }
 
 /// The options of `demo`, by what `clap` found.
-fn demo_options(matches: &ArgMatches<'_>) -> Option<DemoOptions>
-    ensures { result ≡ demo_of (first_value (found_of matches.now)) }
+fn demo_options(matches: &ArgMatches<'_>) -> Option<Options>
+    ensures { result ≡ option_map Demo (demo_of (first_value (found_of matches.now))) }
 {
-    Some(DemoOptions {
+    Some(Options::Demo(DemoOptions {
         number: number(matches)?,
         degree: degree(matches)?,
         workers: workers(matches)?,
         window: window(matches)?,
-    })
+    }))
 }
 
 /// `basis`, and what follows it.
@@ -62,10 +63,7 @@ fn read_basis(alloc: Global, words: &[String]) -> Result<Options, OptionsError>
     ensures { Answers (basis_after (drop 1 (map string_bytes words.now))) result }
 {
     let matches = split_words(alloc, "basis", BASIS_NAMES.as_slice(), false, words)?;
-    match basis_options(&matches) {
-        Some(options) => Ok(Options::Basis(options)),
-        None => Err(OptionsError::Usage),
-    }
+    basis_options(&matches).ok_or(OptionsError::Usage)
 }
 
 /// `member`, and what follows it.
@@ -74,10 +72,7 @@ fn read_member(alloc: Global, words: &[String]) -> Result<Options, OptionsError>
     ensures { Answers (member_after (drop 1 (map string_bytes words.now))) result }
 {
     let matches = split_words(alloc, "member", MEMBER_NAMES.as_slice(), false, words)?;
-    match member_options(&matches) {
-        Some(options) => Ok(Options::Member(options)),
-        None => Err(OptionsError::Usage),
-    }
+    member_options(&matches).ok_or(OptionsError::Usage)
 }
 
 /// `check`, and what follows it.
@@ -95,10 +90,7 @@ fn read_demo(alloc: Global, words: &[String]) -> Result<Options, OptionsError>
     ensures { Answers (demo_after (drop 1 (map string_bytes words.now))) result }
 {
     let matches = split_words(alloc, "demo", DEMO_NAMES.as_slice(), true, words)?;
-    match demo_options(&matches) {
-        Some(options) => Ok(Options::Demo(options)),
-        None => Err(OptionsError::Usage),
-    }
+    demo_options(&matches).ok_or(OptionsError::Usage)
 }
 
 /// What the words ask for, defaults filled in. The first word is the command. `Usage` comes exactly where the words have

@@ -40,13 +40,13 @@ use Rattle.nc_theory.specs.Runs.{End, IsEnd, SequentialRun}
 use Rattle.nc_theory.specs.States.{State, Syzygy}
 use Rattle.nc_tokens.specs.Kinds.{kind_number}
 use Rattle.nc_tokens.specs.declared.fault.TextFault.{TextFault}
-use Rattle.nc_top.proofs.Inputs.{err_or_ok, same_fault}
+use Rattle.nc_top.proofs.Inputs.{bad_text, err_or_ok, same_fault}
 use Rattle.nc_top.specs.Basis.{AreLabelled, AreShort, AreShown, IsBasis, IsBasisAnswer, IsProblemText, IsTooManyTerms, reads_relations, status_at}
 use Rattle.nc_top.specs.Inputs.{IsBadText, IsTooLarge}
 use Rattle.nc_report.specs.Reports.{basis_report, cofactor_lines, entry_lines, syzygy_lines}
 use Rattle.nc_top.specs.Reports.{bad_text_report, too_many_report}
 use Rattle.nc_top.specs.declared.status.Status.{Status}
-use Rattle.nc_top.specs.declared.status.Status.TheVariants.{BadText, Budget, Done, Invalid, NotBelow, OutOfMemory, ReadFault, TooLarge, TooMany, TooMuch, Usage, WriteFault}
+use Rattle.nc_top.specs.declared.status.Status.TheVariants.{BadText, Budget, Done, TooLarge, TooMany}
 use Rattle.std.proofs.Common.{Err, List, None, Ok, Option, Some, [], ap, ap₂, arith, codes, false, get_or, inl, inr, length, refl, slice_get, subst, subst₂, suc, sym, ℕ, ◌+◌, ◌++◌, ◌-◌, ◌∙◌, ◌∷◌, ◌<◌, ◌≡◌, ◌≤◌, ◌⊎◌}
 use Rattle.std.proofs.lemmas.Bool.{cases_lt}
 use Rattle.std.proofs.lemmas.Option.{slice_get_cases, slice_get_within}
@@ -270,13 +270,7 @@ known options bytes Budget report (τ, h) = Known.ended_at (End.budget τ) h
 known options bytes (BadText line kind) report h = Known.is_bad line kind h
 known options bytes TooLarge report h = Known.is_large h
 known options bytes (TooMany named terms) report h = Known.is_many named terms h
-known options bytes Invalid report h = absurd h
-known options bytes NotBelow report h = absurd h
-known options bytes (TooMuch line charge) report h = absurd h
-known options bytes Usage report h = absurd h
-known options bytes ReadFault report h = absurd h
-known options bytes WriteFault report h = absurd h
-known options bytes OutOfMemory report h = absurd h
+known options bytes _ report h = absurd h
 
 pub answered : (options : BasisOptions) (bytes : List ℕ) (e : End) (report : List ℕ)
     → IsBasis options bytes e report → IsBasisAnswer options bytes (status_at e) report
@@ -397,14 +391,7 @@ basis_answer options bytes = by_size (cases_lt 16777216 (length bytes))
     by_read (Err fault) small read = (
       BadText fault.line (kind_number fault.kind),
       bad_text_report fault.line (kind_number fault.kind),
-      record {
-        fault = fault;
-        small = small;
-        read = read;
-        at_line = refl;
-        of_kind = refl;
-        written = refl;
-      },
+      bad_text reads_relations bytes fault small read,
     )
     by_read (Ok t) small read =
         go (end_exists P.problem (field_of P (problem_of_text bytes P text)))

@@ -14,10 +14,11 @@ use Rattle.nc_cert.proofs.Rests.{nothing_from_valid, valid_from_nothing}
 use Rattle.nc_cert.specs.Beyond.{first_beyond}
 use Rattle.nc_cert.specs.Charges.{Charge, IsTooMuch}
 use Rattle.nc_cert.specs.Checking.{certificate_charges}
+use Rattle.nc_top.proofs.Inputs.{bad_text}
 use Rattle.nc_top.specs.Check.{IsCheckAnswer, IsText, IsWithinWork}
 use Rattle.nc_top.specs.Reports.{bad_text_report, invalid_report, too_much_report}
 use Rattle.nc_top.specs.declared.status.Status.{Status}
-use Rattle.nc_top.specs.declared.status.Status.TheVariants.{BadText, Budget, Done, Invalid, NotBelow, OutOfMemory, ReadFault, TooLarge, TooMany, TooMuch, Usage, WriteFault}
+use Rattle.nc_top.specs.declared.status.Status.TheVariants.{BadText, Done, Invalid, TooLarge, TooMuch}
 use Rattle.std.proofs.Common.{Bool, Err, List, None, Ok, Some, [], ap, ap₂, codes, false, if◌then◌else◌, inl, inr, length, nat_lt, refl, subst, sym, true, ℕ, ◌∙◌, ◌∷◌, ◌<◌, ◌≡◌, ◌≤◌, ◌⊎◌}
 use Rattle.std.proofs.lemmas.Bool.{cases_lt, le-ltb, lt-ltb}
 use Rattle.std.specs.declared.option.Option.{Option}
@@ -171,13 +172,7 @@ told_by_functions bytes Invalid report h = invalid_told bytes report h
 told_by_functions bytes (BadText line kind) report h = bad_text_told bytes line kind report h
 told_by_functions bytes TooLarge report h = many_told bytes TooLarge report h.large refl h.written
 told_by_functions bytes (TooMuch line charge) report h = much_told bytes line charge report h
-told_by_functions bytes NotBelow report h = absurd h
-told_by_functions bytes Budget report h = absurd h
-told_by_functions bytes (TooMany named terms) report h = absurd h
-told_by_functions bytes Usage report h = absurd h
-told_by_functions bytes ReadFault report h = absurd h
-told_by_functions bytes WriteFault report h = absurd h
-told_by_functions bytes OutOfMemory report h = absurd h
+told_by_functions bytes _ report h = absurd h
 
 -- ---- each input has an answer
 
@@ -229,14 +224,7 @@ by_text : (bytes : List ℕ) (r : Result Certificate TextFault) → length bytes
 by_text bytes (Ok c) small read =
     by_work bytes c record { small = small; read = read } (limit_law 100000000 (Charges c)).either
 by_text bytes (Err fault) small read =
-    record {
-      fault = fault;
-      small = small;
-      read = read;
-      at_line = refl;
-      of_kind = refl;
-      written = refl;
-    }
+    bad_text reads_certificate bytes fault small read
 
 by_size : (bytes : List ℕ) → (16777216 < length bytes) ⊎ (length bytes ≤ 16777216)
     → IsCheckAnswer bytes (status_of bytes) (report_of bytes)

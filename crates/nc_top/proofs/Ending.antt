@@ -45,42 +45,34 @@ module _ (s : Snapshot) (h : IsSnapshot s) where
       go (inl (m, here, at, same)) = at ∙ ap Some (sym (get_or_from_slice_get ms (k - 1) m [] at))
       go (inr (past, none)) = absurd (omega (arith, past, some, within))
 
+  -- the label at a place of a list of labels, for the run that the snapshot stands for
+  among_at : (item : ℕ → Listed) (ms : List (List (Term Sig))) (run run' : State) → IsRunAt s run
+      → IsRunAt s run'
+      → ((k : ℕ) (m : List (Term Sig)) → 1 ≤ k → slice_get ms (k - 1) ≡ Some m
+      → IsLabelOf setting run (item k) m)
+      → (k : ℕ) → 1 ≤ k → k ≤ length ms
+      → (m : List (Term Sig)) × IsLabelOf setting run' (item k) m
+      × (element_of (get_or ms (k - 1) []) ≡ element_of m)
+  among_at item ms run run' a b are k some within = (
+    get_or ms (k - 1) [],
+    subst (λ (r : State). IsLabelOf setting r (item k) (get_or ms (k - 1) []))
+        (one_run s h run run' a b)
+        (are k (get_or ms (k - 1) []) some (stands_at ms k some within)),
+    refl,
+  )
+
   among : (entries syzygies : List (List (Term Sig))) → AreAllLabels s entries syzygies
       → (run : State) → IsRunAt s run → (listed : Listed) → IsListed run listed
       → (m : List (Term Sig)) × IsLabelOf setting run listed m
       × (label_among entries syzygies listed ≡ element_of m)
-  among entries syzygies are run a (EntryOf k) l = (
-    get_or entries (k - 1) [],
-    subst (λ (r : State). IsLabelOf setting r (EntryOf k) (get_or entries (k - 1) []))
-        (one_run s h are.entries_are.at.run run (
-          are.entries_are.at.last,
-          are.entries_are.at.runs,
-        ) a)
-        (are.entries_are.are k (get_or entries (k - 1) []) l.0
-        (stands_at entries k l.0 (omega (
-          arith,
-          l.1,
-          are.each_entry,
-          entries_count s h run a,
-        )))),
-    refl,
-  )
-  among entries syzygies are run a (SyzygyOf k) l = (
-    get_or syzygies (k - 1) [],
-    subst (λ (r : State). IsLabelOf setting r (SyzygyOf k) (get_or syzygies (k - 1) []))
-        (one_run s h are.syzygies_are.at.run run (
-          are.syzygies_are.at.last,
-          are.syzygies_are.at.runs,
-        ) a)
-        (are.syzygies_are.are k (get_or syzygies (k - 1) []) l.0
-        (stands_at syzygies k l.0 (omega (
-          arith,
-          l.1,
-          are.each_syzygy,
-          syzygies_count s h run a,
-        )))),
-    refl,
-  )
+  among entries syzygies are run a (EntryOf k) l =
+      let at = are.entries_are.at in
+      among_at EntryOf entries at.run run (at.last, at.runs) a are.entries_are.are k l.0
+      (omega (arith, l.1, are.each_entry, entries_count s h run a))
+  among entries syzygies are run a (SyzygyOf k) l =
+      let at = are.syzygies_are.at in
+      among_at SyzygyOf syzygies at.run run (at.last, at.runs) a are.syzygies_are.are k l.0
+      (omega (arith, l.1, are.each_syzygy, syzygies_count s h run a))
   among entries syzygies are run a Claim l = absurd l
 
   are_shown : (x : Shown) → IsShownOf s x → (run : State) → IsRunAt s run

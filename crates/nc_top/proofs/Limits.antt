@@ -38,6 +38,15 @@ module _ (s : Snapshot) (h : IsSnapshot s) (limit : ℕ) where
             ((one_label setting above_one run listed).1 m is α in_run),
       )
 
+  -- the first item with too many terms in a run that the snapshot stands for is so in each
+  first_in_each : (at : State) → IsRunAt s at → {item named : Listed} (terms : ℕ) → named ≡ item
+      → IsFirstOf setting.prime at limit item terms
+      → (run : State) → IsRunAt s run → IsFirstOf setting.prime run limit named terms
+  first_in_each at is {item} {named} terms names first run a =
+      subst (λ (r : State). IsFirstOf setting.prime r limit named terms)
+      (one_run s h at run is a)
+      (subst (λ (l : Listed). IsFirstOf setting.prime at limit l terms) (sym names) first)
+
   -- what stands at a place of a list of lists, none of them long
   place : (ms : List (List (Term Sig))) → All (λ m. length m ≤ limit) ms → (k : ℕ) → 1 ≤ k
       → k ≤ length ms → (m : List (Term Sig)) × (slice_get ms (k - 1) ≡ Some m) × (length m ≤ limit)
@@ -70,16 +79,8 @@ module _ (s : Snapshot) (h : IsSnapshot s) (limit : ℕ) where
           → FailsToLabelSyzygies s.problem.problem s.handled limit fault → FailsToShow s limit fault
       syzygy_fault OutOfMemory f = tt
       syzygy_fault (TooMany named terms) f =
-          λ run a. subst (λ (r : State). IsFirstOf setting.prime r limit named terms)
-          (one_run s h f.at.run run (f.at.last, f.at.runs) a)
-          (subst (λ (l : Listed). IsFirstOf setting.prime f.at.run limit l terms) (sym f.names) (
-            f.some,
-            f.within,
-            f.has,
-            f.many,
-            f.lesser,
-            λ j m some within has. entries_short f.at.run (f.at.last, f.at.runs) j m some within has,
-          ))
+          first_in_each f.at.run (f.at.last, f.at.runs) terms f.names
+          (f.some, f.within, f.has, f.many, f.lesser, entries_short f.at.run (f.at.last, f.at.runs))
 
       module _ (syzygies : List (List (Term Sig)))
           (zero_are : AreSyzygyLabels s.problem.problem s.handled syzygies)
@@ -109,12 +110,5 @@ module _ (s : Snapshot) (h : IsSnapshot s) (limit : ℕ) where
       → FailsToShow s limit fault
   entry_fault OutOfMemory f = tt
   entry_fault (TooMany named terms) f =
-      λ run a. subst (λ (r : State). IsFirstOf setting.prime r limit named terms)
-      (one_run s h f.at.run run (f.at.last, f.at.runs) a)
-      (subst (λ (l : Listed). IsFirstOf setting.prime f.at.run limit l terms) (sym f.names) (
-        f.some,
-        f.within,
-        f.has,
-        f.many,
-        f.lesser,
-      ))
+      first_in_each f.at.run (f.at.last, f.at.runs) terms f.names
+      (f.some, f.within, f.has, f.many, f.lesser)

@@ -32,7 +32,7 @@ use Rattle.nc_tokens.specs.declared.fault.TextFault.{TextFault}
 use Rattle.nc_top.proofs.BasisAnswers.{ended_run, field_of, prime_of}
 use Rattle.nc_top.proofs.Claims.{claim_in, has_claim, problem_is}
 use Rattle.nc_top.proofs.Forms.{as_lines, as_terms, as_too_many}
-use Rattle.nc_top.proofs.Inputs.{err_or_ok, same_fault}
+use Rattle.nc_top.proofs.Inputs.{bad_text, err_or_ok, same_fault}
 use Rattle.nc_top.proofs.MemberLines.{proof_holds}
 use Rattle.nc_top.proofs.Needed.{AreListed, needed_dec, needed_list, needed_once, needed_within, numbers_within}
 use Rattle.nc_top.proofs.Remainders.{not_represented, rest_exists, rest_once, terms_evaluate, terms_lie}
@@ -43,7 +43,7 @@ use Rattle.nc_top.proofs.TermLines.{terms_keep}
 use Rattle.nc_top.specs.Member.{IsCertifiedAs, IsClaimText, IsMemberAnswer, IsTooManyAs, certificate_with, reads_claim}
 use Rattle.nc_top.specs.Reports.{bad_text_report, not_below_report, too_many_report, undecided_report}
 use Rattle.nc_top.specs.declared.status.Status.{Status}
-use Rattle.nc_top.specs.declared.status.Status.TheVariants.{BadText, Budget, Done, Invalid, NotBelow, OutOfMemory, ReadFault, TooLarge, TooMany, TooMuch, Usage, WriteFault}
+use Rattle.nc_top.specs.declared.status.Status.TheVariants.{BadText, Budget, Done, NotBelow, TooLarge, TooMany}
 use Rattle.std.proofs.Common.{Err, List, None, Ok, Option, Some, [], ap, ap₂, arith, codes, inl, inr, length, refl, subst, subst₂, sym, ℕ, ◌<◌, ◌∙◌, ◌∷◌, ◌≡◌, ◌≢◌, ◌≤◌, ◌⊎◌}
 use Rattle.std.proofs.lemmas.Bool.{cases_lt}
 use Rattle.std.specs.declared.result.Result.{Result}
@@ -177,12 +177,7 @@ known options bytes (TooMany named terms) report h =
     Known.remains (too_many options bytes named terms report options.form refl h)
 known options bytes (BadText line kind) report h = Known.is_bad line kind h
 known options bytes TooLarge report h = Known.is_large h
-known options bytes Invalid report h = absurd h
-known options bytes (TooMuch line charge) report h = absurd h
-known options bytes Usage report h = absurd h
-known options bytes ReadFault report h = absurd h
-known options bytes WriteFault report h = absurd h
-known options bytes OutOfMemory report h = absurd h
+known options bytes _ report h = absurd h
 
 answered : (options : MemberOptions) (bytes : List ℕ) (status : Status) (report : List ℕ)
     (r : Remainder) → IsRemainder bytes r → Told options r status report
@@ -525,14 +520,7 @@ member_answer options bytes = by_size (cases_lt 16777216 (length bytes))
     by_read (Err fault) small read = (
       BadText fault.line (kind_number fault.kind),
       bad_text_report fault.line (kind_number fault.kind),
-      record {
-        fault = fault;
-        small = small;
-        read = read;
-        at_line = refl;
-        of_kind = refl;
-        written = refl;
-      },
+      bad_text reads_claim bytes fault small read,
     )
     by_read (Ok t) small read =
         let c = has_claim bytes t read in

@@ -8,7 +8,7 @@ use Rattle.nc_algebra.specs.Problems.{setting_of}
 use Rattle.nc_algebra.specs.Settings.{NamedSetting}
 use Rattle.nc_algebra.specs.Sums.{Term}
 use Rattle.nc_cofactor.specs.Sums.{IsSum}
-use Rattle.nc_desk.specs.Ends.{Finished, IsEndAt}
+use Rattle.nc_desk.specs.Ends.{IsEndAt}
 use Rattle.nc_member.specs.Members.{IsRestOf, IsTooManyOf}
 use Rattle.nc_module.specs.Modules.{element_of}
 use Rattle.nc_print.proofs.Writing.{words_named as parts_named}

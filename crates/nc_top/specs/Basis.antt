@@ -34,7 +34,7 @@ use Rattle.nc_top.specs.Inputs.{IsBadText, IsTooLarge}
 use Rattle.nc_report.specs.Reports.{basis_report}
 use Rattle.nc_top.specs.Reports.{too_many_report}
 use Rattle.nc_top.specs.declared.status.Status.{Status}
-use Rattle.nc_top.specs.declared.status.Status.TheVariants.{BadText, Budget, Done, Invalid, NotBelow, OutOfMemory, ReadFault, TooLarge, TooMany, TooMuch, Usage, WriteFault}
+use Rattle.nc_top.specs.declared.status.Status.TheVariants.{BadText, Budget, Done, TooLarge, TooMany}
 use Rattle.std.specs.Prelude.{Contains, List, Ok, Option, [], false, length, ℕ, ◌+◌, ◌≡◌, ◌≤◌}
 use Rattle.std.specs.declared.result.Result.{Result}
 
@@ -126,10 +126,4 @@ IsBasisAnswer options bytes (TooMany named terms) report =
 IsBasisAnswer options bytes (BadText line kind) report =
     IsBadText reads_relations bytes line kind report
 IsBasisAnswer options bytes TooLarge report = IsTooLarge bytes report
-IsBasisAnswer options bytes Invalid report = ⊥
-IsBasisAnswer options bytes NotBelow report = ⊥
-IsBasisAnswer options bytes (TooMuch line charge) report = ⊥
-IsBasisAnswer options bytes Usage report = ⊥
-IsBasisAnswer options bytes ReadFault report = ⊥
-IsBasisAnswer options bytes WriteFault report = ⊥
-IsBasisAnswer options bytes OutOfMemory report = ⊥
+IsBasisAnswer options bytes _ report = ⊥

@@ -12,7 +12,7 @@ use Rattle.nc_text.specs.Certificates.{reads_certificate}
 use Rattle.nc_top.specs.Inputs.{IsBadText, IsTooLarge}
 use Rattle.nc_top.specs.Reports.{invalid_report, too_much_report}
 use Rattle.nc_top.specs.declared.status.Status.{Status}
-use Rattle.nc_top.specs.declared.status.Status.TheVariants.{BadText, Budget, Done, Invalid, NotBelow, OutOfMemory, ReadFault, TooLarge, TooMany, TooMuch, Usage, WriteFault}
+use Rattle.nc_top.specs.declared.status.Status.TheVariants.{BadText, Done, Invalid, TooLarge, TooMuch}
 use Rattle.std.specs.Prelude.{List, Ok, codes, length, ℕ, ◌≡◌, ◌≤◌}
 
 -- the bytes are a text of this certificate, and are not too many
@@ -56,10 +56,4 @@ IsCheckAnswer bytes Invalid report = IsInvalid bytes report
 IsCheckAnswer bytes (BadText line kind) report = IsBadText reads_certificate bytes line kind report
 IsCheckAnswer bytes TooLarge report = IsTooLarge bytes report
 IsCheckAnswer bytes (TooMuch line charge) report = IsTooMuchWork bytes line charge report
-IsCheckAnswer bytes NotBelow report = ⊥
-IsCheckAnswer bytes Budget report = ⊥
-IsCheckAnswer bytes (TooMany named terms) report = ⊥
-IsCheckAnswer bytes Usage report = ⊥
-IsCheckAnswer bytes ReadFault report = ⊥
-IsCheckAnswer bytes WriteFault report = ⊥
-IsCheckAnswer bytes OutOfMemory report = ⊥
+IsCheckAnswer bytes _ report = ⊥

@@ -4,8 +4,12 @@
 -- whatever it has.
 use Rattle.nc_algebra.specs.Limits.{max_bytes}
 use Rattle.nc_tokens.specs.Kinds.{kind_number}
+use Rattle.nc_tokens.specs.declared.fault.ReadFault.{ReadFault}
+use Rattle.nc_tokens.specs.declared.fault.ReadFault.TheVariants.{OutOfMemory, Text}
 use Rattle.nc_tokens.specs.declared.fault.TextFault.{TextFault}
 use Rattle.nc_top.specs.Reports.{bad_text_report}
+use Rattle.nc_top.specs.declared.status.Status.{Status}
+use Rattle.nc_top.specs.declared.status.Status.TheVariants.{BadText}
 use Rattle.std.specs.Prelude.{Err, List, codes, length, ℕ, ◌<◌, ◌≡◌, ◌≤◌}
 use Rattle.std.specs.declared.result.Result.{Result}
 
@@ -18,6 +22,13 @@ pub record IsBadText {T : Type 0} (reads : List ℕ → Result T TextFault) (byt
   pub at_line : line ≡ fault.line
   pub of_kind : kind ≡ kind_number fault.kind
   pub written : report ≡ bad_text_report line kind
+
+-- status and report of a text that was not read; there are none where memory ran out
+abbrev pub IsUnread : ReadFault → Status → List ℕ → Type 0
+IsUnread (Text fault) status report =
+    (status ≡ BadText fault.line (kind_number fault.kind))
+    × (report ≡ bad_text_report fault.line (kind_number fault.kind))
+IsUnread OutOfMemory status report = ⊥
 
 -- the bytes are too many, whatever they are
 pub record IsTooLarge (bytes report : List ℕ) : Type 0 where

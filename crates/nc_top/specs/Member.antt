@@ -29,7 +29,7 @@ use Rattle.nc_tokens.specs.declared.fault.TextFault.{TextFault}
 use Rattle.nc_top.specs.Inputs.{IsBadText, IsTooLarge}
 use Rattle.nc_top.specs.Reports.{not_below_report, too_many_report, undecided_report}
 use Rattle.nc_top.specs.declared.status.Status.{Status}
-use Rattle.nc_top.specs.declared.status.Status.TheVariants.{BadText, Budget, Done, Invalid, NotBelow, OutOfMemory, ReadFault, TooLarge, TooMany, TooMuch, Usage, WriteFault}
+use Rattle.nc_top.specs.declared.status.Status.TheVariants.{BadText, Budget, Done, NotBelow, TooLarge, TooMany}
 use Rattle.std.specs.Prelude.{List, Ok, Some, length, true, ℕ, ◌≡◌, ◌≤◌}
 use Rattle.std.specs.declared.result.Result.{Result}
 
@@ -136,9 +136,4 @@ IsMemberAnswer options bytes (TooMany named terms) report =
 IsMemberAnswer options bytes (BadText line kind) report =
     IsBadText reads_claim bytes line kind report
 IsMemberAnswer options bytes TooLarge report = IsTooLarge bytes report
-IsMemberAnswer options bytes Invalid report = ⊥
-IsMemberAnswer options bytes (TooMuch line charge) report = ⊥
-IsMemberAnswer options bytes Usage report = ⊥
-IsMemberAnswer options bytes ReadFault report = ⊥
-IsMemberAnswer options bytes WriteFault report = ⊥
-IsMemberAnswer options bytes OutOfMemory report = ⊥
+IsMemberAnswer options bytes _ report = ⊥

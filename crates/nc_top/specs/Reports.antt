@@ -4,18 +4,11 @@
 -- `Basis.antt`, `Member.antt` and `Check.antt` say when each report is written, and docs/FORMATS.md
 -- shows them to users. Each line ends with a line feed.
 use Rattle.nc_algebra.specs.Polynomials.{Polynomial}
-use Rattle.nc_algebra.specs.Elements.{Element}
 use Rattle.nc_algebra.specs.Monomials.{Monomial}
-use Rattle.nc_options.specs.declared.options.Cofactors.{Cofactors}
-use Rattle.nc_options.specs.declared.options.Cofactors.TheVariants.{Full, Omitted, Trace as TraceOf}
-use Rattle.nc_print.specs.Printing.{module_text, poly_text, sig_text}
-use Rattle.nc_report.specs.Reports.{entry_line, run_report, syzygy_line}
-use Rattle.nc_report.specs.Traces.{trace_text}
+use Rattle.nc_print.specs.Printing.{poly_text, sig_text}
 use Rattle.nc_snapshot.specs.declared.outcome.Listed.{Listed}
 use Rattle.nc_snapshot.specs.declared.outcome.Listed.TheVariants.{Claim, Entry as EntryOf, Syzygy as SyzygyOf}
-use Rattle.nc_theory.specs.Runs.{End}
-use Rattle.nc_theory.specs.States.{Entry, State, Syzygy, Trace}
-use Rattle.std.specs.Prelude.{List, [], codes, decimal, ℕ, ◌++◌, ◌∷◌}
+use Rattle.std.specs.Prelude.{List, codes, decimal, ℕ, ◌++◌}
 
 -- the line `invalid`, and what is left of the claim
 abbrev pub invalid_report : List (List ℕ) → Polynomial → List ℕ

@@ -11,7 +11,7 @@ ghost use Rattle.nc_top.specs.Reports.{too_many_report};
 ghost use Rattle.nc_report.specs.Shown.{FailsToShow, IsRunAt, IsShownOf, kind_of, labels_in};
 ghost use Rattle.std.specs.Prelude.{IfErr, IfOk, Ok, length, ◌≡◌, ◌≤◌};
 
-use crate::input::bad_text_report;
+use crate::input::answer_unread;
 use crate::status::Status;
 use itoa::Buffer;
 use nc_cofactor::{CofactorFault, Labels};
@@ -21,7 +21,7 @@ use nc_module::Problem;
 use nc_options::{BasisOptions, Cofactors};
 use nc_report::{Shown, report_on};
 use nc_snapshot::{Listed, Snapshot};
-use nc_text::{ReadFault, read_problem};
+use nc_text::read_problem;
 use std::alloc::{AllocError, Global};
 use std::sync::Arc;
 
@@ -180,11 +180,6 @@ pub(crate) fn answer_basis(
 {
     match read_problem(alloc, bytes, false) {
         Ok(text) => answer_problem(alloc, bytes, text.problem, options),
-        Err(ReadFault::Text(fault)) => {
-            let (line, kind) = (fault.line, fault.kind.number());
-            let report = bad_text_report(alloc, line, kind)?;
-            Ok((Status::BadText { line, kind }, report))
-        }
-        Err(ReadFault::OutOfMemory) => Err(AllocError),
+        Err(fault) => answer_unread(alloc, fault),
     }
 }

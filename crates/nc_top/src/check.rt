@@ -7,13 +7,13 @@ ghost use Rattle.nc_top.specs.Check.{IsCheckAnswer};
 ghost use Rattle.nc_top.specs.Reports.{invalid_report, too_much_report};
 ghost use Rattle.std.specs.Prelude.{IfOk, Ok, length, ◌≡◌, ◌≤◌};
 
-use crate::input::bad_text_report;
+use crate::input::answer_unread;
 use crate::status::Status;
 use itoa::Buffer;
 use nc_cert::{Verdict, check};
 use nc_module::Certificate;
 use nc_poly::Poly;
-use nc_text::{ReadFault, read_certificate, write_poly};
+use nc_text::{read_certificate, write_poly};
 use std::alloc::{AllocError, Global};
 
 /// The report on a certificate that is not valid.
@@ -73,11 +73,6 @@ pub(crate) fn answer_check(alloc: Global, bytes: &[u8]) -> Result<(Status, Vec<u
 {
     match read_certificate(alloc, bytes) {
         Ok(certificate) => answer_certificate(alloc, bytes, &certificate),
-        Err(ReadFault::Text(fault)) => {
-            let (line, kind) = (fault.line, fault.kind.number());
-            let report = bad_text_report(alloc, line, kind)?;
-            Ok((Status::BadText { line, kind }, report))
-        }
-        Err(ReadFault::OutOfMemory) => Err(AllocError),
+        Err(fault) => answer_unread(alloc, fault),
     }
 }

@@ -1,13 +1,16 @@
 //! Inputs that are not what a command reads.
 
+ghost use Rattle.nc_top.specs.Inputs.{IsUnread};
 ghost use Rattle.nc_top.specs.Reports.{bad_text_report};
 ghost use Rattle.std.specs.Prelude.{IfOk, ◌≡◌};
 
+use crate::status::Status;
 use itoa::Buffer;
+use nc_text::ReadFault;
 use std::alloc::{AllocError, Global};
 
 /// The report on a text that is not what the command reads.
-pub(crate) fn bad_text_report(alloc: Global, line: u64, kind: u8) -> Result<Vec<u8>, AllocError>
+fn bad_text_report(alloc: Global, line: u64, kind: u8) -> Result<Vec<u8>, AllocError>
     ensures { IfOk result (λ report. report.items ≡ bad_text_report line kind) }
 {
     let mut numbers = Buffer::new();
@@ -17,4 +20,21 @@ pub(crate) fn bad_text_report(alloc: Global, line: u64, kind: u8) -> Result<Vec<
     report.extend_from_slice(numbers.format(kind).as_bytes())?;
     report.extend_from_slice(b"\n")?;
     Ok(report)
+}
+
+/// Status and report where a text was not read.
+pub(crate) fn answer_unread(
+    alloc: Global,
+    fault: ReadFault,
+) -> Result<(Status, Vec<u8>), AllocError>
+    ensures { IfOk result (λ r. IsUnread fault r.0 r.1.items) }
+{
+    match fault {
+        ReadFault::Text(fault) => {
+            let (line, kind) = (fault.line, fault.kind.number());
+            let report = bad_text_report(alloc, line, kind)?;
+            Ok((Status::BadText { line, kind }, report))
+        }
+        ReadFault::OutOfMemory => Err(AllocError),
+    }
 }

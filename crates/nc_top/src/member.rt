@@ -9,7 +9,7 @@ ghost use Rattle.nc_top.specs.Reports.{not_below_report, remainder_line, undecid
 ghost use Rattle.std.specs.Prelude.{All, IfOk, Ok, OnOk, length, ◌++◌, ◌<◌, ◌≡◌, ◌≤◌};
 
 use crate::basis::{run_problem, too_many_report};
-use crate::input::bad_text_report;
+use crate::input::answer_unread;
 use crate::status::Status;
 use nc_cofactor::CofactorFault;
 use nc_desk::{End, Finished};
@@ -20,7 +20,7 @@ use nc_poly::Poly;
 use nc_print::{write_poly, write_proof, write_sig, write_terms};
 use nc_report::names_of;
 use nc_sig::Sig;
-use nc_text::{ProblemText, ReadFault, read_problem};
+use nc_text::{ProblemText, read_problem};
 use std::alloc::{AllocError, Global};
 
 /// A claim with the bytes that it was read from, and the run of its problem, which has come to its end.
@@ -254,11 +254,6 @@ pub(crate) fn answer_member(
 {
     match read_problem(alloc, bytes, true) {
         Ok(text) => answer_problem(alloc, bytes, text, options),
-        Err(ReadFault::Text(fault)) => {
-            let (line, kind) = (fault.line, fault.kind.number());
-            let report = bad_text_report(alloc, line, kind)?;
-            Ok((Status::BadText { line, kind }, report))
-        }
-        Err(ReadFault::OutOfMemory) => Err(AllocError),
+        Err(fault) => answer_unread(alloc, fault),
     }
 }

@@ -1,8 +1,9 @@
-use Rattle.std.proofs.Common.{rules, ◌≡◌, ◌∙◌, ap, subst, sym, true, [], map, drop, List, ℕ, Bor, Option, None, Err, string_bytes, inl, inr, arith}
+use Rattle.std.proofs.Common.{rules, ◌≡◌, ◌∙◌, ◌-◌, ap, subst, sym, true, [], map, drop, length, take, List, ℕ, Bool, Bor, Option, None, Err, string_bytes, inl, inr, arith}
 use Rattle.std.specs.List.{list_all}
 use Rattle.std.proofs.lemmas.List.{length-map}
 use Rattle.nc_options.specs.Uses.{Use}
 use Rattle.nc_options.specs.Fit.{is_fit, are_fit_and_single}
+use Rattle.nc_options.specs.Pieces.{Text}
 use Rattle.nc_options.specs.Commands.{command_for}
 use Rattle.clap.specs.declared.error.ErrorKind.TheVariants.{OutOfMemory}
 use Rattle.nc_options.proofs.Fitting.{not_plain, plain_fit}
@@ -28,6 +29,14 @@ has_fault e ks other has none = elim has [
   | inr among ↦ subst (IsAmong (kind_of e)) none among
 ]
 
+-- words that passed the test are fit
+words_fit : {X : Type 0} (names : List Text) (bytes : X → Text) (words : List X) (b : Bool)
+    → b ≡ are_fit_and_single names (map bytes (take (length words - 1) (drop 1 words))) → b ≡ true
+    → list_all (is_fit names) (drop 1 (map bytes words)) ≡ true
+words_fit names bytes words b is passed =
+    plain_fit names (drop 1 (map bytes words))
+    (ap (are_fit_and_single names) (sym (after_first_word bytes words)) ∙ sym is ∙ passed)
+
 pub returns-then-not-are_fit_and_single : goal.returns-then-not-are_fit_and_single
 returns-then-not-are_fit_and_single c =
     let names = map (λ (n : Bor (List ℕ)). n.now) c.args.names.now in
@@ -39,10 +48,9 @@ pub returns-in-Ok : goal.returns-in-Ok
 returns-in-Ok c =
     let names = map (λ (n : Bor (List ℕ)). n.now) c.args.names.now in
     let words = map string_bytes c.args.words.now in
-    let fit : list_all (is_fit names) (drop 1 words) ≡ true =
-    plain_fit names (drop 1 words)
-    (ap (are_fit_and_single names) (sym (after_first_word string_bytes c.args.words.now))
-    ∙ sym c.are_fit_and_single.ensures ∙ c.if-not-are_fit_and_single.false) in
+    let fit =
+    words_fit names string_bytes c.args.words.now _ c.are_fit_and_single.ensures
+    c.if-not-are_fit_and_single.false in
     let app : app_of c.in_ok-command.command ≡ command_for c.args.name.now names
     c.args.takes_number = search rules in
     taken c.args.name.now names c.args.takes_number (app_of c.in_ok-command.command) words
@@ -54,10 +62,9 @@ pub returns-in-Err : goal.returns-in-Err
 returns-in-Err c =
     let names = map (λ (n : Bor (List ℕ)). n.now) c.args.names.now in
     let words = map string_bytes c.args.words.now in
-    let fit : list_all (is_fit names) (drop 1 words) ≡ true =
-    plain_fit names (drop 1 words)
-    (ap (are_fit_and_single names) (sym (after_first_word string_bytes c.args.words.now))
-    ∙ sym c.are_fit_and_single.ensures ∙ c.if-not-are_fit_and_single.false) in
+    let fit =
+    words_fit names string_bytes c.args.words.now _ c.are_fit_and_single.ensures
+    c.if-not-are_fit_and_single.false in
     let app : app_of c.in_ok-command.command ≡ command_for c.args.name.now names
     c.args.takes_number = search rules in
     by_cause _ c.in-Err.error c.cause_of.result c.cause_of.ensures
