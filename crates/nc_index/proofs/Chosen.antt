@@ -3,12 +3,12 @@ use Rattle.nc_algebra.specs.Elements.{Setting}
 use Rattle.nc_algebra.specs.Laws.{SigLaw}
 use Rattle.nc_algebra.specs.Monomials.{Sig, compare_sigs, sig_times}
 use Rattle.nc_algebra.specs.Words.{Word}
-use Rattle.nc_index.specs.Chosen.{IsBelowSig, IsChosen, lead_of, leads_of}
-use Rattle.nc_index.specs.Pairs.{IsFirstRegular, Lead, RegularAt}
+use Rattle.nc_index.specs.Chosen.{HasDivisorAfter, IsBelowSig, IsChosen, lead_of, leads_of}
+use Rattle.nc_index.specs.Pairs.{HasRegularAfter, IsFirstRegular, Lead, RegularAt}
 use Rattle.nc_index.specs.declared.hit.Hit.{Hit}
 use Rattle.nc_theory.specs.Divisors.{Divisor, number_of, signature_at}
 use Rattle.nc_theory.specs.States.{Entry}
-use Rattle.std.proofs.Common.{◌≡◌, ℕ, ◌<◌, ◌≤◌, ◌++◌, ◌∷◌, [], List, length, map, ap, sym, refl, ◌∙◌, arith, None, Some, Option, ◌⊎◌, inl, inr, zero, suc}
+use Rattle.std.proofs.Common.{◌↔◌, ◌≡◌, ℕ, ◌<◌, ◌≤◌, ◌++◌, ◌∷◌, [], List, length, map, ap, sym, refl, ◌∙◌, arith, None, Some, Option, ◌⊎◌, inl, inr, zero, suc}
 use Rattle.std.specs.List.{slice_get}
 use Rattle.std.proofs.lemmas.Option.{slice_get-get_or, slice_get_within, get_or_from_slice_get}
 
@@ -97,3 +97,11 @@ module _ (s : Setting) (law : SigLaw s) (entries : List Entry) (w : Word) (β : 
       go e (inl l) = inl (omega (arith, at.index, l))
       go e (inr (same, l)) =
           inr (omega (arith, at.index, same), omega (arith, ap length at.left, l))
+
+  -- a newer pair that stands is a newer entry's divisor, and the other way round
+  pub newer : (n : ℕ) → HasRegularAfter (leads_of s entries) n w β ↔ HasDivisorAfter s entries n w β
+  newer n = (λ h. back h, λ h. (h.0.listed.0, h.0.left, h.0.right, place_of h.0 h.1, h.2))
+    where
+      back : HasRegularAfter (leads_of s entries) n w β → HasDivisorAfter s entries n w β
+      back (i, u, v, r, m) =
+          let at = divisor_at i u v r in (at.divisor, at.below, omega (arith, at.index, m))

@@ -6,7 +6,7 @@ use Rattle.nc_algebra.proofs.Orders.{nat_order}
 use Rattle.nc_algebra.proofs.Words.{cut, length_at_most, weight-append}
 use Rattle.nc_algebra.specs.Monomials.{Sig, compare_sigs, sig_times}
 use Rattle.nc_algebra.specs.Words.{OccursAt, Word, compare_letters, compare_words, word_weight}
-use Rattle.nc_index.specs.Pairs.{IsFirstPlace, IsFirstRegular, IsRegular, Lead, RegularAt, RegularPlace}
+use Rattle.nc_index.specs.Pairs.{HasRegularAfter, IsFirstPlace, IsFirstRegular, IsRegular, Lead, RegularAt, RegularPlace}
 use Rattle.nc_index.specs.declared.hit.Hit.{Hit}
 use Rattle.nc_sig.specs.Orders.{sigs_order}
 use Rattle.nc_words.specs.Places.{IsPlaceFrom}
@@ -165,20 +165,21 @@ module _ (l : Lead) (w : Word) (β : Sig) where
   no_place none q h = none q (omega arith) (regular_occurs q h)
 
 -- none of the pairs before this one stands so
-pub record NonePairBefore (leads : List Lead) (w : Word) (β : Sig) (index : ℕ) : Type 0 where
-  pub later : (i : ℕ) (u v : Word) → RegularAt leads w β i u v → index ≤ i
+-- from this one on, no pair before the index stands regularly
+pub record NonePairBefore (leads : List Lead) (w : Word) (β : Sig) (from index : ℕ) : Type 0 where
+  pub later : (i : ℕ) (u v : Word) → RegularAt leads w β i u v → from ≤ i → index ≤ i
 
 module _ (leads : List Lead) (w : Word) (β : Sig) where
-  pub pair_further : (index : ℕ) (l : Lead) → NonePairBefore leads w β index
+  pub pair_further : (from index : ℕ) (l : Lead) → NonePairBefore leads w β from index
       → slice_get leads index ≡ Some l → IsFirstPlace l w β None
-      → NonePairBefore leads w β (index + 1)
-  pair_further index l before here none =
-      record { later = λ i u v r. go i u v r (nat_order index i) }
+      → NonePairBefore leads w β from (index + 1)
+  pair_further from index l before here none =
+      record { later = λ i u v r m. go i u v r m (nat_order index i) }
     where
-      go : (i : ℕ) (u v : Word) → RegularAt leads w β i u v → (index < i)
+      go : (i : ℕ) (u v : Word) → RegularAt leads w β i u v → from ≤ i → (index < i)
           ⊎ ((index ≡ i) ⊎ (i < index)) → index + 1 ≤ i
-      go i u v r (inl less) = omega (arith, less)
-      go i u v r (inr (inl same)) =
+      go i u v r m (inl less) = omega (arith, less)
+      go i u v r m (inr (inl same)) =
           let lead : r.lead ≡ l = cc (r.stands, here, same) in
           absurd (none (length u) (
             u,
@@ -186,9 +187,9 @@ module _ (leads : List Lead) (w : Word) (β : Sig) where
             subst (λ (m : Lead). IsRegular m w β u v) lead r.regular,
             refl,
           ))
-      go i u v r (inr (inr more)) = omega (arith, before.later i u v r, more)
+      go i u v r m (inr (inr more)) = omega (arith, before.later i u v r m, more)
 
-  pub pair_found : (index : ℕ) (l : Lead) (h : Hit) → NonePairBefore leads w β index
+  pub pair_found : (index : ℕ) (l : Lead) (h : Hit) → NonePairBefore leads w β 0 index
       → slice_get leads index ≡ Some l → IsFirstPlace l w β (Some h.place) → h.number ≡ index + 1
       → IsFirstRegular leads w β (Some h)
   pair_found index l h before here ((u, v, regular, left), leftmost) number = (
@@ -216,9 +217,24 @@ module _ (leads : List Lead) (w : Word) (β : Sig) where
             refl,
           ) in
           inr (same, omega (arith, left, further))
-      go j x y r (inr (inr more)) = absurd (omega (arith, before.later j x y r, more))
+      go j x y r (inr (inr more)) = absurd (omega (arith, before.later j x y r (omega arith), more))
 
-  pub no_pair : (index : ℕ) → NonePairBefore leads w β index → length leads ≤ index
+  pub no_pair_from : (from index : ℕ) → NonePairBefore leads w β from index → length leads ≤ index
+      → ¬ HasRegularAfter leads from w β
+  no_pair_from from index before all (i, u, v, r, m) =
+      absurd (omega (arith, before.later i u v r m, slice_get_within leads i r.lead r.stands))
+
+  pub no_pair : (index : ℕ) → NonePairBefore leads w β 0 index → length leads ≤ index
       → IsFirstRegular leads w β None
-  no_pair index before all i u v r =
-      absurd (omega (arith, before.later i u v r, slice_get_within leads i r.lead r.stands))
+  no_pair index before all i u v r = no_pair_from 0 index before all (i, u, v, r, omega arith)
+
+  pub pair_stands : (from index : ℕ) (l : Lead) (q : ℕ) → from ≤ index
+      → slice_get leads index ≡ Some l → IsFirstPlace l w β (Some q)
+      → HasRegularAfter leads from w β
+  pair_stands from index l q within here ((u, v, regular, left), least) = (
+    index,
+    u,
+    v,
+    record { lead = l; stands = here; regular = regular },
+    within,
+  )

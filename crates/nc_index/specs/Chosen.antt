@@ -3,16 +3,17 @@
 -- The pairs of `Pairs.antt` are read off the entries, in their order. The bound β is a signature
 -- with its degree. A bound by degree is such a signature too (`above_degree` of nc_algebra).
 --
--- `LeadsLaw` is the theorem of this crate, and the contract of `leads_law`.
+-- `LeadsLaw` and `NewerLeadsLaw` are the theorems of this crate, the contracts of `leads_law` and
+-- `newer_leads_law`.
 use Rattle.nc_algebra.specs.Elements.{Setting, generator_weight}
 use Rattle.nc_algebra.specs.Monomials.{Monomial, Sig, compare_sigs, sig_of}
 use Rattle.nc_algebra.specs.Polynomials.{leading}
 use Rattle.nc_algebra.specs.Words.{Word}
-use Rattle.nc_index.specs.Pairs.{IsFirstRegular, Lead}
+use Rattle.nc_index.specs.Pairs.{HasRegularAfter, IsFirstRegular, Lead}
 use Rattle.nc_index.specs.declared.hit.Hit.{Hit}
 use Rattle.nc_theory.specs.Divisors.{Divisor, IsChosenDivisor, number_of, signature_at}
 use Rattle.nc_theory.specs.States.{Entry}
-use Rattle.std.specs.Prelude.{List, None, Option, Some, length, map, ◌≡◌}
+use Rattle.std.specs.Prelude.{List, None, Option, Some, length, map, ℕ, ◌↔◌, ◌≡◌, ◌≤◌}
 use Rattle.std.specs.declared.cmp.Ordering.TheVariants.{Less}
 
 -- an entry's leading word and signature
@@ -40,8 +41,19 @@ IsChosen s entries w β (Some h) =
     (d : Divisor s entries w) × IsChosenDivisor s entries (IsBelowSig s β) w d
     × (number_of s entries w d ≡ h.number) × (length d.left ≡ h.place)
 
+-- a divisor of w below β of an entry behind the first n
+abbrev pub HasDivisorAfter : Setting → List Entry → ℕ → Word → Sig → Type 0
+HasDivisorAfter s entries n w β =
+    (d : Divisor s entries w) × IsBelowSig s β (signature_at s entries w d) × (n ≤ d.listed.0)
+
 -- the search among the entries' pairs finds the chosen divisor
 abbrev pub LeadsLaw : Type 0
 LeadsLaw =
     (s : Setting) (entries : List Entry) (w : Word) (β : Sig) (answer : Option Hit)
     → IsFirstRegular (leads_of s entries) w β answer → IsChosen s entries w β answer
+
+-- and that behind the first n tells whether a newer entry gives a divisor
+abbrev pub NewerLeadsLaw : Type 0
+NewerLeadsLaw =
+    (s : Setting) (entries : List Entry) (n : ℕ) (w : Word) (β : Sig)
+    → HasRegularAfter (leads_of s entries) n w β ↔ HasDivisorAfter s entries n w β

@@ -49,3 +49,8 @@ IsFirstRegular leads w β None = (i : ℕ) (u v : Word) → ¬ (RegularAt leads 
 IsFirstRegular leads w β (Some h) =
     (i : ℕ) × (u : Word) × (v : Word) × IsFirst leads w β i u v × (h.number ≡ i + 1)
     × (h.place ≡ length u)
+
+-- some pair behind the first n stands so
+abbrev pub HasRegularAfter : List Lead → ℕ → Word → Sig → Type 0
+HasRegularAfter leads n w β =
+    (i : ℕ) × (u : Word) × (v : Word) × RegularAt leads w β i u v × (n ≤ i)

@@ -1,9 +1,9 @@
 //! The pairs of a search.
 
 ghost use Rattle.nc_algebra.specs.Limits.{max_leads};
-ghost use Rattle.nc_index.specs.Pairs.{IsFirstRegular};
+ghost use Rattle.nc_index.specs.Pairs.{HasRegularAfter, IsFirstRegular};
 ghost use Rattle.std.specs.Arc.{arc_value};
-ghost use Rattle.std.specs.Prelude.{IfOk, OnErr, OnOk, [], length, slice_get, ◌++◌, ◌<◌, ◌∷◌, ◌≡◌};
+ghost use Rattle.std.specs.Prelude.{IfOk, IsTrue, OnErr, OnOk, [], length, slice_get, ◌++◌, ◌<◌, ◌∷◌, ◌≡◌, ◌↔◌};
 
 use crate::hit::Hit;
 use crate::lead::Lead;
@@ -93,5 +93,19 @@ impl Leads {
             }
         }
         None
+    }
+
+    /// Whether some pair behind the first `after` has its word in this word where the multiple has a signature below the
+    /// bound. No memory is taken.
+    pub fn regular_after(&self, word: &[Letter], bound: &Sig, after: u32) -> bool
+        ensures { IsTrue result ↔ HasRegularAfter self.now after word.now bound.now }
+    {
+        let weight = weight_of(word);
+        for index in after..self.len() {
+            if let Some(_) = self.pair(index).first_place(word, weight, bound) {
+                return true;
+            }
+        }
+        false
     }
 }

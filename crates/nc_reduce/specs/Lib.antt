@@ -3,3 +3,4 @@ pub mod Starts
 pub mod Turns
 pub mod Limits
 pub mod Steps
+pub mod Touches

@@ -5,6 +5,8 @@ mod limit;
 mod reduction;
 mod start;
 mod step;
+mod touch;
 mod turn;
 
 pub use reduction::{Reduced, Rest, reduce, reduce_within};
+pub use touch::touches;

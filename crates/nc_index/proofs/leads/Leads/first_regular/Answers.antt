@@ -5,7 +5,7 @@ use Rattle.nc_index.proofs.leads.Leads.first_regular.Goals as goal
 
 pub loop-index-preserved : goal.loop-index-preserved
 loop-index-preserved c =
-    pair_further c.args.self.now c.args.word.now c.args.bound.now c.loop-index.index
+    pair_further c.args.self.now c.args.word.now c.args.bound.now 0 c.loop-index.index
     c.pair.result.now c.loop-index.invariant c.pair.ensures c.in_default.ensures
 
 pub returns-in-Some : goal.returns-in-Some

@@ -1,0 +1,5 @@
+use Rattle.nc_index.proofs.Regular.{NonePairBefore}
+use Rattle.nc_index.proofs.leads.Leads.regular_after.Given as goal
+
+abbrev pub invariant-loop-index : goal.invariant-loop-index
+invariant-loop-index l = NonePairBefore l.self l.word l.bound l.after l.index
