@@ -1,28 +1,19 @@
 -- A step of a snapshot and of what is kept beside it.
 -- A step appends to shared copies, inserts what the outcome brings (`advances`), and takes out the
 -- least, which is the signature that was handled (`left_taken`).
-use Rattle.nc_algebra.specs.Elements.{HasDegree, Setting}
+use Rattle.nc_algebra.specs.Elements.{HasDegree}
 use Rattle.nc_algebra.specs.Monomials.{Monomial, Sig, monomial_of}
 use Rattle.nc_desk.proofs.Left.{first_next, later_run, left_later, none_next}
 use Rattle.nc_desk.specs.Desks.{AreLeft, IsNextAt, Waits}
 use Rattle.nc_desk.specs.Steps.{AreNews, IsAdvance, IsBrought, IsStep}
-use Rattle.nc_index.specs.Chosen.{lead_of, leads_of}
 use Rattle.nc_index.specs.Pairs.{Lead}
 use Rattle.nc_queue.specs.Queues.{IsAscending, IsUnion}
-use Rattle.nc_reduce.specs.Leads.{LeadsOf}
 use Rattle.nc_theory.proofs.UntracedSteps.{goes_on}
-use Rattle.nc_theory.specs.Untraced.{IsNextOfRun, untraced, untraced_entry}
+use Rattle.nc_theory.specs.Untraced.{IsNextOfRun, untraced}
 use Rattle.nc_snapshot.proofs.Snapshots.{snapshot_prime}
 use Rattle.nc_snapshot.specs.Snapshots.{IsSnapshot, Snapshot}
-use Rattle.nc_theory.specs.Runs.{Handles, Outcome, state_after}
-use Rattle.nc_theory.specs.States.{Entry}
-use Rattle.std.proofs.Common.{Contains, IfSome, IsNone, List, None, Option, Some, [], ap, arith, inl, inr, map, refl, subst, sym, ◌+◌, ◌∙◌, ◌∷◌, ◌≡◌, ◌↔◌, ◌⊎◌}
-
--- traces do not show in the leads
-pub untraced_leads : (s : Setting) (es : List Entry)
-    → leads_of s (map untraced_entry es) ≡ leads_of s es
-untraced_leads s [] = refl
-untraced_leads s (e ∷ es) = ap (λ (ls : List Lead). lead_of s e ∷ ls) (untraced_leads s es)
+use Rattle.nc_theory.specs.Runs.{state_after}
+use Rattle.std.proofs.Common.{Contains, IfSome, IsNone, List, None, Option, Some, [], ap, arith, inl, inr, refl, subst, sym, ◌+◌, ◌∷◌, ◌≡◌, ◌↔◌, ◌⊎◌}
 
 pub next_of_run : (s : Snapshot) → IsSnapshot s → (τ : Monomial) → IsNextAt s τ
     → IsNextOfRun s.problem.problem s.handled s.state τ
@@ -30,47 +21,41 @@ next_of_run s h τ x =
     (goes_on s.problem.problem (snapshot_prime s h) s.handled s.state x.last x.run).next τ x.next
 
 -- what was appended and inserted
-module _ (s : Snapshot) (τ : Monomial) (o : Outcome)
-    (handles : Handles s.problem.problem.setting s.state τ o) (later : Snapshot)
-    (problem : later.problem ≡ s.problem) (handled : later.handled ≡ s.handled + 1)
-    (is : later.state ≡ untraced (state_after s.state τ o)) where
-  pub later_is : later ≡ record {
+module _ (s later : Snapshot) (step : IsStep s later) where
+  later_is : later ≡ record {
     problem = s.problem;
     handled = s.handled + 1;
-    state = untraced (state_after s.state τ o);
+    state = untraced (state_after s.state step.signature step.outcome);
   }
-  later_is = λ i. record { problem = problem i; handled = handled i; state = is i }
+  later_is = λ i. record {
+    problem = step.problem i;
+    handled = step.handled i;
+    state = step.state i;
+  }
 
-  module _ (leads : List Lead) (old found new : List Sig)
-      (news : AreNews s.problem.problem s.state τ o leads found) (union : IsUnion old found new)
-      (ascending : IsAscending new) where
-    later_listed : LeadsOf later leads
-    later_listed =
-        subst (λ (t : Snapshot). LeadsOf t leads) (sym later_is)
-        (news.listed ∙ sym (untraced_leads s.problem.problem.setting
-        (state_after s.state τ o).entries))
-
+  module _ (leads : List Lead) (old found new : List Sig) (news : AreNews s later leads found)
+      (union : IsUnion old found new) (ascending : IsAscending new) where
     added : (σ : Sig) → Contains new σ
-        ↔ (Contains old σ ⊎ IsBrought s.problem.problem s.state τ o σ)
+        ↔ (Contains old σ ⊎ IsBrought s.problem.problem s.state step.signature step.outcome σ)
     added σ = (λ c. there ((union σ).0 c), λ c. (union σ).1 (back c))
       where
         there : Contains old σ ⊎ Contains found σ → Contains old σ
-            ⊎ IsBrought s.problem.problem s.state τ o σ
+            ⊎ IsBrought s.problem.problem s.state step.signature step.outcome σ
         there (inl c) = inl c
-        there (inr c) = inr ((news.exact σ).0 c)
+        there (inr c) = inr ((news.exact step σ).0 c)
 
-        back : Contains old σ ⊎ IsBrought s.problem.problem s.state τ o σ → Contains old σ
+        back : Contains old σ ⊎ IsBrought s.problem.problem s.state step.signature step.outcome σ → Contains old σ
             ⊎ Contains found σ
         back (inl c) = inl c
-        back (inr b) = inr ((news.exact σ).1 b)
+        back (inr b) = inr ((news.exact step σ).1 b)
 
-    pub advances : IsAdvance s τ later leads old new
+    pub advances : IsAdvance s step.signature later leads old new
     advances =
         record {
-          outcome = o;
-          handles = handles;
+          outcome = step.outcome;
+          handles = step.handles;
           snapshot = later_is;
-          listed = later_listed;
+          listed = news.listed;
           ascending = ascending;
           added = added;
         }

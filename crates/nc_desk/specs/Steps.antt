@@ -6,7 +6,6 @@
 use Rattle.nc_algebra.specs.Elements.{HasDegree}
 use Rattle.nc_algebra.specs.Monomials.{Monomial, Sig, monomial_of}
 use Rattle.nc_algebra.specs.Problems.{IsWithin, Problem}
-use Rattle.nc_index.specs.Chosen.{leads_of}
 use Rattle.nc_index.specs.Pairs.{Lead}
 use Rattle.nc_queue.specs.Queues.{IsAscending}
 use Rattle.nc_reduce.specs.Leads.{LeadsOf}
@@ -32,11 +31,11 @@ IsBrought P state τ o σ =
     HasDegree P.setting σ × IsWithin P (monomial_of σ)
     × BringsAmbiguity P.setting state τ o (monomial_of σ)
 
--- the leads after an outcome at τ, and the signatures that it brings
-pub record AreNews (P : Problem) (state : State) (τ : Monomial) (o : Outcome) (leads : List Lead)
-    (signatures : List Sig) : Type 0 where
-  pub listed : leads ≡ leads_of P.setting (state_after state τ o).entries
-  pub exact : (σ : Sig) → Contains signatures σ ↔ IsBrought P state τ o σ
+-- the leads of the later snapshot, and the signatures that its step brings
+pub record AreNews (old new : Snapshot) (leads : List Lead) (signatures : List Sig) : Type 0 where
+  pub listed : LeadsOf new leads
+  pub exact : (step : IsStep old new) (σ : Sig) → Contains signatures σ
+      ↔ IsBrought old.problem.problem old.state step.signature step.outcome σ
 
 -- the later snapshot and its leads are those after an outcome at τ, and the signatures that it
 -- brings were added

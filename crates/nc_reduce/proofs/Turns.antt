@@ -1,20 +1,20 @@
 -- What a turn of a reduction does and leaves.
 -- The lemmas of `nc_theory` on turns, with the leading term taken out of the tree where it is kept
--- (`rest_is`), and the chosen divisor by the law of `nc_index` (`none_turn`, `hit_within`).
+-- (`rest_is`), and the chosen divisor by the law of `nc_index` (`none_turn`, `hit_within`). Turns in
+-- a row make a reduction (`is_turned`, `ended`).
 use Rattle.nc_algebra.proofs.NormalForms.{normal_form_only}
 use Rattle.nc_algebra.proofs.Sums.{coefficient-minus}
 use Rattle.nc_algebra.proofs.Words.{word_laws}
 use Rattle.nc_algebra.specs.Elements.{Setting}
 use Rattle.nc_algebra.specs.Monomials.{Sig}
-use Rattle.nc_algebra.specs.Polynomials.{IsNormal, Polynomial, coefficient, leading, normal_form, polynomial_times}
-use Rattle.nc_algebra.specs.Primes.{IsField}
+use Rattle.nc_algebra.specs.Polynomials.{AreResidues, IsNormal, Polynomial, coefficient, leading, normal_form, polynomial_times}
 use Rattle.nc_algebra.specs.Sums.{Term, is_at, minus}
 use Rattle.nc_algebra.specs.Words.{IsWordLess, OccursAt, Word, same_word}
 use Rattle.nc_index.specs.Chosen.{IsBelowSig, IsChosen, LeadsLaw}
 use Rattle.nc_index.specs.Pairs.{IsFirstRegular, Lead}
 use Rattle.nc_index.specs.declared.hit.Hit.{Hit}
 use Rattle.nc_reduce.proofs.Choices.{hit_choice, hit_stands, number_within}
-use Rattle.nc_snapshot.proofs.Snapshots.{snapshot_usable}
+use Rattle.nc_snapshot.proofs.Snapshots.{snapshot_field, snapshot_usable}
 use Rattle.nc_snapshot.specs.Snapshots.{IsSnapshot, Signed, Snapshot, entry_of}
 use Rattle.nc_theory.proofs.Small.{usable_at}
 use Rattle.nc_reduce.specs.Leads.{LeadsOf}
@@ -23,13 +23,16 @@ use Rattle.nc_reduce.specs.Turns.{IsTurn}
 use Rattle.nc_reduce.specs.declared.turn.Turn.{Turn}
 use Rattle.nc_reduce.specs.declared.turn.Turn.TheVariants.{Kept, Subtracted}
 use Rattle.nc_theory.proofs.Choices.{chosen_few, kept_turn, lead_residue, subtracted_turn}
-use Rattle.nc_theory.proofs.Turns.{IsLeft, kept_leaves, subtracted_leaves}
+use Rattle.nc_theory.proofs.Loops.{ReducedTo}
+use Rattle.nc_theory.proofs.Runs.{whole, whole_normal}
+use Rattle.nc_theory.proofs.Turns.{IsLeft, kept_leaves, size_of, subtracted_leaves, turn_keeps, turn_subtracts}
 use Rattle.nc_theory.specs.Found.{Chosen}
 use Rattle.nc_theory.specs.Places.{IsChoiceOf}
+use Rattle.nc_theory.specs.Reductions.{Reduction}
 use Rattle.nc_theory.specs.Turns.{IsKept, IsSubtracted}
 use Rattle.nc_theory.specs.Usable.{HasSmallWords, IsUsable}
 use Rattle.nc_theory.specs.States.{Entry, Step}
-use Rattle.std.proofs.Common.{List, None, Option, Some, [], ap, arith, get_or, length, refl, subst, sym, ℕ, ◌%◌, ◌*◌, ◌+◌, ◌-◌, ◌<◌, ◌∙◌, ◌∷◌, ◌≡◌, ◌≤◌}
+use Rattle.std.proofs.Common.{List, None, Option, Some, [], ap, arith, get_or, length, refl, subst, sym, ℕ, ◌%◌, ◌*◌, ◌+◌, ◌++◌, ◌-◌, ◌<◌, ◌∙◌, ◌∷◌, ◌≡◌, ◌≤◌}
 use Rattle.std.proofs.Math.Nat.{add-mul-mod_self_left}
 use Rattle.std.proofs.lemmas.List.Elements.{All-from_recursion, recursion_from_All}
 use Rattle.std.proofs.lemmas.Option.{get_or_from_slice_get}
@@ -162,13 +165,78 @@ module _ (x : Snapshot) (leads : List Lead) (old : Polynomial) (t : Term Word)
               (rest ∙ ap (λ q. normal_form q
               (minus q old step.coefficient (polynomial_times step.left f step.right))) is_prime)
 
--- what is left
-module _ (s : Setting) (field : IsField s.prime) (entries : List Entry)
-    (usable : All (IsUsable s) entries) (β : Sig) where
-  pub turn_leaves : (old new : Polynomial) (turn : Turn) → IsTurn s entries β old new turn
-      → IsNormal s.prime old → HasSmallWords s old
-      → IsLeft s field entries usable (IsBelowSig s β) old new
-  turn_leaves old new (Kept x) t n k =
-      kept_leaves s field entries usable (IsBelowSig s β) old new x t n k
-  turn_leaves old new (Subtracted step) t n k =
-      subtracted_leaves s field entries usable (IsBelowSig s β) old new step t n k
+-- ---- a loop of turns
+
+-- of f so much was kept and subtracted, and this is left
+pub record IsReduced (x : Snapshot) (β : Sig) (f kept : Polynomial) (steps : List Step)
+    (rest : Polynomial) : Type 0 where
+  pub reached : ReducedTo x.problem.problem.setting x.state.entries
+      (IsBelowSig x.problem.problem.setting β) f kept steps rest
+  pub normal : IsNormal x.problem.problem.setting.prime rest
+  pub small : HasSmallWords x.problem.problem.setting rest
+
+-- what a turn does to it
+pub record IsTurned (x : Snapshot) (β : Sig) (f kept : Polynomial) (steps : List Step)
+    (old new : Polynomial) (turn : Turn) : Type 0 where
+  pub falls : size_of new < size_of old
+  pub keeps : (t : Term Word) → turn ≡ Kept t → IsReduced x β f (kept ++ t ∷ []) steps new
+  pub subtracts : (step : Step) → turn ≡ Subtracted step
+      → IsReduced x β f kept (steps ++ step ∷ []) new
+
+module _ (x : Snapshot) (is : IsSnapshot x) (β : Sig) (f kept : Polynomial) (steps : List Step)
+    (old : Polynomial) (reduced : IsReduced x β f kept steps old) where
+  leaves : (new : Polynomial) (turn : Turn)
+      → IsTurn x.problem.problem.setting x.state.entries β old new turn
+      → IsLeft x.problem.problem.setting (snapshot_field x is) x.state.entries
+      (snapshot_usable x is) (IsBelowSig x.problem.problem.setting β) old new
+  leaves new (Kept t) turned =
+      kept_leaves x.problem.problem.setting (snapshot_field x is) x.state.entries
+      (snapshot_usable x is) (IsBelowSig x.problem.problem.setting β) old new t turned
+      reduced.normal reduced.small
+  leaves new (Subtracted step) turned =
+      subtracted_leaves x.problem.problem.setting (snapshot_field x is) x.state.entries
+      (snapshot_usable x is) (IsBelowSig x.problem.problem.setting β) old new step turned
+      reduced.normal reduced.small
+
+  pub is_turned : (new : Polynomial) (turn : Turn)
+      → IsTurn x.problem.problem.setting x.state.entries β old new turn
+      → IsTurned x β f kept steps old new turn
+  is_turned new turn turned = record {
+    falls = left.falls;
+    keeps = λ t e. record {
+      reached = turn_keeps x.problem.problem.setting (snapshot_field x is) x.state.entries
+          (snapshot_usable x is) (IsBelowSig x.problem.problem.setting β) f kept steps old new t
+          (subst (IsTurn x.problem.problem.setting x.state.entries β old new) e turned)
+          reduced.reached;
+      normal = left.normal;
+      small = left.small;
+    };
+    subtracts = λ step e. record {
+      reached = turn_subtracts x.problem.problem.setting (snapshot_field x is) x.state.entries
+          (snapshot_usable x is) (IsBelowSig x.problem.problem.setting β) f kept steps old new
+          step (subst (IsTurn x.problem.problem.setting x.state.entries β old new) e turned)
+          reduced.reached;
+      normal = left.normal;
+      small = left.small;
+    };
+  }
+    where
+      left : IsLeft x.problem.problem.setting (snapshot_field x is) x.state.entries
+          (snapshot_usable x is) (IsBelowSig x.problem.problem.setting β) old new
+      left = leaves new turn turned
+
+  -- where nothing is left
+  module _ (nothing : old ≡ []) where
+    pub ended_residues : AreResidues x.problem.problem.setting.prime kept
+    ended_residues =
+        (whole_normal x.problem.problem.setting (snapshot_field x is) x.state.entries
+        (snapshot_usable x is) (IsBelowSig x.problem.problem.setting β) f kept steps old
+        reduced.reached nothing).1
+
+    pub ended : (g : Polynomial) → g ≡ normal_form x.problem.problem.setting.prime kept
+        → Reduction x.problem.problem.setting x.state.entries
+        (IsBelowSig x.problem.problem.setting β) f g steps
+    ended =
+        whole x.problem.problem.setting (snapshot_field x is) x.state.entries
+        (snapshot_usable x is) (IsBelowSig x.problem.problem.setting β) f kept steps old
+        reduced.reached nothing

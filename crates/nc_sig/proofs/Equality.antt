@@ -3,7 +3,7 @@ use Rattle.nc_algebra.proofs.Words.{word_laws}
 use Rattle.nc_algebra.specs.Monomials.{Sig, compare_sigs}
 use Rattle.nc_algebra.specs.Words.{compare_words}
 use Rattle.nc_sig.specs.Orders.{sigs_order}
-use Rattle.std.proofs.Common.{arith, Equal, Greater, Less, Ordering, ap, refl, subst, sym, true, ◌∙◌, ◌≡◌}
+use Rattle.std.proofs.Common.{arith, Equal, Greater, Less, Ordering, ap, refl, subst, ◌≡◌}
 use Rattle.std.specs.Bool.{Decides}
 use Rattle.std.specs.Cmp.{Equal-is}
 use Rattle.std.specs.FinMap.{nat_cmp-IsAntisymmetric}

@@ -6,6 +6,7 @@ use Rattle.nc_algebra.proofs.Primes.{field_from_prime}
 use Rattle.nc_algebra.specs.Elements.{IsGenerator, IsLess}
 use Rattle.nc_algebra.specs.Monomials.{Monomial}
 use Rattle.nc_algebra.specs.Primes.{IsField, IsPrime}
+use Rattle.nc_algebra.specs.Problems.{IsWithin}
 use Rattle.nc_field.proofs.Primes.{listed_is_prime}
 use Rattle.nc_theory.proofs.Small.{usable_at}
 use Rattle.nc_theory.proofs.Snapshots.{facts}
@@ -37,15 +38,19 @@ module _ (s : Snapshot) (h : IsSnapshot s) where
       → IsUsable s.problem.problem.setting e
   entry_usable = usable_at s.problem.problem.setting s.state.entries snapshot_usable
 
-  -- the generator of an entry's signature is one of the setting
-  pub entry_generator : (i : ℕ) (e : Entry) → slice_get s.state.entries i ≡ Some e
-      → IsGenerator s.problem.problem.setting e.signature.generator
-  entry_generator i e at =
+  pub entry_within : (i : ℕ) (e : Entry) → slice_get s.state.entries i ≡ Some e
+      → IsWithin s.problem.problem e.signature
+  entry_within i e at =
       ((facts s.problem h.problem snapshot_prime s.handled s.state h.run).entries_within e (
         i,
         slice_get_within s.state.entries i e at,
         get_or_from_slice_get s.state.entries i e e at,
-      )).0.0
+      )).0
+
+  -- the generator of an entry's signature is one of the setting
+  pub entry_generator : (i : ℕ) (e : Entry) → slice_get s.state.entries i ≡ Some e
+      → IsGenerator s.problem.problem.setting e.signature.generator
+  entry_generator i e at = (entry_within i e at).0
 
   pub snapshot_canonical : AreCanonical s.problem.problem.setting s.state
   snapshot_canonical = canonical s.problem.problem snapshot_prime s.handled s.state h.run

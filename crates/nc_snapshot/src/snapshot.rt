@@ -22,6 +22,15 @@ use std::alloc::{AllocError, AllocFailed, Global};
 use std::marker::Model;
 use std::sync::Arc;
 
+/// How many items there are, where a run has at most as many as steps.
+fn count_of(items: usize) -> u32
+    requires { items ≤ max_steps }
+    ensures count { result ≡ items }
+    ensures few { result ≤ max_steps }
+{
+    items as u32
+}
+
 /// What the sequential run of a problem has found after so many handled signatures: its entries and its syzygies in
 /// their order, each without its trace, and how many signatures were covered or settled.
 ///
@@ -106,7 +115,7 @@ impl Snapshot {
         ensures count { result ≡ length self.now.state.entries }
         ensures few { result ≤ max_steps }
     {
-        self.found.entries() as u32
+        count_of(self.found.entries())
     }
 
     /// The number of syzygies.
@@ -114,7 +123,7 @@ impl Snapshot {
         ensures count { result ≡ length self.now.state.syzygies }
         ensures few { result ≤ max_steps }
     {
-        self.found.syzygies() as u32
+        count_of(self.found.syzygies())
     }
 
     /// The entry with this number; they are counted from 1.

@@ -43,20 +43,12 @@ entry-divisor-requires-clause-within c =
     c.letters.result.now c.letters.ensures.letters c.in-Some-first_regular.hit
     c.in-Some-first_regular.ensures
 
-pub step_at-requires-clause-residue : goal.step_at-requires-clause-residue
-step_at-requires-clause-residue c =
-    (divides (goal.at.step_at-requires-clause-residue c).After-entry-divisor
-    (turning (goal.at.step_at-requires-clause-residue c).In-Some)).residue
-
-pub step_at-requires-clause-normal : goal.step_at-requires-clause-normal
-step_at-requires-clause-normal c =
-    (divides (goal.at.step_at-requires-clause-normal c).After-entry-divisor
-    (turning (goal.at.step_at-requires-clause-normal c).In-Some)).normal
-
-pub step_at-requires-clause-stands : goal.step_at-requires-clause-stands
-step_at-requires-clause-stands c =
-    (divides (goal.at.step_at-requires-clause-stands c).After-entry-divisor
-    (turning (goal.at.step_at-requires-clause-stands c).In-Some)).stands
+pub step_at-requires : goal.step_at-requires
+step_at-requires c =
+    let d =
+    divides (goal.at.step_at-requires c).After-entry-divisor
+    (turning (goal.at.step_at-requires c).In-Some) in
+    record { residue = d.residue; normal = d.normal; stands = d.stands }
 
 pub subtract-requires-clause-other_residues : goal.subtract-requires-clause-other_residues
 subtract-requires-clause-other_residues c =
