@@ -269,7 +269,7 @@ module _ (s : Setting) where
         one = k.one;
       }
 
-abbrev new_entry : Monomial → Polynomial → Trace → Entry
+abbrev pub new_entry : Monomial → Polynomial → Trace → Entry
 new_entry τ f trace = record { signature = τ; polynomial = f; trace = trace }
 
 module _ (P : Problem) (field : IsField P.setting.prime) (state : State) (last : Option Monomial)

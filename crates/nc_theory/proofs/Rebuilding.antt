@@ -12,7 +12,7 @@ use Rattle.nc_algebra.specs.Polynomials.{Polynomial, coefficient}
 use Rattle.nc_algebra.specs.Primes.{IsField}
 use Rattle.nc_algebra.specs.Problems.{Problem}
 use Rattle.nc_algebra.specs.Words.{Word}
-use Rattle.nc_theory.proofs.Completeness.{Invariant, IsReached, invariant, reached_less}
+use Rattle.nc_theory.proofs.Completeness.{Invariant, IsReached, invariant, new_entry, reached_less}
 use Rattle.nc_theory.proofs.Determinism.{reduction_unique, starts_unique}
 use Rattle.nc_theory.proofs.Places.{at_most_multiple}
 use Rattle.nc_theory.proofs.Pushed.{each_pushed}
@@ -290,12 +290,7 @@ module _ (P : Problem) (field : IsField P.setting.prime) (state : State) (last :
       }
     where
       new : Entry
-      new =
-          record {
-            signature = τ;
-            polynomial = t ∷ kept;
-            trace = record { start = start; steps = steps };
-          }
+      new = new_entry τ (t ∷ kept) (record { start = start; steps = steps })
 
 pub rebuilt : (P : Problem) → IsField P.setting.prime
     → {n : ℕ} {state : State} {last : Option Monomial} → SequentialRun P n state last

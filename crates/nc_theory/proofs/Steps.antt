@@ -17,7 +17,7 @@ use Rattle.nc_algebra.specs.Polynomials.{Polynomial, leading}
 use Rattle.nc_algebra.specs.Primes.{IsField}
 use Rattle.nc_algebra.specs.Problems.{Problem}
 use Rattle.nc_algebra.specs.Words.{Letter, Word}
-use Rattle.nc_theory.proofs.Completeness.{invariant}
+use Rattle.nc_theory.proofs.Completeness.{invariant, new_entry}
 use Rattle.nc_theory.proofs.Properties.{minus_are, more_are, times_are}
 use Rattle.nc_theory.proofs.Pushed.{each_pushed}
 use Rattle.nc_theory.specs.Ambiguities.{Ambiguity}
@@ -187,12 +187,7 @@ module _ (P : Problem) (field : IsField P.setting.prime) (letters : List Letter)
       }
     where
       new : Entry
-      new =
-          record {
-            signature = τ;
-            polynomial = t ∷ kept;
-            trace = record { start = start; steps = steps };
-          }
+      new = new_entry τ (t ∷ kept) (record { start = start; steps = steps })
 
       ends : IsOver letters τ.left × IsOver letters τ.right
       ends = candidate_over state alive over τ c
