@@ -8,7 +8,7 @@ use Rattle.nc_algebra.specs.Primes.{IsField}
 use Rattle.nc_algebra.specs.Problems.{IsWithin, Problem}
 use Rattle.nc_algebra.specs.Sums.{Term}
 use Rattle.nc_algebra.specs.Words.{Word}
-use Rattle.nc_theory.proofs.Completeness.{Invariant, IsReached, entries_after, high_old, invariant, low_old, reached_or_left}
+use Rattle.nc_theory.proofs.Completeness.{Invariant, IsReached, entries_after, high_old, invariant, low_old, new_entry, reached_or_left}
 use Rattle.nc_theory.proofs.Relisted.{relisted_ambiguity}
 use Rattle.nc_theory.proofs.Stale.{front_or_later, last_is}
 use Rattle.nc_theory.specs.Ambiguities.{NewAmbiguity}
@@ -31,22 +31,13 @@ module _ (P : Problem) (field : IsField P.setting.prime) {n : ℕ} {state : Stat
       → Starts P.setting state.entries τ f start
       → ReductionAt P.setting state.entries τ f (t ∷ kept) steps → (ρ : Monomial)
       → NewAmbiguity P.setting state.entries
-      (record {
-        signature = τ;
-        polynomial = t ∷ kept;
-        trace = record { start = start; steps = steps };
-      }) ρ → IsLess P.setting τ ρ
+      (new_entry τ (t ∷ kept) (record { start = start; steps = steps })) ρ → IsLess P.setting τ ρ
   ascends {kept = kept} {t = t} {start = start} {steps = steps} starts reduction ρ a =
       from_reached ρ (λ r. go r (Contains-push_cases state.entries new a.ambiguity.low.entry
       a.ambiguity.low.listed) a.newest)
     where
       new : Entry
-      new =
-          record {
-            signature = τ;
-            polynomial = t ∷ kept;
-            trace = record { start = start; steps = steps };
-          }
+      new = new_entry τ (t ∷ kept) (record { start = start; steps = steps })
 
       go : IsReached P.setting (Some τ) ρ → Contains state.entries a.ambiguity.low.entry
           ⊎ (new ≡ a.ambiguity.low.entry)

@@ -19,6 +19,7 @@ use Rattle.nc_algebra.specs.Words.{IsWordLess, Word, same_word}
 use Rattle.nc_theory.proofs.Carrying.{Carries, carry}
 use Rattle.nc_theory.proofs.Closure.{basis_below, syzygies_below}
 use Rattle.nc_theory.proofs.Places.{at_most_multiple}
+use Rattle.nc_theory.proofs.Pushed.{each_pushed}
 use Rattle.nc_theory.proofs.Reductions.{From, kept_clear, kept_leads, kept_less, multiple_leads_at}
 use Rattle.nc_theory.proofs.Relisted.{relisted, relisted_ambiguity}
 use Rattle.nc_theory.specs.Ambiguities.{Ambiguity}
@@ -268,7 +269,7 @@ module _ (s : Setting) where
         one = k.one;
       }
 
-abbrev new_entry : Monomial → Polynomial → Trace → Entry
+abbrev pub new_entry : Monomial → Polynomial → Trace → Entry
 new_entry τ f trace = record { signature = τ; polynomial = f; trace = trace }
 
 module _ (P : Problem) (field : IsField P.setting.prime) (state : State) (last : Option Monomial)
@@ -356,17 +357,22 @@ module _ (P : Problem) (field : IsField P.setting.prime) (state : State) (last :
   reached_after : (σ : Monomial) → IsReached P.setting last σ → IsReached P.setting (Some τ) σ
   reached_after σ r = inr (reached_less P last σ τ r next.left)
 
-  -- Covered: nothing is listed
+  -- where nothing is listed
+  unchanged_sound : (covered settled : ℕ)
+      → IsSound P.setting (record state { covered = covered; settled = settled })
+  unchanged_sound covered settled =
+      record {
+        nonzero = inv.sound.nonzero;
+        entries = inv.sound.entries;
+        syzygies = inv.sound.syzygies;
+      }
+
   step_covered : Covered P.setting state τ
       → Invariant P (state_after state τ Outcome.covered) (Some τ)
   step_covered k = record {
     below_last = λ e c. reached_after e.signature (inv.below_last e c);
     within = inv.within;
-    sound = record {
-      nonzero = inv.sound.nonzero;
-      entries = inv.sound.entries;
-      syzygies = inv.sound.syzygies;
-    };
+    sound = unchanged_sound (state.covered + 1) state.settled;
     clear = inv.clear;
     generators =
         generators_step Outcome.covered
@@ -385,11 +391,7 @@ module _ (P : Problem) (field : IsField P.setting.prime) (state : State) (last :
   step_settled j not_unit b d best not_regular = record {
     below_last = λ e c. reached_after e.signature (inv.below_last e c);
     within = inv.within;
-    sound = record {
-      nonzero = inv.sound.nonzero;
-      entries = inv.sound.entries;
-      syzygies = inv.sound.syzygies;
-    };
+    sound = unchanged_sound state.covered (state.settled + 1);
     clear = inv.clear;
     generators = generators_step (Outcome.settled j) (λ i e. absurd (not_unit i e));
     ambiguities =
@@ -416,9 +418,9 @@ module _ (P : Problem) (field : IsField P.setting.prime) (state : State) (last :
     sound = record {
       nonzero = inv.sound.nonzero;
       entries = inv.sound.entries;
-      syzygies =
-          λ h c. label h (Contains-push_cases state.syzygies
-          (record { signature = τ; trace = record { start = start; steps = steps } }) h c);
+      syzygies = each_pushed (λ h. (α : Element) × IsLabelled P.setting h.signature [] α)
+          state.syzygies (record { signature = τ; trace = record { start = start; steps = steps } })
+          inv.sound.syzygies (carried.0, labelled_from P.setting τ [] carried.0 carried.1);
     };
     clear = inv.clear;
     generators =
@@ -453,16 +455,6 @@ module _ (P : Problem) (field : IsField P.setting.prime) (state : State) (last :
           starts_carry P.setting field state inv.sound τ module_τ starts in
           carry P.setting field state.entries inv.sound.entries τ reduction (λ y. 0) t.0 t.1
 
-      label : (h : Syzygy) → Contains state.syzygies h
-          ⊎ (record { signature = τ; trace = record { start = start; steps = steps } } ≡ h)
-          → (α : Element) × IsLabelled P.setting h.signature [] α
-      label h (inl c) = inv.sound.syzygies h c
-      label h (inr e) =
-          subst (λ g. (α : Element) × IsLabelled P.setting g.signature [] α) e (
-            carried.0,
-            labelled_from P.setting τ [] carried.0 carried.1,
-          )
-
   module _ {f kept : Polynomial} {t : Term Word} {start : Start} {steps : List Step}
       (starts : Starts P.setting state.entries τ f start)
       (reduction : ReductionAt P.setting state.entries τ f (t ∷ kept) steps) where
@@ -489,6 +481,10 @@ module _ (P : Problem) (field : IsField P.setting.prime) (state : State) (last :
     old_or_new : (e : Entry) → Contains entries' e → Contains state.entries e
         ⊎ (new_entry τ (t ∷ kept) trace ≡ e)
     old_or_new e c = Contains-push_cases state.entries (new_entry τ (t ∷ kept) trace) e c
+
+    each_new : (Good : Entry → Type 0) → ((e : Entry) → Contains state.entries e → Good e)
+        → Good (new_entry τ (t ∷ kept) trace) → (e : Entry) → Contains entries' e → Good e
+    each_new Good = each_pushed Good state.entries (new_entry τ (t ∷ kept) trace)
 
     new_multiple : Multiple P.setting entries' τ t.key
     new_multiple =
@@ -617,11 +613,15 @@ module _ (P : Problem) (field : IsField P.setting.prime) (state : State) (last :
 
     step_entry : Invariant P (state_after state τ (Outcome.an_entry (t ∷ kept) trace)) (Some τ)
     step_entry = record {
-      below_last = λ e c. reached e (old_or_new e c);
-      within = λ e c. inside e (old_or_new e c);
+      below_last = each_new (λ e. IsReached P.setting (Some τ) e.signature)
+          (λ e c. reached_after e.signature (inv.below_last e c)) (inl refl);
+      within = each_new (λ e. IsWithin P e.signature) inv.within next.candidate.0;
       sound = record {
-        nonzero = λ e c. something e (old_or_new e c);
-        entries = λ e c. label e (old_or_new e c);
+        nonzero = each_new (λ e. ¬ IsZeroPolynomial P.setting e.polynomial) inv.sound.nonzero
+            new_nonzero;
+        entries = each_new (λ e. (α : Element) × IsLabelled P.setting e.signature e.polynomial α)
+            inv.sound.entries
+            (carried.0, labelled_from P.setting τ (t ∷ kept) carried.0 carried.1);
         syzygies = inv.sound.syzygies;
       };
       clear = λ e c. clean e (old_or_new e c);
@@ -635,21 +635,6 @@ module _ (P : Problem) (field : IsField P.setting.prime) (state : State) (last :
       ambiguities = ambiguities_new;
     }
       where
-        reached : (e : Entry) → Contains state.entries e ⊎ (new_entry τ (t ∷ kept) trace ≡ e)
-            → (e.signature ≡ τ) ⊎ IsLess P.setting e.signature τ
-        reached e (inl c) = reached_after e.signature (inv.below_last e c)
-        reached e (inr i) = inl (ap (λ x. x.signature) (sym i))
-
-        inside : (e : Entry) → Contains state.entries e ⊎ (new_entry τ (t ∷ kept) trace ≡ e)
-            → IsWithin P e.signature
-        inside e (inl c) = inv.within e c
-        inside e (inr i) = subst (λ x. IsWithin P x.signature) i next.candidate.0
-
-        something : (e : Entry) → Contains state.entries e ⊎ (new_entry τ (t ∷ kept) trace ≡ e)
-            → ¬ IsZeroPolynomial P.setting e.polynomial
-        something e (inl c) = inv.sound.nonzero e c
-        something e (inr i) = subst (λ x. ¬ IsZeroPolynomial P.setting x.polynomial) i new_nonzero
-
         -- a multiple of the new entry has a signature of at least τ
         not_below : (σ : Monomial) (x : Word) (v : Divisor P.setting entries' x)
             → new_entry τ (t ∷ kept) trace ≡ v.entry → (σ ≡ τ) ⊎ IsLess P.setting σ τ
@@ -707,13 +692,6 @@ module _ (P : Problem) (field : IsField P.setting.prime) (state : State) (last :
             let b : (α : Element) × Carries P.setting τ f (λ y. 0) α =
             starts_carry P.setting field state inv.sound τ module_τ starts in
             carry P.setting field state.entries inv.sound.entries τ reduction (λ y. 0) b.0 b.1
-
-        label : (e : Entry) → Contains state.entries e ⊎ (new_entry τ (t ∷ kept) trace ≡ e)
-            → (α : Element) × IsLabelled P.setting e.signature e.polynomial α
-        label e (inl c) = inv.sound.entries e c
-        label e (inr i) =
-            subst (λ x. (α : Element) × IsLabelled P.setting x.signature x.polynomial α) i
-            (carried.0, labelled_from P.setting τ (t ∷ kept) carried.0 carried.1)
 
   step_handled : {o : Outcome} → Handles P.setting state τ o
       → Invariant P (state_after state τ o) (Some τ)

@@ -29,30 +29,27 @@ extension_refl state =
       };
     }
 
+-- the counts do not matter
+extension_kept : (state later : State) (covered settled : ℕ) → Extension state later
+    → Extension state (record later { covered = covered; settled = settled })
+extension_kept state later covered settled x =
+    record {
+      es = x.es;
+      hs = x.hs;
+      is = λ i. record {
+        entries = (x.is i).entries;
+        syzygies = (x.is i).syzygies;
+        covered = covered;
+        settled = settled;
+      };
+    }
+
 extension_after : (state later : State) (τ : Monomial) (o : Outcome) → Extension state later
     → Extension state (state_after later τ o)
 extension_after state later τ Outcome.covered x =
-    record {
-      es = x.es;
-      hs = x.hs;
-      is = λ i. record {
-        entries = (x.is i).entries;
-        syzygies = (x.is i).syzygies;
-        covered = later.covered + 1;
-        settled = later.settled;
-      };
-    }
+    extension_kept state later (later.covered + 1) later.settled x
 extension_after state later τ (Outcome.settled j) x =
-    record {
-      es = x.es;
-      hs = x.hs;
-      is = λ i. record {
-        entries = (x.is i).entries;
-        syzygies = (x.is i).syzygies;
-        covered = later.covered;
-        settled = later.settled + 1;
-      };
-    }
+    extension_kept state later later.covered (later.settled + 1) x
 extension_after state later τ (Outcome.an_entry f trace) x =
     let e : later.entries ++ (record { signature = τ; polynomial = f; trace = trace } ∷ [])
     ≡ state.entries ++ (x.es ++ (record { signature = τ; polynomial = f; trace = trace } ∷ []))

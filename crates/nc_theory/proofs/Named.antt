@@ -8,18 +8,18 @@ use Rattle.nc_algebra.specs.Primes.{IsField, IsPrime}
 use Rattle.nc_algebra.specs.Problems.{IsProblem, NamedProblem, setting_of}
 use Rattle.nc_theory.proofs.OverAlphabet.{generator_over, polynomial_in, word_in}
 use Rattle.nc_theory.proofs.Snapshots.{facts}
-use Rattle.nc_theory.proofs.Untraced.{in_place, in_place_alike, in_place_listed}
+use Rattle.nc_theory.proofs.Untraced.{each_alike}
 use Rattle.nc_theory.proofs.UntracedRuns.{same_run}
 use Rattle.nc_theory.proofs.UntracedStates.{SameStates, moved_candidate, same_entries, same_syzygies}
 use Rattle.nc_theory.specs.Named.{IsMonomialIn, IsOverAlphabet, alphabet_letters}
-use Rattle.nc_theory.specs.Untraced.{IsEndOf, IsRunOf, SameEntries, SameSyzygies, untraced_entry, untraced_syzygy}
+use Rattle.nc_theory.specs.Untraced.{IsEndOf, IsRunOf, untraced_entry, untraced_syzygy}
 use Rattle.nc_theory.specs.Usable.{IsUsable}
 use Rattle.nc_theory.proofs.Completeness.{invariant}
 use Rattle.nc_theory.proofs.Steps.{candidate_over, enough_steps, run_over, syzygies_are}
 use Rattle.nc_theory.specs.Letters.{AreOver}
 use Rattle.nc_theory.specs.Runs.{End}
 use Rattle.nc_theory.specs.States.{Entry, State, Syzygy}
-use Rattle.std.proofs.Common.{Contains, List, length, subst, sym, ℕ, ◌≡◌, ◌≤◌}
+use Rattle.std.proofs.Common.{Contains, List, length, subst, ℕ, ◌≡◌, ◌≤◌}
 use Rattle.nc_algebra.specs.Words.{Letter}
 
 module _ (P : NamedProblem) (is : IsProblem P) (prime : IsPrime P.problem.setting.prime) where
@@ -50,25 +50,15 @@ module _ (P : NamedProblem) (is : IsProblem P) (prime : IsPrime P.problem.settin
       polynomial_in P.alphabet P.problem.setting e.polynomial usable.normal words,
     )
       where
-        es : SameEntries state.entries r.run.entries
-        es = same_entries state r.run same
-
-        d : Entry
-        d = in_place untraced_entry state.entries r.run.entries es e k
-
-        listed : Contains r.run.entries d
-        listed = in_place_listed untraced_entry state.entries r.run.entries es e k
-
-        alike : untraced_entry d ≡ untraced_entry e
-        alike = sym (in_place_alike untraced_entry state.entries r.run.entries es e k)
-
         ends : IsOver letters e.signature.left × IsOver letters e.signature.right
-        ends = subst (λ (x : Entry). IsOver letters x.signature.left
-            × IsOver letters x.signature.right) alike (over.left d listed, over.right d listed)
+        ends = each_alike untraced_entry state.entries r.run.entries (same_entries state r.run same)
+            (λ (x : Entry). IsOver letters x.signature.left × IsOver letters x.signature.right)
+            (λ d c. (over.left d c, over.right d c)) e k
 
         words : WordsAre P.problem.setting (IsOver letters) e.polynomial
-        words = subst (λ (x : Entry). WordsAre P.problem.setting (IsOver letters) x.polynomial)
-            alike (over.words d listed)
+        words = each_alike untraced_entry state.entries r.run.entries
+            (same_entries state r.run same)
+            (λ (x : Entry). WordsAre P.problem.setting (IsOver letters) x.polynomial) over.words e k
 
         usable : IsUsable P.problem.setting e
         usable =
@@ -76,27 +66,13 @@ module _ (P : NamedProblem) (is : IsProblem P) (prime : IsPrime P.problem.settin
 
     syzygy_in : (h : Syzygy) → Contains state.syzygies h → IsMonomialIn P.alphabet h.signature
     syzygy_in h k =
-        monomial_in h.signature (subst (λ (x : Syzygy). IsOver letters x.signature.left
-        × IsOver letters x.signature.right) alike (all d listed))
-      where
-        hs : SameSyzygies state.syzygies r.run.syzygies
-        hs = same_syzygies state r.run same
-
-        d : Syzygy
-        d = in_place untraced_syzygy state.syzygies r.run.syzygies hs h k
-
-        listed : Contains r.run.syzygies d
-        listed = in_place_listed untraced_syzygy state.syzygies r.run.syzygies hs h k
-
-        alike : untraced_syzygy d ≡ untraced_syzygy h
-        alike = sym (in_place_alike untraced_syzygy state.syzygies r.run.syzygies hs h k)
-
-        all : (g : Syzygy) → Contains r.run.syzygies g → IsOver letters g.signature.left
-            × IsOver letters g.signature.right
-        all = syzygies_are P.problem (λ σ. IsOver letters σ.left × IsOver letters σ.right)
-            (λ k before since q. candidate_over P.problem field letters inputs before
-            (invariant P.problem field q).sound.nonzero
-            (run_over P.problem field letters inputs q)) r.runs
+        monomial_in h.signature (each_alike untraced_syzygy state.syzygies r.run.syzygies
+        (same_syzygies state r.run same)
+        (λ (x : Syzygy). IsOver letters x.signature.left × IsOver letters x.signature.right)
+        (syzygies_are P.problem (λ σ. IsOver letters σ.left × IsOver letters σ.right)
+        (λ k before since q. candidate_over P.problem field letters inputs before
+        (invariant P.problem field q).sound.nonzero
+        (run_over P.problem field letters inputs q)) r.runs) h k)
 
     pub over_alphabet : IsOverAlphabet P state
     over_alphabet = record {

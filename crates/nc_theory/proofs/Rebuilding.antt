@@ -12,9 +12,10 @@ use Rattle.nc_algebra.specs.Polynomials.{Polynomial, coefficient}
 use Rattle.nc_algebra.specs.Primes.{IsField}
 use Rattle.nc_algebra.specs.Problems.{Problem}
 use Rattle.nc_algebra.specs.Words.{Word}
-use Rattle.nc_theory.proofs.Completeness.{Invariant, IsReached, invariant, reached_less}
+use Rattle.nc_theory.proofs.Completeness.{Invariant, IsReached, invariant, new_entry, reached_less}
 use Rattle.nc_theory.proofs.Determinism.{reduction_unique, starts_unique}
 use Rattle.nc_theory.proofs.Places.{at_most_multiple}
+use Rattle.nc_theory.proofs.Pushed.{each_pushed}
 use Rattle.nc_theory.proofs.Relisted.{relisted}
 use Rattle.nc_theory.proofs.Stale.{front_or_later, in_front}
 use Rattle.nc_theory.proofs.Traces.{only_one}
@@ -23,8 +24,7 @@ use Rattle.nc_theory.specs.Rebuilding.{IsAtLeast, Rebuilds}
 use Rattle.nc_theory.specs.Reductions.{Reduction, ReductionAt}
 use Rattle.nc_theory.specs.Runs.{Handles, IsNext, Outcome, SequentialRun, Starts, state_after}
 use Rattle.nc_theory.specs.States.{Entry, Start, State, Step, Syzygy, Trace}
-use Rattle.std.proofs.Common.{Contains, List, Option, Some, [], ap, ap₂, append-nil, append_assoc, arith, get_or, inl, inr, length, length-append, refl, subst, suc, sym, ℕ, ◌%◌, ◌++◌, ◌<◌, ◌↔◌, ◌∙◌, ◌∷◌, ◌≡◌, ◌≤◌, ◌⊎◌}
-use Rattle.std.proofs.lemmas.List.Elements.{Contains-push_cases}
+use Rattle.std.proofs.Common.{Contains, List, Option, Some, [], ap, ap₂, append-nil, append_assoc, arith, get_or, inl, inr, length, length-append, refl, subst, suc, sym, ℕ, ◌%◌, ◌+◌, ◌++◌, ◌<◌, ◌↔◌, ◌∙◌, ◌∷◌, ◌≡◌, ◌≤◌, ◌⊎◌}
 
 -- a multiple of an entry with a signature of at least τ has one too
 pub from_not_below : (s : Setting) (τ : Monomial) (e : Entry) (u v : Word) → IsAtLeast s τ e
@@ -180,15 +180,11 @@ more s entries σ trace result r new f =
       rest = r.rest ++ (new ∷ []);
       splits = ap (λ l. l ++ (new ∷ [])) r.splits ∙ append_assoc r.first r.rest (new ∷ []);
       lesser = r.lesser;
-      others = λ e c. go e (Contains-push_cases r.rest new e c);
+      others = each_pushed (IsAtLeast s σ) r.rest new r.others f;
       start = r.start;
       starts = r.starts;
       reduces = r.reduces;
     }
-  where
-    go : (e : Entry) → Contains r.rest e ⊎ (new ≡ e) → IsAtLeast s σ e
-    go e (inl c) = r.others e c
-    go e (inr i) = subst (IsAtLeast s σ) i f
 
 -- a list that ascends still does with a greater element behind
 ascend_push : {X : Type 0} (s : Setting) (sig : X → Monomial) (xs : List X) (new : X)
@@ -246,28 +242,28 @@ module _ (P : Problem) (field : IsField P.setting.prime) (state : State) (last :
         reduces = reduction;
       }
 
+  -- where nothing is listed
+  unchanged : (covered settled : ℕ)
+      → Rebuilt P (record state { covered = covered; settled = settled }) (Some τ)
+  unchanged covered settled =
+      record {
+        entries = old.entries;
+        syzygies = old.syzygies;
+        reached = still;
+        entries_ascend = old.entries_ascend;
+        syzygies_ascend = old.syzygies_ascend;
+      }
+
   rebuilt_step : {o : Outcome} → Handles P.setting state τ o
       → Rebuilt P (state_after state τ o) (Some τ)
-  rebuilt_step (Handles.is_covered k) =
-      record {
-        entries = old.entries;
-        syzygies = old.syzygies;
-        reached = still;
-        entries_ascend = old.entries_ascend;
-        syzygies_ascend = old.syzygies_ascend;
-      }
-  rebuilt_step (Handles.is_settled n u w d b m) =
-      record {
-        entries = old.entries;
-        syzygies = old.syzygies;
-        reached = still;
-        entries_ascend = old.entries_ascend;
-        syzygies_ascend = old.syzygies_ascend;
-      }
+  rebuilt_step (Handles.is_covered k) = unchanged (state.covered + 1) state.settled
+  rebuilt_step (Handles.is_settled n u w d b m) = unchanged state.covered (state.settled + 1)
   rebuilt_step (Handles.is_syzygy n {start = start} {steps = steps} starts reduction) = record {
     entries = old.entries;
-    syzygies = λ h c. each h (Contains-push_cases state.syzygies new h c);
-    reached = λ h c. reach h (Contains-push_cases state.syzygies new h c);
+    syzygies = each_pushed (λ h. Rebuilds P.setting state.entries h.signature h.trace [])
+        state.syzygies new old.syzygies (now starts reduction);
+    reached = each_pushed (λ h. IsReached P.setting (Some τ) h.signature) state.syzygies new still
+        (inl refl);
     entries_ascend = old.entries_ascend;
     syzygies_ascend =
         ascend_push P.setting (λ h. h.signature) state.syzygies new old.syzygies_ascend below';
@@ -275,80 +271,26 @@ module _ (P : Problem) (field : IsField P.setting.prime) (state : State) (last :
     where
       new : Syzygy
       new = record { signature = τ; trace = record { start = start; steps = steps } }
-
-      each : (h : Syzygy) → Contains state.syzygies h ⊎ (new ≡ h)
-          → Rebuilds P.setting state.entries h.signature h.trace []
-      each h (inl c) = old.syzygies h c
-      each h (inr i) =
-          subst (λ g. Rebuilds P.setting state.entries g.signature g.trace []) i
-          (now starts reduction)
-
-      reach : (h : Syzygy) → Contains state.syzygies h ⊎ (new ≡ h)
-          → IsReached P.setting (Some τ) h.signature
-      reach h (inl c) = still h c
-      reach h (inr i) = inl (ap (λ g. g.signature) (sym i))
   rebuilt_step (Handles.is_entry n {kept = kept} {t = t} {start = start} {steps = steps} starts
       reduction) = record {
-        entries =
-            λ e c. each e (Contains-push_cases state.entries
-            (record {
-              signature = τ;
-              polynomial = t ∷ kept;
-              trace = record { start = start; steps = steps };
-            }) e c);
+        entries = each_pushed
+            (λ e. Rebuilds P.setting (state.entries ++ (new ∷ [])) e.signature e.trace e.polynomial)
+            state.entries new
+            (λ e c. more P.setting state.entries e.signature e.trace e.polynomial (old.entries e c)
+            new (inr (below e c)))
+            (more P.setting state.entries τ (record { start = start; steps = steps }) (t ∷ kept)
+            (now starts reduction) new (inl refl));
         syzygies =
-            λ h c. more P.setting state.entries h.signature h.trace [] (old.syzygies h c)
-            (record {
-              signature = τ;
-              polynomial = t ∷ kept;
-              trace = record { start = start; steps = steps };
-            }) (inr (below' h c));
+            λ h c. more P.setting state.entries h.signature h.trace [] (old.syzygies h c) new
+            (inr (below' h c));
         reached = still;
         entries_ascend =
-            ascend_push P.setting (λ e. e.signature) state.entries
-            (record {
-              signature = τ;
-              polynomial = t ∷ kept;
-              trace = record { start = start; steps = steps };
-            }) old.entries_ascend below;
+            ascend_push P.setting (λ e. e.signature) state.entries new old.entries_ascend below;
         syzygies_ascend = old.syzygies_ascend;
       }
     where
-      each : (e : Entry) → Contains state.entries e
-          ⊎ (record {
-            signature = τ;
-            polynomial = t ∷ kept;
-            trace = record { start = start; steps = steps };
-          } ≡ e)
-          → Rebuilds P.setting (state.entries
-          ++ (record {
-            signature = τ;
-            polynomial = t ∷ kept;
-            trace = record { start = start; steps = steps };
-          } ∷ [])) e.signature e.trace
-          e.polynomial
-      each e (inl c) =
-          more P.setting state.entries e.signature e.trace e.polynomial (old.entries e c)
-          (record {
-            signature = τ;
-            polynomial = t ∷ kept;
-            trace = record { start = start; steps = steps };
-          }) (inr (below e c))
-      each e (inr i) =
-          subst (λ g. Rebuilds P.setting
-          (state.entries ++ (record {
-            signature = τ;
-            polynomial = t ∷ kept;
-            trace = record { start = start; steps = steps };
-          } ∷ []))
-          g.signature g.trace g.polynomial) i
-          (more P.setting state.entries τ (record { start = start; steps = steps }) (t ∷ kept)
-          (now starts reduction) (record {
-            signature = τ;
-            polynomial = t ∷ kept;
-            trace = record { start = start; steps = steps };
-          })
-          (inl refl))
+      new : Entry
+      new = new_entry τ (t ∷ kept) (record { start = start; steps = steps })
 
 pub rebuilt : (P : Problem) → IsField P.setting.prime
     → {n : ℕ} {state : State} {last : Option Monomial} → SequentialRun P n state last

@@ -6,7 +6,7 @@ use Rattle.nc_algebra.specs.Polynomials.{IsNormal}
 use Rattle.nc_algebra.specs.Primes.{IsField, IsPrime}
 use Rattle.nc_algebra.specs.Problems.{IsProblem, IsWithin, NamedProblem, bound_degree, setting_of}
 use Rattle.nc_theory.proofs.Reached.{entry_signed, run_usable, syzygy_signed}
-use Rattle.nc_theory.proofs.Untraced.{in_place, in_place_alike, in_place_listed, same_length}
+use Rattle.nc_theory.proofs.Untraced.{ascend_alike, each_alike, same_length}
 use Rattle.nc_theory.proofs.UntracedRuns.{same_run}
 use Rattle.nc_theory.proofs.UntracedStates.{same_entries, same_syzygies}
 use Rattle.nc_theory.specs.UntracedLaws.{SnapshotFacts}
@@ -16,7 +16,7 @@ use Rattle.nc_theory.proofs.Completeness.{invariant}
 use Rattle.nc_theory.proofs.Counting.{counts}
 use Rattle.nc_theory.proofs.Rebuilding.{rebuilt}
 use Rattle.nc_theory.specs.States.{Entry, State, Syzygy}
-use Rattle.std.proofs.Common.{Contains, [], ap, arith, get_or, length, refl, subst, sym, ℕ, ◌+◌, ◌<◌, ◌≡◌, ◌≢◌, ◌≤◌}
+use Rattle.std.proofs.Common.{Contains, [], ap, arith, get_or, length, refl, subst, ℕ, ◌+◌, ◌<◌, ◌≡◌, ◌≢◌, ◌≤◌}
 use Rattle.std.proofs.lemmas.List.{get_or_default}
 use Rattle.std.specs.List.{All}
 
@@ -43,35 +43,20 @@ module _ (P : NamedProblem) (is : IsProblem P) (prime : IsPrime P.problem.settin
   hs : SameSyzygies state.syzygies r.run.syzygies
   hs = same_syzygies state r.run (same_run state r.run r.stands)
 
-  abbrev entry : (e : Entry) → Contains state.entries e → Entry
-  entry e k = in_place untraced_entry state.entries r.run.entries es e k
-
-  abbrev entry_listed : (e : Entry) (k : Contains state.entries e)
-      → Contains r.run.entries (entry e k)
-  entry_listed e k = in_place_listed untraced_entry state.entries r.run.entries es e k
-
-  entry_alike : (e : Entry) (k : Contains state.entries e)
-      → untraced_entry (entry e k) ≡ untraced_entry e
-  entry_alike e k = sym (in_place_alike untraced_entry state.entries r.run.entries es e k)
-
-  abbrev syzygy : (h : Syzygy) → Contains state.syzygies h → Syzygy
-  syzygy h k = in_place untraced_syzygy state.syzygies r.run.syzygies hs h k
-
-  abbrev syzygy_listed : (h : Syzygy) (k : Contains state.syzygies h)
-      → Contains r.run.syzygies (syzygy h k)
-  syzygy_listed h k = in_place_listed untraced_syzygy state.syzygies r.run.syzygies hs h k
-
-  syzygy_alike : (h : Syzygy) (k : Contains state.syzygies h)
-      → untraced_syzygy (syzygy h k) ≡ untraced_syzygy h
-  syzygy_alike h k = sym (in_place_alike untraced_syzygy state.syzygies r.run.syzygies hs h k)
-
   all_usable : All (IsUsable P.problem.setting) state.entries
   all_usable k e l =
-      usable_like P.problem.setting (entry x listed) x (entry_alike x listed)
-      (subst (IsUsable P.problem.setting) (entry_listed x listed).2
-      (run_usable (setting_of P) is.setting field P.problem refl limit r.runs k (entry x listed)
-      (entry_listed x listed).1))
+      each_alike untraced_entry state.entries r.run.entries es Alike each x listed x refl
     where
+      -- usable is each entry with its signature and its polynomial
+      Alike : Entry → Type 0
+      Alike d = (x : Entry) → d ≡ untraced_entry x → IsUsable P.problem.setting x
+
+      each : (d : Entry) → Contains r.run.entries d → Alike (untraced_entry d)
+      each d c x alike =
+          usable_like P.problem.setting d x alike
+          (subst (IsUsable P.problem.setting) c.2
+          (run_usable (setting_of P) is.setting field P.problem refl limit r.runs c.0 d c.1))
+
       x : Entry
       x = get_or state.entries k e
 
@@ -80,40 +65,37 @@ module _ (P : NamedProblem) (is : IsProblem P) (prime : IsPrime P.problem.settin
 
   entry_within : (e : Entry) → Contains state.entries e → IsWithin P.problem e.signature
       × IsUsableSignature P.problem.setting e.signature
-  entry_within e k =
-      subst (λ (x : Entry). IsWithin P.problem x.signature
-      × IsUsableSignature P.problem.setting x.signature) (entry_alike e k) (
-        (invariant P.problem field r.runs).within (entry e k) (entry_listed e k),
-        entry_signed (setting_of P) is.setting field P.problem refl limit r.runs (entry e k)
-            (entry_listed e k),
-      )
+  entry_within =
+      each_alike untraced_entry state.entries r.run.entries es
+      (λ (x : Entry). IsWithin P.problem x.signature
+      × IsUsableSignature P.problem.setting x.signature)
+      (λ d c. (
+        (invariant P.problem field r.runs).within d c,
+        entry_signed (setting_of P) is.setting field P.problem refl limit r.runs d c,
+      ))
 
   syzygy_within : (h : Syzygy) → Contains state.syzygies h → IsWithin P.problem h.signature
       × IsUsableSignature P.problem.setting h.signature
-  syzygy_within h k =
-      subst (λ (x : Syzygy). IsWithin P.problem x.signature
-      × IsUsableSignature P.problem.setting x.signature) (syzygy_alike h k)
-      (syzygy_signed (setting_of P) is.setting field P.problem refl limit r.runs (syzygy h k)
-      (syzygy_listed h k))
+  syzygy_within =
+      each_alike untraced_syzygy state.syzygies r.run.syzygies hs
+      (λ (x : Syzygy). IsWithin P.problem x.signature
+      × IsUsableSignature P.problem.setting x.signature)
+      (syzygy_signed (setting_of P) is.setting field P.problem refl limit r.runs)
 
   entries_ascend : (e e' : Entry) (k : Contains state.entries e) (k' : Contains state.entries e')
       → k.0 < k'.0 → IsLess P.problem.setting e.signature e'.signature
-  entries_ascend e e' k k' l =
-      subst (λ (x : Entry). IsLess P.problem.setting e.signature x.signature) (entry_alike e' k')
-      (subst (λ (x : Entry). IsLess P.problem.setting x.signature (entry e' k').signature)
-      (entry_alike e k)
-      ((rebuilt P.problem field r.runs).entries_ascend (entry e k) (entry e' k') (entry_listed e k)
-      (entry_listed e' k') l))
+  entries_ascend =
+      ascend_alike untraced_entry state.entries r.run.entries es
+      (λ (x : Entry) (y : Entry). IsLess P.problem.setting x.signature y.signature)
+      (rebuilt P.problem field r.runs).entries_ascend
 
   syzygies_ascend : (h h' : Syzygy) (k : Contains state.syzygies h)
       (k' : Contains state.syzygies h') → k.0 < k'.0
       → IsLess P.problem.setting h.signature h'.signature
-  syzygies_ascend h h' k k' l =
-      subst (λ (x : Syzygy). IsLess P.problem.setting h.signature x.signature) (syzygy_alike h' k')
-      (subst (λ (x : Syzygy). IsLess P.problem.setting x.signature (syzygy h' k').signature)
-      (syzygy_alike h k)
-      ((rebuilt P.problem field r.runs).syzygies_ascend (syzygy h k) (syzygy h' k')
-      (syzygy_listed h k) (syzygy_listed h' k') l))
+  syzygies_ascend =
+      ascend_alike untraced_syzygy state.syzygies r.run.syzygies hs
+      (λ (x : Syzygy) (y : Syzygy). IsLess P.problem.setting x.signature y.signature)
+      (rebuilt P.problem field r.runs).syzygies_ascend
 
   counted : n ≡ state.covered + state.settled + length state.entries + length state.syzygies
   counted =

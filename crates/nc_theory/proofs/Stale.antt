@@ -361,38 +361,18 @@ module _ (s : Setting) (field : IsField s.prime) (old : State) (nonzero : (e : E
         kept v (Keeps.keeps_settled w' d best' i) r =
             not_regular (subst (RegularDivisor s (old.entries ++ es) τ)
             (same_word_at w' d best'.signed w e best.signed (omega (arith, i))) r.0)
-    stood alive (Handles.is_syzygy n {start = start} {steps = steps} starts reduction) =
+    stood alive (Handles.is_syzygy n starts reduction) =
         inr (record {
           uncovered = λ k. n (newly_covers k);
-          start = λ w g. begun w g;
-          kept = λ w g. none w g;
+          start = λ w g. elim g [ CameFrom.from_syzygy h ↦ started starts w h ];
+          kept = λ w g r. elim g [ ];
         })
-      where
-        begun : (w : Word) → CameFrom s old τ
-            (Outcome.a_syzygy (record { start = start; steps = steps })) w → (v : Word)
-            → NewMultiple s old es hs τ v → ¬ IsWordLess v w
-        begun w (CameFrom.from_syzygy g) = started starts w g
-
-        none : (w : Word) → Keeps s old τ
-            (Outcome.a_syzygy (record { start = start; steps = steps })) w
-            → ¬ NewRegular s old es hs τ w
-        none w g r = elim g [ ]
-    stood alive (Handles.is_entry n {kept = tail} {t = t} {start = start} {steps = steps} starts
-        reduction) =
+    stood alive (Handles.is_entry n starts reduction) =
         inr (record {
           uncovered = λ k. n (newly_covers k);
-          start = λ w g. begun w g;
-          kept = λ w g. none w g;
+          start = λ w g. elim g [ CameFrom.from_entry h ↦ started starts w h ];
+          kept = λ w g r. elim g [
+            | Keeps.keeps_entry nz ↦ kept_clear s field (old.entries ++ es) alive
+                (λ σ. IsLess s σ τ) reduction w nz r.0.divisor r.0.below
+          ];
         })
-      where
-        begun : (w : Word) → CameFrom s old τ
-            (Outcome.an_entry (t ∷ tail) (record { start = start; steps = steps })) w → (v : Word)
-            → NewMultiple s old es hs τ v → ¬ IsWordLess v w
-        begun w (CameFrom.from_entry g) = started starts w g
-
-        none : (w : Word) → Keeps s old τ
-            (Outcome.an_entry (t ∷ tail) (record { start = start; steps = steps })) w
-            → ¬ NewRegular s old es hs τ w
-        none w (Keeps.keeps_entry nz) r =
-            kept_clear s field (old.entries ++ es) alive (λ σ. IsLess s σ τ) reduction w nz
-            r.0.divisor r.0.below

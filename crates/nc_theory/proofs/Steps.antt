@@ -17,8 +17,9 @@ use Rattle.nc_algebra.specs.Polynomials.{Polynomial, leading}
 use Rattle.nc_algebra.specs.Primes.{IsField}
 use Rattle.nc_algebra.specs.Problems.{Problem}
 use Rattle.nc_algebra.specs.Words.{Letter, Word}
-use Rattle.nc_theory.proofs.Completeness.{invariant}
+use Rattle.nc_theory.proofs.Completeness.{invariant, new_entry}
 use Rattle.nc_theory.proofs.Properties.{minus_are, more_are, times_are}
+use Rattle.nc_theory.proofs.Pushed.{each_pushed}
 use Rattle.nc_theory.specs.Ambiguities.{Ambiguity}
 use Rattle.nc_theory.specs.Divisors.{Divisor, leading_at, multiple_at}
 use Rattle.nc_theory.specs.Letters.{AreOver}
@@ -27,7 +28,6 @@ use Rattle.nc_theory.specs.Runs.{End, Handles, IsAfter, IsCandidate, IsEnd, IsNe
 use Rattle.nc_theory.specs.States.{Entry, Start, State, Step, Syzygy}
 use Rattle.std.proofs.Common.{append-nil, Bool, Contains, Equal, Greater, Less, List, None, Option, Ordering, Some, [], ap, append_assoc, arith, false, inl, inr, length, length-append, refl, subst, sym, true, ℕ, ◌++◌, ◌<◌, ◌∙◌, ◌∷◌, ◌≡◌, ◌≤◌, ◌⊎◌}
 use Rattle.std.proofs.lemmas.Bool.{false≢true}
-use Rattle.std.proofs.lemmas.List.Elements.{Contains-push_cases}
 use Rattle.std.specs.Ordering.{MatchOrdering, is_le}
 
 module _ (s : Setting) (letters : List Letter) (inputs : (i : ℕ)
@@ -136,19 +136,14 @@ module _ (P : Problem) (A : Monomial → Type 0)
   syzygies_are (SequentialRun.handled {n = n} {state = state} {last = last} run τ next o k) h c =
       go (syzygies_are run) o c
     where
-      push : ((g : Syzygy) → Contains state.syzygies g → A g.signature) → (new : Syzygy)
-          → A new.signature → Contains state.syzygies h ⊎ (new ≡ h) → A h.signature
-      push old new a (inl d) = old h d
-      push old new a (inr i) = subst (λ g. A g.signature) i a
-
       go : ((g : Syzygy) → Contains state.syzygies g → A g.signature) → (o : Outcome)
           → Contains (state_after state τ o).syzygies h → A h.signature
       go old Outcome.covered d = old h d
       go old (Outcome.settled j) d = old h d
       go old (Outcome.an_entry f t) d = old h d
       go old (Outcome.a_syzygy t) d =
-          push old (record { signature = τ; trace = t }) (each n state last run τ next.candidate)
-          (Contains-push_cases state.syzygies (record { signature = τ; trace = t }) h d)
+          each_pushed (λ g. A g.signature) state.syzygies (record { signature = τ; trace = t }) old
+          (each n state last run τ next.candidate) h d
 
 module _ (P : Problem) (field : IsField P.setting.prime) (letters : List Letter) (inputs : (i : ℕ)
     → WordsAre P.setting (IsOver letters) (generator P.setting i)) where
@@ -181,63 +176,21 @@ module _ (P : Problem) (field : IsField P.setting.prime) (letters : List Letter)
   over_step state alive over τ c
       (Handles.is_entry n {kept = kept} {t = t} {start = start} {steps = steps} starts reduction) =
       record {
-        left = λ e k. left e (Contains-push_cases state.entries
-            (record {
-              signature = τ;
-              polynomial = t ∷ kept;
-              trace = record { start = start; steps = steps };
-            }) e k);
-        right = λ e k. right e (Contains-push_cases state.entries
-            (record {
-              signature = τ;
-              polynomial = t ∷ kept;
-              trace = record { start = start; steps = steps };
-            }) e k);
-        words = λ e k. words e (Contains-push_cases state.entries
-            (record {
-              signature = τ;
-              polynomial = t ∷ kept;
-              trace = record { start = start; steps = steps };
-            }) e k);
+        left = each_pushed (λ e. IsOver letters e.signature.left) state.entries new over.left
+            ends.0;
+        right = each_pushed (λ e. IsOver letters e.signature.right) state.entries new over.right
+            ends.1;
+        words = each_pushed (λ e. WordsAre P.setting (IsOver letters) e.polynomial) state.entries
+            new over.words (reduction_over P.setting letters inputs state.entries alive over
+            (λ σ. IsLess P.setting σ τ) reduction
+            (starts_over P.setting letters inputs state.entries alive over τ ends.0 ends.1 starts));
       }
     where
-      left : (e : Entry) → Contains state.entries e
-          ⊎ (record {
-            signature = τ;
-            polynomial = t ∷ kept;
-            trace = record { start = start; steps = steps };
-          } ≡ e)
-          → IsOver letters e.signature.left
-      left e (inl k) = over.left e k
-      left e (inr i) =
-          subst (λ g. IsOver letters g.signature.left) i (candidate_over state alive over τ c).0
+      new : Entry
+      new = new_entry τ (t ∷ kept) (record { start = start; steps = steps })
 
-      right : (e : Entry) → Contains state.entries e
-          ⊎ (record {
-            signature = τ;
-            polynomial = t ∷ kept;
-            trace = record { start = start; steps = steps };
-          } ≡ e)
-          → IsOver letters e.signature.right
-      right e (inl k) = over.right e k
-      right e (inr i) =
-          subst (λ g. IsOver letters g.signature.right) i (candidate_over state alive over τ c).1
-
-      words : (e : Entry) → Contains state.entries e
-          ⊎ (record {
-            signature = τ;
-            polynomial = t ∷ kept;
-            trace = record { start = start; steps = steps };
-          } ≡ e)
-          → WordsAre P.setting (IsOver letters) e.polynomial
-      words e (inl k) = over.words e k
-      words e (inr i) =
-          subst (λ g. WordsAre P.setting (IsOver letters) g.polynomial) i
-          (reduction_over P.setting letters inputs state.entries alive over
-          (λ σ. IsLess P.setting σ τ) reduction
-          (starts_over P.setting letters inputs state.entries alive over τ
-          (candidate_over state alive over τ c).0 (candidate_over state alive over τ c).1
-          starts))
+      ends : IsOver letters τ.left × IsOver letters τ.right
+      ends = candidate_over state alive over τ c
 
   -- so all of a run is over the letters of the generators
   pub run_over : {n : ℕ} {state : State} {last : Option Monomial} → SequentialRun P n state last

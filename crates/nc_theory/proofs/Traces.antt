@@ -15,13 +15,13 @@ use Rattle.nc_algebra.specs.Words.{Word}
 use Rattle.nc_theory.proofs.Carrying.{Carries, back_and_forth, subtracted}
 use Rattle.nc_theory.proofs.Chains.{coefficient_polynomial_minus, sum_mod}
 use Rattle.nc_theory.proofs.Completeness.{labelled_from, unit_carries}
+use Rattle.nc_theory.proofs.Pushed.{each_pushed}
 use Rattle.nc_theory.proofs.Stale.{front_or_later}
 use Rattle.nc_theory.specs.Labels.{label_at, labels_of, labels_onto, less_steps, start_label, trace_label}
 use Rattle.nc_theory.specs.Reductions.{Reduction, ReductionAt}
 use Rattle.nc_theory.specs.Runs.{Handles, Outcome, SequentialRun, Starts, state_after}
 use Rattle.nc_theory.specs.States.{Entry, Start, State, Step, Syzygy, Trace}
 use Rattle.std.proofs.Common.{Contains, List, Option, [], ap, arith, get_or, inl, inr, length, length-append, refl, subst, sym, ℕ, ◌%◌, ◌+◌, ◌++◌, ◌-◌, ◌<◌, ◌∙◌, ◌∷◌, ◌≡◌, ◌≤◌, ◌⊎◌}
-use Rattle.std.proofs.lemmas.List.Elements.{Contains-push_cases}
 use Rattle.std.proofs.lemmas.List.{get_or_append_left, get_or_at}
 
 -- ---- the list of labels
@@ -203,37 +203,20 @@ module _ (s : Setting) (field : IsField s.prime) (state : State) (old : LabelInv
       (Outcome.a_syzygy (record { start = start; steps = steps })))
   syzygy_labels {start = start} {steps = steps} starts reduction = record {
     entries = old.entries;
-    syzygies =
-        λ h k. label h (Contains-push_cases state.syzygies
-        (record { signature = τ; trace = record { start = start; steps = steps } }) h k);
-    names = λ h k. names h (Contains-push_cases state.syzygies
-        (record { signature = τ; trace = record { start = start; steps = steps } }) h k);
+    syzygies = each_pushed (λ h. IsLabelled s h.signature []
+        (trace_label s.prime (labels_of s.prime state.entries) h.trace)) state.syzygies new
+        old.syzygies (trace_labelled s field state.entries (labels_of s.prime state.entries)
+        old.entries τ inside starts reduction);
+    names = each_pushed (λ h. StartUpTo (length state.entries) h.trace.start
+        × NamesUpTo (length state.entries) h.trace.steps) state.syzygies new old.names (
+          start_names s field state.entries (labels_of s.prime state.entries) old.entries τ starts,
+          reduction_names s field state.entries (labels_of s.prime state.entries) old.entries τ
+              reduction,
+        );
   }
     where
-      label : (h : Syzygy) → Contains state.syzygies h
-          ⊎ (record { signature = τ; trace = record { start = start; steps = steps } } ≡ h)
-          → IsLabelled s h.signature [] (trace_label s.prime (labels_of s.prime state.entries)
-          h.trace)
-      label h (inl k) = old.syzygies h k
-      label h (inr e) =
-          subst (λ g. IsLabelled s g.signature []
-          (trace_label s.prime (labels_of s.prime state.entries) g.trace)) e
-          (trace_labelled s field state.entries (labels_of s.prime state.entries) old.entries τ
-          inside starts reduction)
-
-      names : (h : Syzygy) → Contains state.syzygies h
-          ⊎ (record { signature = τ; trace = record { start = start; steps = steps } } ≡ h)
-          → StartUpTo (length state.entries) h.trace.start
-          × NamesUpTo (length state.entries) h.trace.steps
-      names h (inl k) = old.names h k
-      names h (inr e) =
-          subst (λ g. StartUpTo (length state.entries) g.trace.start
-          × NamesUpTo (length state.entries) g.trace.steps) e (
-            start_names s field state.entries (labels_of s.prime state.entries) old.entries τ
-                starts,
-            reduction_names s field state.entries (labels_of s.prime state.entries) old.entries τ
-                reduction,
-          )
+      new : Syzygy
+      new = record { signature = τ; trace = record { start = start; steps = steps } }
 
   entry_labels : {f g : Polynomial} {start : Start} {steps : List Step}
       → Starts s state.entries τ f start → ReductionAt s state.entries τ f g steps
@@ -242,7 +225,7 @@ module _ (s : Setting) (field : IsField s.prime) (state : State) (old : LabelInv
   entry_labels {g = g} {start = start} {steps = steps} starts reduction = record {
     entries =
         λ e k. label e k (front_or_later state.entries
-        (record { signature = τ; polynomial = g; trace = record { start = start; steps = steps } }
+        (new
         ∷ []) e k);
     syzygies =
         λ h k. subst (IsLabelled s h.signature [])
@@ -255,75 +238,47 @@ module _ (s : Setting) (field : IsField s.prime) (state : State) (old : LabelInv
         (old.syzygies h k);
     names = λ h k. (
       start_more (length state.entries)
-          (length (state.entries ++ (record {
-            signature = τ;
-            polynomial = g;
-            trace = record { start = start; steps = steps };
-          } ∷ []))) longer
+          (length (state.entries ++ (new ∷ []))) longer
           h.trace.start (old.names h k).0,
       names_more (length state.entries)
-          (length (state.entries ++ (record {
-            signature = τ;
-            polynomial = g;
-            trace = record { start = start; steps = steps };
-          } ∷ []))) longer
+          (length (state.entries ++ (new ∷ []))) longer
           h.trace.steps (old.names h k).1,
     );
   }
     where
-      longer : length state.entries ≤ length (state.entries
-          ++ (record {
+      new : Entry
+      new =
+          record {
             signature = τ;
             polynomial = g;
             trace = record { start = start; steps = steps };
-          } ∷ []))
+          }
+
+      longer : length state.entries ≤ length (state.entries
+          ++ (new ∷ []))
       longer =
           omega (
             arith,
             length-append state.entries
-                (record {
-                  signature = τ;
-                  polynomial = g;
-                  trace = record { start = start; steps = steps };
-                } ∷ []),
+                (new ∷ []),
           )
 
       pushed : labels_of s.prime (state.entries
-          ++ (record {
-            signature = τ;
-            polynomial = g;
-            trace = record { start = start; steps = steps };
-          } ∷ [])) ≡ labels_of s.prime
+          ++ (new ∷ [])) ≡ labels_of s.prime
           state.entries ++ (less_steps s.prime (labels_of s.prime state.entries)
           (start_label (labels_of s.prime state.entries) start) steps ∷ [])
       pushed =
           labels_push s.prime [] state.entries
-          (record {
-            signature = τ;
-            polynomial = g;
-            trace = record { start = start; steps = steps };
-          })
+          new
 
       label : (e : Entry) (k : Contains
-          (state.entries ++ (record {
-            signature = τ;
-            polynomial = g;
-            trace = record { start = start; steps = steps };
-          } ∷ [])) e)
+          (state.entries ++ (new ∷ [])) e)
           → ((l : Contains state.entries e) × (l.0 ≡ k.0))
-          ⊎ (Contains (record {
-            signature = τ;
-            polynomial = g;
-            trace = record { start = start; steps = steps };
-          } ∷ []) e
+          ⊎ (Contains (new ∷ []) e
           × (length state.entries ≤ k.0))
           → IsLabelled s e.signature e.polynomial
           (label_at (labels_of s.prime (state.entries
-          ++ (record {
-            signature = τ;
-            polynomial = g;
-            trace = record { start = start; steps = steps };
-          } ∷ []))) (k.0 + 1))
+          ++ (new ∷ []))) (k.0 + 1))
       label e k (inl (l, i)) =
           subst (IsLabelled s e.signature e.polynomial)
           (sym (ap (λ z. label_at z (k.0 + 1)) pushed
@@ -343,20 +298,12 @@ module _ (s : Setting) (field : IsField s.prime) (state : State) (old : LabelInv
             labels_are,
             b,
             k.1,
-            length-append state.entries (record {
-              signature = τ;
-              polynomial = g;
-              trace = record { start = start; steps = steps };
-            } ∷ []),
+            length-append state.entries (new ∷ []),
           ))))
           (subst (λ x. IsLabelled s x.signature x.polynomial
           (less_steps s.prime (labels_of s.prime state.entries)
           (start_label (labels_of s.prime state.entries) start) steps))
-          (only_one (record {
-            signature = τ;
-            polynomial = g;
-            trace = record { start = start; steps = steps };
-          }) e c)
+          (only_one new e c)
           (trace_labelled s field state.entries (labels_of s.prime state.entries) old.entries τ
           inside starts reduction))
 

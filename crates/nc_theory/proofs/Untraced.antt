@@ -16,7 +16,7 @@ use Rattle.nc_theory.specs.Reductions.{Reduction}
 use Rattle.nc_theory.specs.Runs.{Starts}
 use Rattle.nc_theory.specs.States.{Entry, Start, Step}
 use Rattle.nc_theory.specs.Syzygies.{TrivialSyzygy, first_side, second_side}
-use Rattle.std.proofs.Common.{Contains, List, [], ap, ap₂, arith, get_or, inl, inr, length, map, refl, subst, sym, ◌%◌, ◌*◌, ◌++◌, ◌<◌, ◌∙◌, ◌∷◌, ◌≡◌, ◌≤◌, ◌⊎◌}
+use Rattle.std.proofs.Common.{Contains, List, [], ap, ap₂, arith, get_or, inl, inr, length, map, refl, subst, subst₂, sym, ◌%◌, ◌*◌, ◌++◌, ◌<◌, ◌∙◌, ◌∷◌, ◌≡◌, ◌≤◌, ◌⊎◌}
 use Rattle.std.proofs.lemmas.List.{get_or-map, get_or_default, length-map, map-append}
 
 -- ---- the item at the same index
@@ -40,6 +40,19 @@ module _ {X Y : Type 0} (f : X → Y) (xs xs' : List X) (same : map f xs ≡ map
   in_place_alike x c =
       sym (ap f c.2) ∙ (sym (get_or-map f xs c.0 x (f x) c.1)
       ∙ (ap (λ ys. get_or ys c.0 (f x)) same ∙ get_or-map f xs' c.0 x (f x) (in_bounds x c)))
+
+  -- what holds of each of the other list, as f sees it, holds of each of the one
+  pub each_alike : (Good : Y → Type 0) → ((x : X) → Contains xs' x → Good (f x)) → (x : X)
+      → Contains xs x → Good (f x)
+  each_alike Good each x c =
+      subst Good (sym (in_place_alike x c)) (each (in_place x c) (in_place_listed x c))
+
+  pub ascend_alike : (Less : Y → Y → Type 0)
+      → ((x y : X) (c : Contains xs' x) (d : Contains xs' y) → c.0 < d.0 → Less (f x) (f y))
+      → (x y : X) (c : Contains xs x) (d : Contains xs y) → c.0 < d.0 → Less (f x) (f y)
+  ascend_alike Less ascend x y c d l =
+      subst₂ Less (sym (in_place_alike x c)) (sym (in_place_alike y d))
+      (ascend (in_place x c) (in_place y d) (in_place_listed x c) (in_place_listed y d) l)
 
 -- ---- divisors
 
