@@ -38,6 +38,18 @@ pub begins_maybe : (old mid piece new : List ℕ) (b : Bool)
 begins_maybe old mid piece new true is first = begins_more old mid piece new is first
 begins_maybe old mid piece new false is first = rw is first
 
+-- three pieces by calls of their own between a first piece and a last one, or none
+pub begins_in_a_row : (old first headed set claimed listed last new : List ℕ) (b : Bool)
+    → headed ≡ old ++ first → BeginsWith set headed → BeginsWith claimed set
+    → BeginsWith listed claimed → new ≡ (if b then listed ++ last else listed) → BeginsWith new old
+begins_in_a_row old first headed set claimed listed last new b heads sets claims lists ends =
+    begins_maybe old listed last new b ends (begins_further old claimed listed lists
+    (begins_further old set claimed claims (begins_further old headed set sets
+    (begins_more old old first headed heads (begins_same old)))))
+
+-- what a call that writes piece after piece needs
+pub ruleset begins = (begins_same, begins_more, begins_maybe, begins_further)
+
 -- ---- what was appended, and is taken back where it is not the whole
 
 whole_of : {T E : Type 0} (result : Result T E) (old mid new text : List ℕ)
@@ -61,3 +73,6 @@ unfolding BeginsWith
 nothing (Ok r) old mid new before is begins last = tt
 nothing (Err r) old mid new before is begins last =
     last ∙ ap (λ (n : ℕ). take n mid) is ∙ begins
+
+-- what a call that writes a whole text needs
+pub ruleset whole_or_nothing = (whole, nothing)

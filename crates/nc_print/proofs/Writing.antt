@@ -1,13 +1,13 @@
 -- Lemmas on the texts that are written piece after piece.
 use Rattle.nc_algebra.specs.Alphabets.{Alphabet, IsPolynomialIn, IsWordIn}
 use Rattle.nc_algebra.specs.Certificates.{AreLines, Certificate, IsPart, Line, Part, line_reach}
-use Rattle.nc_algebra.specs.Monomials.{Sig, monomial_of}
+use Rattle.nc_algebra.specs.Monomials.{Monomial, Sig, monomial_of}
 use Rattle.nc_algebra.specs.Polynomials.{Polynomial}
 use Rattle.nc_algebra.specs.Settings.{NamedSetting}
 use Rattle.nc_algebra.specs.Sums.{Term}
 use Rattle.nc_algebra.specs.Words.{Word}
 use Rattle.nc_module.specs.Modules.{element_of}
-use Rattle.nc_print.specs.Printing.{certificate_text, ended, printed_line, module_term_text, poly_text, printed_setting, term_line, terms_text}
+use Rattle.nc_print.specs.Printing.{certificate_text, ended, printed_line, poly_text, printed_setting, term_line, terms_text}
 use Rattle.std.proofs.Common.{Err, List, Ok, Result, [], ap, append_assoc, codes, get_or, if◌then◌else◌, is_ok, length, map, refl, sym, take, ℕ, ◌++◌, ◌+◌, ◌<◌, ◌∙◌, ◌∷◌, ◌≡◌, ◌≤◌}
 use Rattle.std.proofs.lemmas.List.{append-nil, map-append, take_all, take_more}
 use Rattle.std.proofs.lemmas.List.Concat.{flat_map-append}
@@ -79,45 +79,24 @@ words_named s side one names lines items same_names same are =
 
 -- ---- the terms of a module element
 
--- the line of a term, whose degree is not printed
-abbrev pub bare_line : List (List ℕ) → Term Sig → List ℕ
-bare_line names t =
-    term_line names (record { coefficient = t.coefficient; key = monomial_of t.key })
+-- a term, whose degree is not printed
+abbrev pub bare : Term Sig → Term Monomial
+bare t = record { coefficient = t.coefficient; key = monomial_of t.key }
 
-bare_lines : (names : List (List ℕ)) (terms : List (Term Sig))
-    → map (bare_line names) terms ≡ map (term_line names) (element_of terms)
-bare_lines names [] = refl
-bare_lines names (t ∷ terms) =
-    ap (λ (ls : List (List ℕ)). bare_line names t ∷ ls) (bare_lines names terms)
+bare_all : (write : Term Monomial → List ℕ) (terms : List (Term Sig))
+    → map (λ t. write (bare t)) terms ≡ map write (element_of terms)
+bare_all write [] = refl
+bare_all write (t ∷ terms) =
+    ap (λ (ls : List (List ℕ)). write (bare t) ∷ ls) (bare_all write terms)
 
--- all lines
-pub bare_lines_end : (names : List (List ℕ)) (terms : List (Term Sig)) (i : ℕ) (old new : List ℕ)
-    → length terms ≤ i → new ≡ old ++ ended (map (bare_line names) (take i terms))
-    → new ≡ old ++ ended (map (term_line names) (element_of terms))
-bare_lines_end names terms i old new long is =
-    is ∙ ap (λ (ls : List (List ℕ)). old ++ ended ls)
-    (ap (map (bare_line names)) (take_all i terms long) ∙ bare_lines names terms)
-
--- the text of a term, whose degree is not printed
-abbrev pub bare_text : List (List ℕ) → Term Sig → List ℕ
-bare_text names t =
-    module_term_text names (record { coefficient = t.coefficient; key = monomial_of t.key })
-
-bare_texts : (names : List (List ℕ)) (terms : List (Term Sig))
-    → map (bare_text names) terms ≡ map (module_term_text names) (element_of terms)
-bare_texts names [] = refl
-bare_texts names (t ∷ terms) =
-    ap (λ (ls : List (List ℕ)). bare_text names t ∷ ls) (bare_texts names terms)
-
--- all texts
-pub bare_texts_end : (names : List (List ℕ)) (terms : List (Term Sig)) (i : ℕ) (old new : List ℕ)
-    → length terms ≤ i → new ≡ old ++ flat_map (λ y. codes " + " ++ y)
-    (map (bare_text names) (take i terms))
-    → new ≡ old ++ flat_map (λ y. codes " + " ++ y)
-    (map (module_term_text names) (element_of terms))
-bare_texts_end names terms i old new long is =
-    is ∙ ap (λ (ls : List (List ℕ)). old ++ flat_map (λ y. codes " + " ++ y) ls)
-    (ap (map (bare_text names)) (take_all i terms long) ∙ bare_texts names terms)
+-- all terms, written by write and put together by join
+pub bare_end : (write : Term Monomial → List ℕ) (join : List (List ℕ) → List ℕ)
+    (terms : List (Term Sig)) (i : ℕ) (old new : List ℕ) → length terms ≤ i
+    → new ≡ old ++ join (map (λ t. write (bare t)) (take i terms))
+    → new ≡ old ++ join (map write (element_of terms))
+bare_end write join terms i old new long is =
+    is ∙ ap (λ (ls : List (List ℕ)). old ++ join ls)
+    (ap (map (λ t. write (bare t))) (take_all i terms long) ∙ bare_all write terms)
 
 -- ---- certificates
 

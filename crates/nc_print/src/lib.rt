@@ -1,5 +1,5 @@
 //! The printed forms of polynomials, monomials, module elements and certificates.
-#![tactic(auto, using(crate::proofs::Begins::begins_same, crate::proofs::Begins::begins_more, crate::proofs::Begins::begins_maybe, crate::proofs::Begins::begins_further,),)]
+#![tactic(auto, using(crate::proofs::Begins::begins))]
 
 mod certificate;
 mod module;

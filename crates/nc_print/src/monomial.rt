@@ -15,7 +15,8 @@ use std::alloc::AllocError;
 pub(crate) fn append_sig(out: &mut Vec<u8>, names: &[Name], s: &Sig) -> Result<(), AllocError>
     requires left { All (λ x. x.index < length names.now) s.now.left }
     requires right { All (λ x. x.index < length names.now) s.now.right }
-    ensures text { OnOk result (out.new.items ≡ out.old.items ++ sig_text names.now (monomial_of s.now)) }
+    ensures text { OnOk result (out.new.items ≡ out.old.items
+        ++ sig_text names.now (monomial_of s.now)) }
     ensures kept { BeginsWith out.new.items out.old.items }
 {
     append_word(out, names, s.left.letters())?;
@@ -30,7 +31,8 @@ pub(crate) fn append_sig(out: &mut Vec<u8>, names: &[Name], s: &Sig) -> Result<(
 pub fn write_sig(out: &mut Vec<u8>, names: &[Name], s: &Sig) -> Result<(), AllocError>
     requires left { All (λ x. x.index < length names.now) s.now.left }
     requires right { All (λ x. x.index < length names.now) s.now.right }
-    ensures text { OnOk result (out.new.items ≡ out.old.items ++ sig_text names.now (monomial_of s.now)) }
+    ensures text { OnOk result (out.new.items ≡ out.old.items
+        ++ sig_text names.now (monomial_of s.now)) }
     ensures unchanged { OnErr result (out.new.items ≡ out.old.items) }
 {
     let before = out.len();

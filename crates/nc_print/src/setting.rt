@@ -79,7 +79,8 @@ fn append_weights(out: &mut Vec<u8>, weights: &[u8]) -> Result<(), AllocError>
 
 /// Appends the lines `letters` and, where some letter doesn't weigh 1, `weights`.
 fn append_alphabet(out: &mut Vec<u8>, alphabet: &Alphabet) -> Result<(), AllocError>
-    ensures text { OnOk result (out.new.items ≡ out.old.items ++ ended (printed_alphabet alphabet.now)) }
+    ensures text { OnOk result (out.new.items ≡ out.old.items
+        ++ ended (printed_alphabet alphabet.now)) }
     ensures kept { BeginsWith out.new.items out.old.items }
 {
     out.extend_from_slice(b"letters")?;

@@ -1,6 +1,6 @@
 -- The letters of what a run of a named problem has found have names.
 use Rattle.nc_algebra.specs.Alphabets.{Alphabet, AreWordsIn, IsWordIn}
-use Rattle.nc_algebra.specs.Monomials.{Monomial, Sig, monomial_of}
+use Rattle.nc_algebra.specs.Monomials.{Monomial}
 use Rattle.nc_algebra.specs.Polynomials.{Polynomial}
 use Rattle.nc_algebra.specs.Words.{Word}
 use Rattle.nc_desk.specs.Ends.{IsEndAt}
@@ -8,6 +8,7 @@ use Rattle.nc_theory.proofs.Named.{over_alphabet}
 use Rattle.nc_theory.proofs.UntracedRuns.{same_run}
 use Rattle.nc_theory.proofs.UntracedStates.{moved_candidate}
 use Rattle.nc_theory.specs.Named.{IsMonomialIn, IsOverAlphabet}
+use Rattle.nc_report.specs.Letters.{IsMonomialNamed}
 use Rattle.nc_snapshot.proofs.Snapshots.{snapshot_prime}
 use Rattle.nc_snapshot.specs.Snapshots.{IsSnapshot, Snapshot}
 use Rattle.nc_theory.specs.Runs.{End, IsEnd}
@@ -25,6 +26,11 @@ named a w over k d l = (over k d l).0
 pub words_named : (a : Alphabet) (f : Polynomial) → AreWordsIn a f → All (λ t. IsNamed a t.key) f
 words_named a f over k d l = named a _ (over k d l)
 
+monomial_named : (a : Alphabet) (τ : Monomial) → IsMonomialIn a τ
+    → IsMonomialNamed (length a.names) τ
+monomial_named a τ over =
+    record { left = named a τ.left over.0; right = named a τ.right over.1 }
+
 listed : {X : Type 0} (xs : List X) (n : ℕ) (x : X) → slice_get xs n ≡ Some x → Contains xs x
 listed xs n x at = (n, slice_get_within xs n x at, get_or_from_slice_get xs n x x at)
 
@@ -37,11 +43,8 @@ module _ (s : Snapshot) (h : IsSnapshot s) where
         × AreWordsIn s.problem.alphabet e.polynomial
     entry_over = over.entries e (listed s.state.entries n e at)
 
-    pub entry_left : IsNamed s.problem.alphabet e.signature.left
-    entry_left = named s.problem.alphabet e.signature.left entry_over.0.0
-
-    pub entry_right : IsNamed s.problem.alphabet e.signature.right
-    entry_right = named s.problem.alphabet e.signature.right entry_over.0.1
+    pub entry_named : IsMonomialNamed (length s.problem.alphabet.names) e.signature
+    entry_named = monomial_named s.problem.alphabet e.signature entry_over.0
 
     pub entry_words : All (λ t. IsNamed s.problem.alphabet t.key) e.polynomial
     entry_words = words_named s.problem.alphabet e.polynomial entry_over.1
@@ -50,11 +53,8 @@ module _ (s : Snapshot) (h : IsSnapshot s) where
     syzygy_over : IsMonomialIn s.problem.alphabet g.signature
     syzygy_over = over.syzygies g (listed s.state.syzygies n g at)
 
-    pub syzygy_left : IsNamed s.problem.alphabet g.signature.left
-    syzygy_left = named s.problem.alphabet g.signature.left syzygy_over.0
-
-    pub syzygy_right : IsNamed s.problem.alphabet g.signature.right
-    syzygy_right = named s.problem.alphabet g.signature.right syzygy_over.1
+    pub syzygy_named : IsMonomialNamed (length s.problem.alphabet.names) g.signature
+    syzygy_named = monomial_named s.problem.alphabet g.signature syzygy_over
 
   module _ (τ : Monomial) (e : IsEndAt s (End.budget τ)) where
     next_over : IsMonomialIn s.problem.alphabet τ
@@ -66,25 +66,10 @@ module _ (s : Snapshot) (h : IsSnapshot s) where
             over.candidates τ (moved_candidate s.problem.problem e.run s.state
             (sym (same_run s.state e.run e.stands)) τ next.candidate)
 
-    next_left : IsNamed s.problem.alphabet τ.left
-    next_left = named s.problem.alphabet τ.left next_over.0
-
-    next_right : IsNamed s.problem.alphabet τ.right
-    next_right = named s.problem.alphabet τ.right next_over.1
-
   -- the next signature of a run whose steps were used up
-  module _ (ending : End) (e : IsEndAt s ending) (σ : Sig)
-      (is : End.budget (monomial_of σ) ≡ ending) (names : List (List ℕ))
-      (same : names ≡ s.problem.alphabet.names) where
-    budget : IsEndAt s (End.budget (monomial_of σ))
-    budget = subst (IsEndAt s) (sym is) e
-
-    pub budget_left : All (λ x. x.index < length names) σ.left
-    budget_left =
-        subst (λ (ns : List (List ℕ)). All (λ x. x.index < length ns) σ.left) (sym same)
-        (next_left (monomial_of σ) budget)
-
-    pub budget_right : All (λ x. x.index < length names) σ.right
-    budget_right =
-        subst (λ (ns : List (List ℕ)). All (λ x. x.index < length ns) σ.right) (sym same)
-        (next_right (monomial_of σ) budget)
+  pub budget_named : (ending : End) → IsEndAt s ending → (τ : Monomial) → End.budget τ ≡ ending
+      → (names : List (List ℕ)) → names ≡ s.problem.alphabet.names
+      → IsMonomialNamed (length names) τ
+  budget_named ending e τ is names same =
+      subst (λ (ns : List (List ℕ)). IsMonomialNamed (length ns) τ) (sym same)
+      (monomial_named s.problem.alphabet τ (next_over τ (subst (IsEndAt s) (sym is) e)))

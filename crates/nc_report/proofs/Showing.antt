@@ -11,7 +11,6 @@ use Rattle.nc_cofactor.proofs.Once.{trace_once}
 use Rattle.nc_cofactor.specs.Labels.{IsLabelOf}
 use Rattle.nc_cofactor.specs.Letters.{IsStartIn, IsTraceOver}
 use Rattle.nc_cofactor.specs.Traces.{HasTrace, IsTraceIn}
-use Rattle.nc_module.specs.Modules.{element_of}
 use Rattle.nc_options.specs.declared.options.Cofactors.TheVariants.{Trace as TraceOf}
 use Rattle.nc_print.specs.Printing.{ended}
 use Rattle.nc_report.specs.Reports.{counts_line}
@@ -24,13 +23,13 @@ use Rattle.nc_snapshot.specs.declared.outcome.Listed.TheVariants.{Entry as Entry
 use Rattle.nc_theory.proofs.Determinism.{run_unique}
 use Rattle.nc_theory.specs.States.{Entry, Start, State, Syzygy, Trace}
 use Rattle.nc_report.proofs.Letters.{named}
+use Rattle.nc_report.specs.Letters.{AreTermsNamed}
 use Rattle.nc_report.specs.Reports.{cofactor_lines}
-use Rattle.nc_report.specs.Shown.{AreAllLabels, IsRunAt, IsTraceNamed, label_among}
-use Rattle.std.proofs.Common.{All, Err, List, Ok, Result, Some, [], ap, append_assoc, codes, if◌then◌else◌, is_ok, length, map, refl, slice_get, subst, suc, sym, unwrap_or, zero, ℕ, ◌++◌, ◌-◌, ◌<◌, ◌∙◌, ◌∷◌, ◌≡◌, ◌≤◌}
+use Rattle.nc_report.specs.Shown.{AreAllLabels, IsRunAt, IsTraceNamed}
+use Rattle.std.proofs.Common.{All, Err, List, Ok, Result, Some, [], ap, append_assoc, codes, if◌then◌else◌, is_ok, length, map, refl, slice_get, subst, suc, sym, unwrap_or, zero, ℕ, ◌++◌, ◌-◌, ◌∙◌, ◌∷◌, ◌≡◌, ◌≤◌}
 use Rattle.std.proofs.lemmas.List.{append-nil, length-map}
 use Rattle.std.proofs.lemmas.List.Concat.{flat_map-append}
 use Rattle.std.specs.Result.{OnOk}
-use Rattle.std.proofs.lemmas.Option.{get_or_from_slice_get}
 
 module _ (s : Snapshot) (h : IsSnapshot s) where
   -- a snapshot stands for one run
@@ -80,58 +79,36 @@ module _ (s : Snapshot) (h : IsSnapshot s) where
 
   module _ (listed : Listed) (run : State) (a : IsRunAt s run) (m : List (Term Sig))
       (is : IsLabelOf s.problem.problem.setting run listed m) where
-    pub label_left : All (λ t. All (λ x. x.index < length s.problem.alphabet.names) t.key.left) m
-    label_left =
-        λ k d l. named s.problem.alphabet _ (((cofactors_over run a listed).1 m is).0 k d l)
-
-    pub label_right : All (λ t. All (λ x. x.index < length s.problem.alphabet.names) t.key.right) m
-    label_right =
-        λ k d l. named s.problem.alphabet _ (((cofactors_over run a listed).1 m is).1 k d l)
+    label_named : AreTermsNamed (length s.problem.alphabet.names) m
+    label_named = record {
+      left = λ k d l. named s.problem.alphabet _ (over.0 k d l);
+      right = λ k d l. named s.problem.alphabet _ (over.1 k d l);
+    }
+      where
+        over : All (λ t. IsWordIn s.problem.alphabet t.key.left) m
+            × All (λ t. IsWordIn s.problem.alphabet t.key.right) m
+        over = (cofactors_over run a listed).1 m is
 
   -- ---- the labels that were made
 
   module _ (entries syzygies : List (List (Term Sig))) (are : AreAllLabels s entries syzygies) where
-    entry_is : (k : ℕ) (m : List (Term Sig)) → 1 ≤ k → slice_get entries (k - 1) ≡ Some m
-        → IsLabelOf s.problem.problem.setting are.entries_are.at.run (EntryOf k) m
-    entry_is k m some at = are.entries_are.are k m some at
-
     entries_run : IsRunAt s are.entries_are.at.run
     entries_run = (are.entries_are.at.last, are.entries_are.at.runs)
 
     syzygies_run : IsRunAt s are.syzygies_are.at.run
     syzygies_run = (are.syzygies_are.at.last, are.syzygies_are.at.runs)
 
-    pub entry_label : (k : ℕ) (m : List (Term Sig)) → slice_get entries (k - 1) ≡ Some m
-        → element_of m ≡ label_among entries syzygies (EntryOf k)
-    entry_label k m at = ap element_of (sym (get_or_from_slice_get entries (k - 1) m [] at))
+    pub entry_label_named : (k : ℕ) (m : List (Term Sig)) → 1 ≤ k
+        → slice_get entries (k - 1) ≡ Some m → AreTermsNamed (length s.problem.alphabet.names) m
+    entry_label_named k m some at =
+        label_named (EntryOf k) are.entries_are.at.run entries_run m
+        (are.entries_are.are k m some at)
 
-    pub entry_label_left : (k : ℕ) (m : List (Term Sig)) → 1 ≤ k
-        → slice_get entries (k - 1) ≡ Some m
-        → All (λ t. All (λ x. x.index < length s.problem.alphabet.names) t.key.left) m
-    entry_label_left k m some at =
-        label_left (EntryOf k) are.entries_are.at.run entries_run m (entry_is k m some at)
-
-    pub entry_label_right : (k : ℕ) (m : List (Term Sig)) → 1 ≤ k
-        → slice_get entries (k - 1) ≡ Some m
-        → All (λ t. All (λ x. x.index < length s.problem.alphabet.names) t.key.right) m
-    entry_label_right k m some at =
-        label_right (EntryOf k) are.entries_are.at.run entries_run m (entry_is k m some at)
-
-    module _ (k : ℕ) (m : List (Term Sig)) (some : 1 ≤ k) (at : slice_get syzygies (k - 1) ≡ Some m)
-      where
-        syzygy_is : IsLabelOf s.problem.problem.setting are.syzygies_are.at.run (SyzygyOf k) m
-        syzygy_is = are.syzygies_are.are k m some at
-
-        pub syzygy_label : element_of m ≡ label_among entries syzygies (SyzygyOf k)
-        syzygy_label = ap element_of (sym (get_or_from_slice_get syzygies (k - 1) m [] at))
-
-        pub syzygy_label_left : All (λ t. All (λ x. x.index < length s.problem.alphabet.names)
-            t.key.left) m
-        syzygy_label_left = label_left (SyzygyOf k) are.syzygies_are.at.run syzygies_run m syzygy_is
-
-        pub syzygy_label_right : All (λ t. All (λ x. x.index < length s.problem.alphabet.names)
-            t.key.right) m
-        syzygy_label_right = label_right (SyzygyOf k) are.syzygies_are.at.run syzygies_run m syzygy_is
+    pub syzygy_label_named : (k : ℕ) (m : List (Term Sig)) → 1 ≤ k
+        → slice_get syzygies (k - 1) ≡ Some m → AreTermsNamed (length s.problem.alphabet.names) m
+    syzygy_label_named k m some at =
+        label_named (SyzygyOf k) are.syzygies_are.at.run syzygies_run m
+        (are.syzygies_are.are k m some at)
 
   -- ---- the lines of an item
 

@@ -1,3 +1,4 @@
+pub mod Letters
 pub mod Traces
 pub mod Reports
 pub mod Shown

@@ -5,7 +5,6 @@
 -- the cofactors behind them. Entries and syzygies are numbered separately, each from 1.
 -- docs/FORMATS.md shows reports to users.
 use Rattle.nc_algebra.specs.Elements.{Element}
-use Rattle.nc_algebra.specs.Monomials.{Monomial}
 use Rattle.nc_options.specs.declared.options.Cofactors.{Cofactors}
 use Rattle.nc_options.specs.declared.options.Cofactors.TheVariants.{Full, Omitted, Trace as TraceOf}
 use Rattle.nc_print.specs.Printing.{ended, module_text, poly_text, sig_text}

@@ -1,5 +1,7 @@
 //! The lines of entries and syzygies.
 
+ghost use Rattle.nc_algebra.specs.Monomials.{monomial_of};
+ghost use Rattle.nc_report.specs.Letters.{IsMonomialNamed};
 ghost use Rattle.nc_report.specs.Reports.{entry_line, syzygy_line};
 ghost use Rattle.nc_snapshot.specs.Snapshots.{entry_of, syzygy_of};
 ghost use Rattle.std.specs.Prelude.{All, OnOk, [], length, ◌++◌, ◌<◌, ◌∷◌, ◌≡◌};
@@ -17,8 +19,7 @@ pub(crate) fn write_entry(
     number: u32,
     entry: &Entry,
 ) -> Result<(), AllocError>
-    requires left { All (λ x. x.index < length names.now) entry.now.sig.left }
-    requires right { All (λ x. x.index < length names.now) entry.now.sig.right }
+    requires signature { IsMonomialNamed (length names.now) (monomial_of entry.now.sig) }
     requires words { All (λ t. All (λ x. x.index < length names.now) t.key) entry.now.polynomial }
     ensures { OnOk result (out.new.items ≡ out.old.items
         ++ (entry_line names.now number (entry_of entry.now) ++ 10 ∷ [])) }
@@ -40,8 +41,7 @@ pub(crate) fn write_syzygy(
     number: u32,
     syzygy: &Syzygy,
 ) -> Result<(), AllocError>
-    requires left { All (λ x. x.index < length names.now) syzygy.now.left }
-    requires right { All (λ x. x.index < length names.now) syzygy.now.right }
+    requires { IsMonomialNamed (length names.now) (monomial_of syzygy.now) }
     ensures { OnOk result (out.new.items ≡ out.old.items
         ++ (syzygy_line names.now number (syzygy_of syzygy.now) ++ 10 ∷ [])) }
 {

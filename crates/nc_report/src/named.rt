@@ -1,5 +1,7 @@
 //! The items of a run, whose letters have names.
 
+ghost use Rattle.nc_algebra.specs.Monomials.{monomial_of};
+ghost use Rattle.nc_report.specs.Letters.{IsMonomialNamed};
 ghost use Rattle.nc_snapshot.specs.Snapshots.{entry_of, syzygy_of};
 ghost use Rattle.std.specs.Prelude.{All, Some, length, slice_get, ◌-◌, ◌<◌, ◌≡◌, ◌≤◌};
 
@@ -18,10 +20,8 @@ pub(crate) fn entry_at(snapshot: &Snapshot, n: u32) -> &Entry
     requires some { 1 ≤ n }
     requires within { n ≤ length snapshot.now.state.entries }
     ensures entry { slice_get snapshot.now.state.entries (n - 1) ≡ Some (entry_of result.now) }
-    ensures left { All (λ x. x.index < length snapshot.now.problem.alphabet.names)
-        result.now.sig.left }
-    ensures right { All (λ x. x.index < length snapshot.now.problem.alphabet.names)
-        result.now.sig.right }
+    ensures signature { IsMonomialNamed (length snapshot.now.problem.alphabet.names)
+        (monomial_of result.now.sig) }
     ensures words { All (λ t. All (λ x. x.index < length snapshot.now.problem.alphabet.names)
         t.key)
         result.now.polynomial }
@@ -35,10 +35,8 @@ pub(crate) fn syzygy_at(snapshot: &Snapshot, n: u32) -> &Syzygy
     requires some { 1 ≤ n }
     requires within { n ≤ length snapshot.now.state.syzygies }
     ensures syzygy { slice_get snapshot.now.state.syzygies (n - 1) ≡ Some (syzygy_of result.now) }
-    ensures left { All (λ x. x.index < length snapshot.now.problem.alphabet.names)
-        result.now.left }
-    ensures right { All (λ x. x.index < length snapshot.now.problem.alphabet.names)
-        result.now.right }
+    ensures named { IsMonomialNamed (length snapshot.now.problem.alphabet.names)
+        (monomial_of result.now) }
 {
     snapshot.recall_rule();
     snapshot.syzygy(n)

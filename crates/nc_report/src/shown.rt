@@ -7,9 +7,10 @@ ghost use Rattle.nc_options.specs.declared.options.Cofactors.TheVariants.{Full, 
 ghost use Rattle.nc_print.specs.Printing.{ended};
 ghost use Rattle.nc_reduce.specs.Leads.{LeadsOf};
 ghost use Rattle.nc_theory.specs.States.{State, Trace as Proof};
+ghost use Rattle.nc_report.specs.Letters.{AreTermsNamed};
 ghost use Rattle.nc_report.specs.Reports.{cofactor_lines};
 ghost use Rattle.nc_report.specs.Shown.{AreAllLabels, IsRunAt, IsShownOf, IsTraceNamed, kind_of, label_among, labels_in};
-ghost use Rattle.std.specs.Prelude.{All, IfOk, OnOk, length, ◌++◌, ◌<◌, ◌≡◌};
+ghost use Rattle.std.specs.Prelude.{IfOk, OnOk, length, ◌++◌, ◌≡◌};
 
 use crate::named::names_of;
 use crate::trace::write_trace;
@@ -73,8 +74,7 @@ fn write_trace_line(
 
 /// Appends the line of a label.
 fn write_label_line(out: &mut Vec<u8>, names: &[Name], label: &Module) -> Result<(), AllocError>
-    requires left { All (λ t. All (λ x. x.index < length names.now) t.key.left) label.now }
-    requires right { All (λ t. All (λ x. x.index < length names.now) t.key.right) label.now }
+    requires { AreTermsNamed (length names.now) label.now }
     ensures { OnOk result ((t : Proof)
         → out.new.items ≡ out.old.items
         ++ ended (cofactor_lines Full names.now t (element_of label.now))) }
@@ -94,10 +94,7 @@ fn label_in<'a>(
     requires labels { AreAllLabels snapshot.now entries.now syzygies.now }
     requires listed { IsListed snapshot.now.state listed }
     ensures label { element_of result.now ≡ label_among entries.now syzygies.now listed }
-    ensures left { All (λ t. All (λ x. x.index < length snapshot.now.problem.alphabet.names)
-        t.key.left) result.now }
-    ensures right { All (λ t. All (λ x. x.index < length snapshot.now.problem.alphabet.names)
-        t.key.right) result.now }
+    ensures named { AreTermsNamed (length snapshot.now.problem.alphabet.names) result.now }
 {
     snapshot.recall_rule();
     match listed {

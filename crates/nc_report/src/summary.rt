@@ -1,9 +1,10 @@
 //! The lines that sum up a run.
 
 ghost use Rattle.nc_algebra.specs.Monomials.{monomial_of};
+ghost use Rattle.nc_report.specs.Letters.{IsMonomialNamed};
 ghost use Rattle.nc_report.specs.Reports.{counts_line, ending_line};
 ghost use Rattle.nc_theory.specs.Runs.{End};
-ghost use Rattle.std.specs.Prelude.{All, List, OnOk, [], decimal, length, ℕ, ◌++◌, ◌<◌, ◌∷◌, ◌≡◌};
+ghost use Rattle.std.specs.Prelude.{List, OnOk, [], decimal, length, ℕ, ◌++◌, ◌∷◌, ◌≡◌};
 
 use itoa::Buffer;
 use nc_module::Name;
@@ -32,8 +33,7 @@ pub(crate) fn write_complete(out: &mut Vec<u8>) -> Result<(), AllocError>
 /// Appends the end line of a run whose steps were used up before this signature, which needs a name for each of its
 /// letters. After `Err` the text in `out` may be part of it.
 pub(crate) fn write_budget(out: &mut Vec<u8>, names: &[Name], next: &Sig) -> Result<(), AllocError>
-    requires left { All (λ x. x.index < length names.now) next.now.left }
-    requires right { All (λ x. x.index < length names.now) next.now.right }
+    requires { IsMonomialNamed (length names.now) (monomial_of next.now) }
     ensures { OnOk result (out.new.items ≡ out.old.items
         ++ (ending_line names.now (End.budget (monomial_of next.now)) ++ 10 ∷ [])) }
 {

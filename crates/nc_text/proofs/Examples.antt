@@ -58,8 +58,8 @@ terms = record { coefficient = 1; key = record { left = one; generator = 2; righ
 
 abbrev text : List ℕ
 text =
-    codes
-    "certificate 1\nfield 101\nletters x y\ngenerator x\ngenerator x + 1\nclaim y\nterm 1 1 [2] y\nterm 100 1 [1] y\nend\n"
+    codes "certificate 1\nfield 101\nletters x y\ngenerator x\ngenerator x + 1\n"
+    ++ codes "claim y\nterm 1 1 [2] y\nterm 100 1 [1] y\nend\n"
 
 printed : terms_text difference claim terms ≡ text
 unfolding digits
@@ -119,8 +119,8 @@ commutator weights =
 abbrev by_lines : List ℕ → List ℕ
 by_lines weights =
     codes "certificate 2\nfield 101\nletters x y\n" ++ (weights
-    ++ codes
-    "generator x*x + 100*y\nclaim 100*y*x + x*y\nline\npart 1 1 [1] 1\nline\npart 1 x {1} 1\npart 100 1 {1} x\nline\npart 100 1 {2} 1\nend\n")
+    ++ (codes "generator x*x + 100*y\nclaim 100*y*x + x*y\nline\npart 1 1 [1] 1\nline\n"
+    ++ codes "part 1 x {1} 1\npart 100 1 {1} x\nline\npart 100 1 {2} 1\nend\n"))
 
 printed_by_lines : (certificate_text (commutator (1 ∷ 1 ∷ [])) ≡ by_lines [])
     × (certificate_text (commutator (2 ∷ 3 ∷ [])) ≡ by_lines (codes "weights 2 3\n"))
@@ -128,17 +128,10 @@ unfolding digits
 printed_by_lines = (refl, refl)
 
 -- few spaces are wanted, and signs may stand in front of terms
-read_by_lines : reads_certificate
-    (codes
-    "certificate 2\nfield 101\nletters x y\nweights 2 3\ngenerator x^2-y\nclaim x*y-y*x\nline\npart 1 1[1]1\nline\npart 1 x{1}1\npart 100 1{1}x\nline\npart 100 1{2}1\nend")
-    ≡ Ok (commutator (2 ∷ 3 ∷ []))
-unfolding certificate_at claim_line end_line field_line form_line generator_lines letters_line
-    weights_line alphabet_lines setting_lines line_lines part_lines lines a_line the_end the_line
-    written end_at exponent_at factor_at factors_at literal_at name_at poly_at sign_at term_at
-    terms_at word_behind close_at close_brace_at field_at form_at generator_at generator_number_at
-    letters_at weights_at line_number_at multiplied_at part_at open_at side_at pieces tokens
-    normal_form with_term generator line_reach
-read_by_lines = refl
+abbrev spare : List ℕ
+spare =
+    codes "certificate 2\nfield 101\nletters x y\nweights 2 3\ngenerator x^2-y\nclaim x*y-y*x\n"
+    ++ codes "line\npart 1 1[1]1\nline\npart 1 x{1}1\npart 100 1{1}x\nline\npart 100 1{2}1\nend"
 
 -- ---- the first fault of a text is told, with its line
 
@@ -158,9 +151,9 @@ faults = (refl, refl, refl)
 abbrev behind_claim : List ℕ → List ℕ
 behind_claim body = codes "certificate 2\nfield 101\nletters x\ngenerator x\nclaim x\n" ++ body
 
--- a part names an earlier line, and stands behind a line `line`
-line_faults :
-    TellsFault (behind_claim (codes "line\npart 1 1 {1} 1\nend")) 7 OutOfRange
+-- lines are read, and a part names an earlier line and stands behind a line `line`
+lines_read : (reads_certificate spare ≡ Ok (commutator (2 ∷ 3 ∷ [])))
+    × TellsFault (behind_claim (codes "line\npart 1 1 {1} 1\nend")) 7 OutOfRange
     × TellsFault (behind_claim (codes "line\npart 1 1 [2] 1\nend")) 7 OutOfRange
     × TellsFault (behind_claim (codes "line\npart 1 1 [1} 1\nend")) 7 Syntax
     × TellsFault (behind_claim (codes "line 1\nend")) 6 Syntax
@@ -172,7 +165,7 @@ unfolding certificate_at claim_line end_line field_line form_line generator_line
     terms_at word_behind close_at close_brace_at field_at form_at generator_at generator_number_at
     letters_at weights_at line_number_at multiplied_at part_at open_at side_at pieces tokens
     normal_form with_term generator line_reach
-line_faults = (refl, refl, refl, refl, refl, refl)
+lines_read = (refl, refl, refl, refl, refl, refl, refl)
 
 -- blanks, comments and carriage returns say nothing
 otherwise : reads_certificate (codes

@@ -24,3 +24,4 @@ pub mod RoundTripLines
 pub mod RoundTripCertificates
 pub mod RoundTripParts
 pub mod Examples
+pub mod Told

@@ -14,6 +14,8 @@ use Rattle.nc_tokens.proofs.Repeated.{fewer}
 use Rattle.nc_tokens.proofs.Steps.{on_any, on_bind, on_choice}
 use Rattle.nc_tokens.specs.Lines.{End, Line, Row, Written, a_line, at_line, begins, behind, content, is_allowed, lines, lines_left, the_line, with_byte, written}
 use Rattle.nc_tokens.specs.Tokens.{is_blank, tokens}
+use Rattle.nc_tokens.specs.Wanted.{◌>>=◌}
+use Rattle.nc_tokens.specs.declared.fault.TextFault.{TextFault}
 use Rattle.std.proofs.Common.{Bool, IfOk, List, None, Ok, Option, Result, Some, [], arith, codes, eqb, false, if◌then◌else◌, length, refl, subst, true, ℕ, ◌&&◌, ◌+◌, ◌-◌, ◌∷◌, ◌≡◌, ◌≤◌}
 use Rattle.std.specs.List.{list_all}
 
@@ -62,27 +64,27 @@ the_line_leaves keyword (Line n false ts after) = tt
 the_line_leaves keyword (Line n true ts after) =
     on_choice _ (begins keyword ts) _ _ (λ yes. omega arith) (λ no. tt)
 
+-- a line with a keyword, of which something is read
+keyword_leaves : {A : Type 0} (keyword : List ℕ) (w : Written) (read : Row → Result A TextFault)
+    → IfOk (the_line keyword w >>= λ line. read line >>= λ x. Ok (x, line.after)) (Leaves w)
+keyword_leaves keyword w read =
+    on_bind _ _ (the_line keyword w) _ (the_line_leaves keyword w)
+    (λ line h. on_bind _ _ (read line) _ (on_any (read line)) (λ x _. h))
+
 form_leaves : (w : Written) → IfOk (form_line w) (Leaves w)
 unfolding form_line
 form_leaves w =
-    on_bind _ _ (the_line (codes "certificate") w) _ (the_line_leaves (codes "certificate") w)
-    (λ line h.
-    on_bind _ _ (at_line line.number (form_at line.tokens)) _
-    (on_any (at_line line.number (form_at line.tokens))) (λ form _. h))
+    keyword_leaves (codes "certificate") w (λ line. at_line line.number (form_at line.tokens))
 
 field_leaves : (w : Written) → IfOk (field_line w) (Leaves w)
 unfolding field_line
 field_leaves w =
-    on_bind _ _ (the_line (codes "field") w) _ (the_line_leaves (codes "field") w) (λ line h.
-    on_bind _ _ (at_line line.number (field_at line.tokens)) _
-    (on_any (at_line line.number (field_at line.tokens))) (λ p _. h))
+    keyword_leaves (codes "field") w (λ line. at_line line.number (field_at line.tokens))
 
 letters_leave : (w : Written) → IfOk (letters_line w) (Leaves w)
 unfolding letters_line
 letters_leave w =
-    on_bind _ _ (the_line (codes "letters") w) _ (the_line_leaves (codes "letters") w) (λ line h.
-    on_bind _ _ (at_line line.number (letters_at [] line.tokens)) _
-    (on_any (at_line line.number (letters_at [] line.tokens))) (λ names _. h))
+    keyword_leaves (codes "letters") w (λ line. at_line line.number (letters_at [] line.tokens))
 
 weights_in_leave : (letters : ℕ) (w : Written) (o : Option Row)
     → ((r : Row) → o ≡ Some r → lines_left r.after ≤ lines_left w)
@@ -129,9 +131,7 @@ setting_leaves w =
 claim_leaves : (p : ℕ) (a : Alphabet) (w : Written) → IfOk (claim_line p a w) (Leaves w)
 unfolding claim_line
 claim_leaves p a w =
-    on_bind _ _ (the_line (codes "claim") w) _ (the_line_leaves (codes "claim") w) (λ line h.
-    on_bind _ _ (at_line line.number (poly_at p a line.tokens)) _
-    (on_any (at_line line.number (poly_at p a line.tokens))) (λ f _. h))
+    keyword_leaves (codes "claim") w (λ line. at_line line.number (poly_at p a line.tokens))
 
 left_by : {A E : Type 0} (w : Written) (r : Result (A × Written) E) (x : A) (rest : Written)
     → r ≡ Ok (x, rest) → IfOk r (Leaves w) → lines_left rest ≤ lines_left w

@@ -4,7 +4,7 @@
 -- its words and those of a generator have at most 255 letters each (`term_reads`).
 use Rattle.nc_algebra.specs.Alphabets.{Alphabet, IsTextGenerator, IsTextPolynomial, IsTextWord, IsWeight, is_name}
 use Rattle.nc_algebra.specs.Certificates.{HasTextWords, IsFactor, IsPart, Part, part_reach}
-use Rattle.nc_algebra.specs.Elements.{Setting, generator}
+use Rattle.nc_algebra.specs.Elements.{Setting}
 use Rattle.nc_algebra.specs.Monomials.{Monomial}
 use Rattle.nc_algebra.specs.Settings.{IsSetting, NamedSetting}
 use Rattle.nc_algebra.specs.Lists.{Among, IsDistinct}

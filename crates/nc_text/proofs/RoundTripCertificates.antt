@@ -17,6 +17,7 @@ use Rattle.nc_text.specs.Certificates.{body_lines, certificate_at, end_line, for
 use Rattle.nc_text.specs.Laws.{OneCertificate, ReadsTerms, ReadsWhatIsPrinted}
 use Rattle.nc_text.specs.Rows.{form_at}
 use Rattle.nc_tokens.proofs.KeywordLines.{IsLineOf, spaced_line, taken}
+use Rattle.nc_tokens.proofs.PlainBytes.{ArePlain}
 use Rattle.nc_tokens.proofs.PlainLines.{IsPrintedLine}
 use Rattle.nc_tokens.proofs.PrintedTokens.{nothing}
 use Rattle.nc_tokens.specs.Lines.{the_end, written}
@@ -30,37 +31,29 @@ use Rattle.std.specs.List.{AllByRecursion}
 
 -- ---- the lines `certificate` and `end`
 
-first_is : IsLineOf (codes "certificate") (tokens (codes "1")) (codes "certificate 1")
-first_is =
-    spaced_line (codes "certificate") (codes "1") (record { name = refl; begun = λ rest. refl })
-    refl
+-- the line of a form, and what is read of it
+record IsFormLine (form : ℕ) (text line : List ℕ) : Type 0 where
+  is : IsLineOf (codes "certificate") (tokens text) line
+  reads : form_at (tokens text) ≡ Ok form
 
-second_is : IsLineOf (codes "certificate") (tokens (codes "2")) (codes "certificate 2")
-second_is =
-    spaced_line (codes "certificate") (codes "2") (record { name = refl; begun = λ rest. refl })
-    refl
+form_is : (text : List ℕ) → ArePlain text
+    → IsLineOf (codes "certificate") (tokens text) (codes "certificate" ++ 32 ∷ text)
+form_is text plain =
+    spaced_line (codes "certificate") text (record { name = refl; begun = λ rest. refl }) plain
 
-forms_read : (form_at (tokens (codes "1")) ≡ Ok 1) × (form_at (tokens (codes "2")) ≡ Ok 2)
+forms_are : IsFormLine 1 (codes "1") (codes "certificate 1")
+    × IsFormLine 2 (codes "2") (codes "certificate 2")
 unfolding tokens pieces form_at literal_at end_at
-forms_read = (refl, refl)
+forms_are = (
+  record { is = form_is (codes "1") refl; reads = refl },
+  record { is = form_is (codes "2") refl; reads = refl },
+)
 
-first_again : (n : ℕ) (ls : List (List ℕ)) → form_line (written n (codes "certificate 1" ∷ ls))
-    ≡ Ok (1, written (n + 1) ls)
+form_again : {form : ℕ} {text line : List ℕ} → IsFormLine form text line → (n : ℕ)
+    (ls : List (List ℕ)) → form_line (written n (line ∷ ls)) ≡ Ok (form, written (n + 1) ls)
 unfolding form_line
-first_again n ls =
-    rw (
-      taken (codes "certificate") (codes "certificate 1") (tokens (codes "1")) n ls first_is,
-      forms_read.0,
-    ) refl
-
-second_again : (n : ℕ) (ls : List (List ℕ)) → form_line (written n (codes "certificate 2" ∷ ls))
-    ≡ Ok (2, written (n + 1) ls)
-unfolding form_line
-second_again n ls =
-    rw (
-      taken (codes "certificate") (codes "certificate 2") (tokens (codes "2")) n ls second_is,
-      forms_read.1,
-    ) refl
+form_again {form} {text} {line} h n ls =
+    rw (taken (codes "certificate") line (tokens text) n ls h.is, h.reads) refl
 
 end_again : (n : ℕ) → end_line (written n the_last) ≡ Ok tt
 unfolding end_line end_at written the_end
@@ -109,10 +102,10 @@ module _ (s : NamedSetting) (is : IsSetting s) (claim : Polynomial) (text : IsTe
       let body = printed s is lines in
       ap (λ (ls : List (List ℕ)). certificate_at (written 1 ls))
       (lines_ended (codes "certificate 2" ∷ with_body body) (
-        second_is.printed,
+        forms_are.1.is.printed,
         all_are_printed body (lines_printed s is [] lines (omega arith) all),
       ))
-      ∙ again 2 (codes "certificate 2") body lines second_again
+      ∙ again 2 (codes "certificate 2") body lines (form_again forms_are.1)
       (λ n. line_lines_again s is n lines few all)
 
   pub terms_again : (α : Element) → AreRead s is [] (element_lines α)
@@ -123,10 +116,10 @@ module _ (s : NamedSetting) (is : IsSetting s) (claim : Polynomial) (text : IsTe
       let terms = are_terms s is α all in
       ap (λ (ls : List (List ℕ)). certificate_at (written 1 ls))
       (lines_ended (codes "certificate 1" ∷ with_body body) (
-        first_is.printed,
+        forms_are.0.is.printed,
         all_are_printed body (terms_printed s is α terms),
       ))
-      ∙ again 1 (codes "certificate 1") body (element_lines α) first_again body_counted
+      ∙ again 1 (codes "certificate 1") body (element_lines α) (form_again forms_are.0) body_counted
     where
       body_counted : (n : ℕ) → body_lines 1 s
           (written n (map (term_line s.alphabet.names) α ++ the_last)) ≡ Ok (

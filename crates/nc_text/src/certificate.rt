@@ -21,7 +21,7 @@ use std::alloc::Global;
 pub const MAX_BYTES: usize = 16_777_216;
 
 /// Reads the line `certificate`, and gives the form.
-#[tactic(auto, using(nc_tokens::proofs::Told::at_gives), unfolding(crate::specs::Certificates::form_line))]
+#[tactic(auto, using(crate::proofs::Told::told), unfolding(crate::specs::Certificates::form_line))]
 fn form_line(text: &mut Text<'_>) -> Result<u64, ReadFault>
     ensures { GivesText (λ form. (form, left text.new)) result (form_line (left text.old)) }
 {
@@ -31,7 +31,7 @@ fn form_line(text: &mut Text<'_>) -> Result<u64, ReadFault>
 }
 
 /// Reads the line `claim`.
-#[tactic(auto, using(nc_tokens::proofs::Told::at_gives), unfolding(crate::specs::Certificates::claim_line))]
+#[tactic(auto, using(crate::proofs::Told::told), unfolding(crate::specs::Certificates::claim_line))]
 pub fn claim_line(alloc: Global, setting: &Setting, text: &mut Text<'_>) -> Result<Poly, ReadFault>
     ensures { GivesText (λ f. (f, left text.new)) result
         (claim_line setting.now.setting.prime setting.now.alphabet (left text.old)) }
@@ -91,7 +91,7 @@ fn body_of(
 }
 
 /// Reads the line `end`, and sees that the text ends behind it.
-#[tactic(auto, using(nc_tokens::proofs::Told::at_gives), unfolding(crate::specs::Certificates::end_line))]
+#[tactic(auto, using(crate::proofs::Told::told), unfolding(crate::specs::Certificates::end_line))]
 fn end_line(text: &mut Text<'_>) -> Result<(), ReadFault>
     ensures { GivesText (λ _. tt) result (end_line (left text.old)) }
 {

@@ -4,7 +4,7 @@ ghost use Rattle.nc_algebra.specs.Alphabets.{IsTextWord};
 ghost use Rattle.nc_algebra.specs.Elements.{IsGenerator, Setting as SettingValue};
 ghost use Rattle.nc_algebra.specs.Problems.{Bound as Limit};
 ghost use Rattle.nc_module.specs.Problems.{HasBoundDegree, bound_of};
-ghost use Rattle.nc_text.specs.Problems.{bound_line, claim_at, optional_claim, reads_problem, steps_line, wanted_claim};
+ghost use Rattle.nc_text.specs.Problems.{bound_line, claim_at, optional_claim, reads_problem, steps_line};
 ghost use Rattle.nc_text.specs.Rows.{below_at, bound_at, degree_at, steps_at};
 ghost use Rattle.nc_tokens.specs.Gives.{Gives, GivesText};
 ghost use Rattle.nc_tokens.specs.Unread.{left};
@@ -122,7 +122,7 @@ fn steps_of(line: &mut Tokens<'_>) -> Result<u64, LineError>
 }
 
 /// Reads the line `bound`.
-#[tactic(auto, using(nc_tokens::proofs::Told::at_gives, nc_tokens::proofs::Told::at_holds), unfolding(crate::specs::Problems::bound_line))]
+#[tactic(auto, using(crate::proofs::Told::told), unfolding(crate::specs::Problems::bound_line))]
 fn bound_line(alloc: Global, setting: &Setting, text: &mut Text<'_>) -> Result<Bound, ReadFault>
     ensures reads { GivesText (λ b. (bound_of b, left text.new)) result
         (bound_line setting.now.alphabet (length setting.now.setting.generators) (left text.old)) }
@@ -134,7 +134,7 @@ fn bound_line(alloc: Global, setting: &Setting, text: &mut Text<'_>) -> Result<B
 }
 
 /// Reads the line `steps`, if it comes next.
-#[tactic(auto, using(nc_tokens::proofs::Told::at_gives), unfolding(crate::specs::Problems::steps_line))]
+#[tactic(auto, using(crate::proofs::Told::told), unfolding(crate::specs::Problems::steps_line))]
 fn steps_line(text: &mut Text<'_>) -> Result<u64, ReadFault>
     ensures { GivesText (λ n. (n, left text.new)) result (steps_line (left text.old)) }
 {
@@ -149,7 +149,7 @@ fn steps_line(text: &mut Text<'_>) -> Result<u64, ReadFault>
 }
 
 /// Reads the line `claim`, if it comes next.
-#[tactic(auto, using(nc_tokens::proofs::Told::at_gives), unfolding(crate::specs::Problems::optional_claim))]
+#[tactic(auto, using(crate::proofs::Told::told), unfolding(crate::specs::Problems::optional_claim))]
 fn optional_claim(
     alloc: Global,
     setting: &Setting,
@@ -171,21 +171,8 @@ fn optional_claim(
     }
 }
 
-/// Reads the line `claim`, which must come next.
-#[tactic(auto, unfolding(crate::specs::Problems::wanted_claim))]
-fn wanted_claim(
-    alloc: Global,
-    setting: &Setting,
-    text: &mut Text<'_>,
-) -> Result<Option<Poly>, ReadFault>
-    ensures { GivesText (λ f. (f, left text.new)) result
-        (wanted_claim setting.now.setting.prime setting.now.alphabet (left text.old)) }
-{
-    let claim = claim_line(alloc, setting, text)?;
-    Ok(Some(claim))
-}
-
 /// Reads the claim, which must come next where it is wanted.
+#[tactic(auto, unfolding(crate::specs::Problems::wanted_claim))]
 fn claim_of(
     alloc: Global,
     setting: &Setting,
@@ -196,7 +183,8 @@ fn claim_of(
         (claim_at wants_claim setting.now.setting.prime setting.now.alphabet (left text.old)) }
 {
     if wants_claim {
-        wanted_claim(alloc, setting, text)
+        let claim = claim_line(alloc, setting, text)?;
+        Ok(Some(claim))
     } else {
         optional_claim(alloc, setting, text)
     }

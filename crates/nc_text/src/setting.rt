@@ -16,7 +16,7 @@ use std::alloc::Global;
 const MAX_GENERATORS: usize = 1000;
 
 /// Reads the line `field`.
-#[tactic(auto, using(nc_tokens::proofs::Told::at_gives), unfolding(crate::specs::Settings::field_line))]
+#[tactic(auto, using(crate::proofs::Told::told), unfolding(crate::specs::Settings::field_line))]
 fn field_line(text: &mut Text<'_>) -> Result<Prime, ReadFault>
     ensures { GivesText (λ p. (p, left text.new)) result (field_line (left text.old)) }
 {
@@ -26,7 +26,7 @@ fn field_line(text: &mut Text<'_>) -> Result<Prime, ReadFault>
 }
 
 /// Reads the line `letters`.
-#[tactic(auto, using(nc_tokens::proofs::Told::at_gives), unfolding(crate::specs::Settings::letters_line))]
+#[tactic(auto, using(crate::proofs::Told::told), unfolding(crate::specs::Settings::letters_line))]
 fn letters_line(alloc: Global, text: &mut Text<'_>) -> Result<Vec<Name>, ReadFault>
     ensures reads { GivesText (λ ns. (ns.items, left text.new)) result
         (letters_line (left text.old)) }
@@ -38,7 +38,7 @@ fn letters_line(alloc: Global, text: &mut Text<'_>) -> Result<Vec<Name>, ReadFau
 }
 
 /// Reads the line `weights`, if it comes next; else each letter weighs 1.
-#[tactic(auto, using(nc_tokens::proofs::Told::at_gives), unfolding(crate::specs::Settings::weights_line))]
+#[tactic(auto, using(crate::proofs::Told::told), unfolding(crate::specs::Settings::weights_line))]
 fn weights_line(alloc: Global, letters: usize, text: &mut Text<'_>) -> Result<Vec<u8>, ReadFault>
     ensures { GivesText (λ ms. (ms.items, left text.new)) result
         (weights_line letters (left text.old)) }

@@ -104,26 +104,30 @@ unfolding tokens pieces
 token_none bs [] e short = sym (same_tokens bs) ∙ ap tokens (sym e)
 token_none bs (x ∷ xs) e short = absurd (omega arith)
 
+-- a token of the bytes from the first one on that pass a test
+token_by : (p : ℕ → Bool) (make : List ℕ → Token) (bs : List ℕ) (x : ℕ) (xs front back : List ℕ)
+    → x ∷ xs ≡ after_blanks bs → same_tests p (goes_on (x ∷ [])) → p x ≡ true
+    → ((l : List ℕ) → token_of (x ∷ l) ≡ make (x ∷ l))
+    → front ≡ take (prefix_len p (x ∷ xs)) (x ∷ xs) → back ≡ drop (prefix_len p (x ∷ xs)) (x ∷ xs)
+    → tokens bs ≡ make front ∷ tokens back
+token_by p make bs x xs front back e same passes makes is_front is_back =
+    let one = counted_piece p x xs same passes (starts bs x xs (sym e)) in
+    let k : take (prefix_len p (x ∷ xs)) (x ∷ xs) ≡ x ∷ take (prefix_len p xs) xs =
+    rw passes ((counted (prefix_len p xs) x xs).0) in
+    let rest = tokens (drop (prefix_len p (x ∷ xs)) (x ∷ xs)) in
+    sym (same_tokens bs) ∙ ap tokens (sym e) ∙ one ∙ ap (λ (l : List ℕ). token_of l ∷ rest) k
+    ∙ ap (λ (t : Token). t ∷ rest) (makes (take (prefix_len p xs) xs))
+    ∙ ap (λ (l : List ℕ). make l ∷ rest) (sym k ∙ sym is_front)
+    ∙ ap (λ (l : List ℕ). make front ∷ tokens l) (sym is_back)
+
 pub token_digits : (bs xs front back : List ℕ) → xs ≡ after_blanks bs → 1 ≤ length xs
     → is_ascii_digit (get_or xs 0 0) ≡ true
     → front ≡ take (prefix_len is_ascii_digit xs) xs → back ≡ drop (prefix_len is_ascii_digit xs) xs
     → tokens bs ≡ literal_of front ∷ tokens back
 token_digits bs [] front back e long digit is_front is_back = absurd (omega arith)
 token_digits bs (x ∷ xs) front back e long digit is_front is_back =
-    let one =
-    counted_piece is_ascii_digit x xs (λ b. rw digit refl) digit (starts bs x xs (sym e)) in
-    let k : take (prefix_len is_ascii_digit (x ∷ xs)) (x ∷ xs) ≡ x
-    ∷ take (prefix_len is_ascii_digit xs) xs =
-    rw digit ((counted (prefix_len is_ascii_digit xs) x xs).0) in
-    let t : token_of (x ∷ take (prefix_len is_ascii_digit xs) xs) ≡ literal_of
-    (x ∷ take (prefix_len is_ascii_digit xs) xs) = rw digit refl in
-    sym (same_tokens bs) ∙ ap tokens (sym e) ∙ one
-    ∙ ap (λ (l : List ℕ). token_of l
-    ∷ tokens (drop (prefix_len is_ascii_digit (x ∷ xs)) (x ∷ xs))) k
-    ∙ ap (λ (t : Token). t ∷ tokens (drop (prefix_len is_ascii_digit (x ∷ xs)) (x ∷ xs))) t
-    ∙ ap (λ (l : List ℕ). literal_of l
-    ∷ tokens (drop (prefix_len is_ascii_digit (x ∷ xs)) (x ∷ xs))) (sym k ∙ sym is_front)
-    ∙ ap (λ (l : List ℕ). literal_of front ∷ tokens l) (sym is_back)
+    token_by is_ascii_digit literal_of bs x xs front back e (λ b. rw digit refl) digit
+    (λ l. rw digit refl) is_front is_back
 
 no_digit : (x : ℕ) → is_ascii_alphabetic x ≡ true → is_ascii_digit x ≡ false
 no_digit x e = grind (arith, nat_tests)
@@ -137,18 +141,8 @@ pub token_name : (bs xs front back : List ℕ) → xs ≡ after_blanks bs → 1 
     → tokens bs ≡ Name front ∷ tokens back
 token_name bs [] front back e long letter is_front is_back = absurd (omega arith)
 token_name bs (x ∷ xs) front back e long letter is_front is_back =
-    let one =
-    counted_piece is_name_byte x xs (λ b. rw (no_digit x letter, letter) refl)
-    (name_first x letter) (starts bs x xs (sym e)) in
-    let k : take (prefix_len is_name_byte (x ∷ xs)) (x ∷ xs) ≡ x ∷ take (prefix_len is_name_byte xs)
-    xs = rw (name_first x letter) ((counted (prefix_len is_name_byte xs) x xs).0) in
-    let t : token_of (x ∷ take (prefix_len is_name_byte xs) xs)
-    ≡ Name (x ∷ take (prefix_len is_name_byte xs) xs) = rw (no_digit x letter, letter) refl in
-    let rest = tokens (drop (prefix_len is_name_byte (x ∷ xs)) (x ∷ xs)) in
-    sym (same_tokens bs) ∙ ap tokens (sym e) ∙ one ∙ ap (λ (l : List ℕ). token_of l ∷ rest) k
-    ∙ ap (λ (t : Token). t ∷ rest) t
-    ∙ ap (λ (l : List ℕ). Name l ∷ rest) (sym k ∙ sym is_front)
-    ∙ ap (λ (l : List ℕ). Name front ∷ tokens l) (sym is_back)
+    token_by is_name_byte Name bs x xs front back e (λ b. rw (no_digit x letter, letter) refl)
+    (name_first x letter) (λ l. rw (no_digit x letter, letter) refl) is_front is_back
 
 pub nothing_goes : (x : ℕ) (xs : List ℕ) → is_ascii_digit x ≡ false → is_ascii_alphabetic x ≡ false
     → prefix_len (goes_on (x ∷ [])) xs ≡ 0

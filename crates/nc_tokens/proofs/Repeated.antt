@@ -10,7 +10,7 @@ use Rattle.nc_tokens.specs.declared.fault.Kind.{Kind}
 use Rattle.nc_tokens.specs.declared.fault.ReadFault.{ReadFault}
 use Rattle.nc_tokens.specs.declared.fault.ReadFault.TheVariants as faults
 use Rattle.nc_tokens.specs.declared.fault.TextFault.{TextFault}
-use Rattle.std.proofs.Common.{Bool, Err, List, None, Ok, Result, Some, [], ap, append_assoc, arith, cond, false, refl, subst, sym, true, ℕ, ◌&&◌, ◌++◌, ◌+◌, ◌-◌, ◌<◌, ◌∙◌, ◌∷◌, ◌≡◌}
+use Rattle.std.proofs.Common.{Bool, Err, List, None, Ok, Result, Some, [], ap, append_assoc, arith, cond, false, refl, subst, sym, true, ℕ, ◌&&◌, ◌++◌, ◌-◌, ◌<◌, ◌∙◌, ◌∷◌, ◌≡◌}
 use Rattle.std.proofs.lemmas.List.{append-nil}
 
 one_line : (b : Bool) (r s : Row) → cond b (Some r) None ≡ Some s → (b ≡ true) × (r ≡ s)

@@ -56,12 +56,28 @@ pub record SourceUse : Type 0 where
   pub faults_before : ℕ
   pub faults_after : ℕ
 
+abbrev pub source_use : {S : Type 0} → (S → Option (List ℕ)) → (S → ℕ) → S → S → SourceUse
+source_use left faults before after = record {
+  left_before = left before;
+  left_after = left after;
+  faults_before = faults before;
+  faults_after = faults after;
+}
+
 -- its use of its sink: what the sink tells of the bytes that were written, and its failures
 pub record SinkUse : Type 0 where
   pub written_before : Option (List ℕ)
   pub written_after : Option (List ℕ)
   pub faults_before : ℕ
   pub faults_after : ℕ
+
+abbrev pub sink_use : {K : Type 0} → (K → Option (List ℕ)) → (K → ℕ) → K → K → SinkUse
+sink_use written faults before after = record {
+  written_before = written before;
+  written_after = written after;
+  faults_before = faults before;
+  faults_after = faults after;
+}
 
 -- this text was written, and nothing else
 abbrev pub HasWritten : SinkUse → List ℕ → Type 0

@@ -5,6 +5,7 @@ ghost use Rattle.nc_options.specs.declared.options.Form.TheVariants.{Lines as As
 ghost use Rattle.nc_top.specs.Asked.{AreLinesOf, AreTermsOf, IsAsked, IsAskedAnswer, IsFoundOf, LeavesRest, StaysOpen};
 ghost use Rattle.nc_top.specs.Member.{IsClaimText, IsMemberAnswer, reads_claim};
 ghost use Rattle.nc_algebra.specs.Monomials.{monomial_of};
+ghost use Rattle.nc_report.specs.Letters.{IsMonomialNamed};
 ghost use Rattle.nc_top.specs.Reports.{not_below_report, remainder_line, undecided_report};
 ghost use Rattle.std.specs.Prelude.{All, IfOk, Ok, OnOk, length, ◌++◌, ◌<◌, ◌≡◌, ◌≤◌};
 
@@ -59,8 +60,7 @@ fn undecided_report(
     next: &Sig,
     rest: &Poly,
 ) -> Result<Vec<u8>, AllocError>
-    requires left { All (λ x. x.index < length names.now) next.now.left }
-    requires right { All (λ x. x.index < length names.now) next.now.right }
+    requires next { IsMonomialNamed (length names.now) (monomial_of next.now) }
     requires rest { All (λ t. All (λ x. x.index < length names.now) t.key) rest.now }
     ensures { IfOk result (λ report. report.items ≡ undecided_report names.now
         (monomial_of next.now) rest.now) }

@@ -3,7 +3,7 @@
 ghost use Rattle.nc_algebra.specs.Limits.{max_bytes};
 ghost use Rattle.nc_io.specs.Pieces.{TakesFront};
 ghost use Rattle.nc_options.specs.Laws.{AreInRange};
-ghost use Rattle.nc_top.specs.Run.{IsAnswer, IsCommand, IsRefused, IsReported, IsRun, Ran, Runs};
+ghost use Rattle.nc_top.specs.Run.{IsAnswer, IsCommand, IsRefused, IsReported, IsRun, Ran, Runs, sink_use, source_use};
 ghost use Rattle.std.specs.Prelude.{IfOk, IsTrue, codes, length, map, string_bytes, ◌+◌, ◌↔◌, ◌≡◌, ◌≤◌};
 
 use crate::basis::answer_basis;
@@ -48,12 +48,7 @@ fn answer(alloc: Global, options: Options, bytes: &[u8]) -> Result<(Status, Vec<
 
 /// Writes the report.
 fn report<K: Sink>(sink: &mut K, status: Status, text: &[u8]) -> Status
-    ensures { IsReported (record {
-      written_before = K.written sink.old;
-      written_after = K.written sink.new;
-      faults_before = K.faults sink.old;
-      faults_after = K.faults sink.new;
-    }) text.now status result }
+    ensures { IsReported (sink_use K.written K.faults sink.old sink.new) text.now status result }
 {
     match put_whole(sink, text) {
         Ok(()) => status,
@@ -63,12 +58,8 @@ fn report<K: Sink>(sink: &mut K, status: Status, text: &[u8]) -> Status
 
 /// Reports that the words are no command that runs.
 fn refuse<K: Sink>(sink: &mut K) -> Status
-    ensures { IsReported (record {
-      written_before = K.written sink.old;
-      written_after = K.written sink.new;
-      faults_before = K.faults sink.old;
-      faults_after = K.faults sink.new;
-    }) (codes "usage\n") Status.Usage result }
+    ensures { IsReported (sink_use K.written K.faults sink.old sink.new) (codes "usage\n")
+        Status.Usage result }
 {
     report(sink, Status::Usage, b"usage\n")
 }
@@ -82,17 +73,8 @@ fn run_command<S: Source, K: Sink>(
 ) -> Status
     requires runs { Runs options }
     requires range { AreInRange options }
-    ensures ran { Ran options (record {
-      left_before = S.left source.old;
-      left_after = S.left source.new;
-      faults_before = S.faults source.old;
-      faults_after = S.faults source.new;
-    }) (record {
-      written_before = K.written sink.old;
-      written_after = K.written sink.new;
-      faults_before = K.faults sink.old;
-      faults_after = K.faults sink.new;
-    }) result }
+    ensures ran { Ran options (source_use S.left S.faults source.old source.new)
+        (sink_use K.written K.faults sink.old sink.new) result }
     ensures limit { TakesFront (S.left source.old) (S.left source.new) (max_bytes + 1) }
 {
     match take_whole(alloc, source, MAX_BYTES + 1) {
@@ -125,24 +107,10 @@ pub fn run_alone<S: Source, K: Sink>(
 ) -> Status
     ensures unread { ¬ IsRun (map string_bytes words.now) → source.new ≡ source.old }
     ensures usage { ¬ IsRun (map string_bytes words.now)
-        → IsRefused (record {
-          written_before = K.written sink.old;
-          written_after = K.written sink.new;
-          faults_before = K.faults sink.old;
-          faults_after = K.faults sink.new;
-        }) result }
+        → IsRefused (sink_use K.written K.faults sink.old sink.new) result }
     ensures ran { (options : Options) → IsCommand (map string_bytes words.now) options
-        → Ran options (record {
-          left_before = S.left source.old;
-          left_after = S.left source.new;
-          faults_before = S.faults source.old;
-          faults_after = S.faults source.new;
-        }) (record {
-          written_before = K.written sink.old;
-          written_after = K.written sink.new;
-          faults_before = K.faults sink.old;
-          faults_after = K.faults sink.new;
-        }) result }
+        → Ran options (source_use S.left S.faults source.old source.new)
+        (sink_use K.written K.faults sink.old sink.new) result }
     ensures limit { TakesFront (S.left source.old) (S.left source.new) (max_bytes + 1) }
 {
     options_are_in_range();

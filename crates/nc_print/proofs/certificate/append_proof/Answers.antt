@@ -1,4 +1,4 @@
-use Rattle.nc_print.proofs.Begins.{begins_further, begins_maybe, begins_more, begins_same}
+use Rattle.nc_print.proofs.Begins.{begins_in_a_row}
 use Rattle.nc_print.proofs.Writing.{written_in_a_row, written_last}
 use Rattle.std.proofs.Common.{codes, refl}
 use Rattle.nc_print.proofs.certificate.append_proof.Goals as goal
@@ -14,8 +14,5 @@ returns-clause-text c =
 
 pub returns-clause-kept : goal.returns-clause-kept
 returns-clause-kept c =
-    begins_maybe _ _ _ _ _ c.extend_from_slice-2.ensures.items
-    (begins_further _ _ _ c.append_lines.ensures.kept
-    (begins_further _ _ _ c.append_poly_line.ensures.kept
-    (begins_further _ _ _ c.append_setting.ensures.kept
-    (begins_more _ _ _ _ c.in_ok-extend_from_slice.ensures.items (begins_same _)))))
+    begins_in_a_row _ _ _ _ _ _ _ _ _ c.in_ok-extend_from_slice.ensures.items c.append_setting.ensures.kept
+    c.append_poly_line.ensures.kept c.append_lines.ensures.kept c.extend_from_slice-2.ensures.items

@@ -1,8 +1,10 @@
-use Rattle.nc_print.proofs.Writing.{bare_texts_end}
-use Rattle.std.proofs.Common.{arith}
+use Rattle.nc_print.proofs.Writing.{bare_end}
+use Rattle.nc_print.specs.Printing.{module_term_text}
+use Rattle.std.proofs.Common.{arith, codes, ◌++◌}
+use Rattle.std.specs.List.{flat_map}
 use Rattle.nc_print.proofs.module.append_others.Goals as goal
 
 pub returns-clause-text : goal.returns-clause-text
 returns-clause-text c =
-    bare_texts_end c.args.names.now c.args.terms.now c.loop-t.t-index c.args.out.now.items
+    bare_end (module_term_text c.args.names.now) (flat_map (λ y. codes " + " ++ y)) c.args.terms.now c.loop-t.t-index c.args.out.now.items
     c.loop-t.out.items (omega arith) c.loop-t.invariant

@@ -1,14 +1,15 @@
-use Rattle.nc_print.proofs.Writing.{bare_line, bare_lines_end, written_more}
+use Rattle.nc_print.proofs.Writing.{bare, bare_end, written_more}
+use Rattle.nc_print.specs.Printing.{ended, term_line}
 use Rattle.std.proofs.Common.{arith}
 use Rattle.nc_print.proofs.terms.append_each.Goals as goal
 
 pub loop-t-preserved : goal.loop-t-preserved
 loop-t-preserved c =
-    written_more (bare_line c.args.names.now) c.args.terms.now c.loop-t.t-index c.t-item.result
+    written_more (λ t. term_line c.args.names.now (bare t)) c.args.terms.now c.loop-t.t-index c.t-item.result
     c.args.out.now.items c.loop-t.out.items _ (omega arith) c.t-item.is c.loop-t.invariant
     c.in_ok-append_term.ensures.text
 
 pub returns-clause-text : goal.returns-clause-text
 returns-clause-text c =
-    bare_lines_end c.args.names.now c.args.terms.now c.loop-t.t-index c.args.out.now.items
+    bare_end (term_line c.args.names.now) ended c.args.terms.now c.loop-t.t-index c.args.out.now.items
     c.loop-t.out.items (omega arith) c.loop-t.invariant

@@ -1,29 +1,25 @@
-use Rattle.std.proofs.Common.{◌≡◌, ℕ, ◌∷◌, [], length, Bool, true, false, cond, nat_eq, Ok, Err, vec_len, ap, ◌∙◌, sym, arith}
+use Rattle.std.proofs.Common.{◌≡◌, ℕ, ◌∷◌, [], length, List, Bool, cond, nat_eq, Ok, Err, vec_len, ap, ◌∙◌, sym, arith}
 use Rattle.std.proofs.lemmas.List.{length-append}
 use Rattle.std.proofs.lemmas.Result.{err_from_is_err_and}
 use Rattle.nc_tokens.specs.declared.fault.Kind.TheVariants.{Syntax}
 use Rattle.nc_text.proofs.Letters.{goes_on, name_fails, ends, is_wrong}
 use Rattle.nc_text.proofs.rows.letter_names.Goals as goal
 
+-- no names are a fault
+some_names : (names : List (List ℕ)) (n : ℕ) (b : Bool) → length names ≡ n → b ≡ nat_eq n 0
+    → cond (nat_eq (length names) 0) (Err Syntax) (Ok names) ≡ cond b (Err Syntax) (Ok names)
+some_names names n b long is =
+    ap (λ (e : Bool). cond e (Err Syntax) (Ok names)) (ap (λ (m : ℕ). nat_eq m 0) long ∙ sym is)
+
 pub returns-then-is_empty-clause-reads : goal.returns-then-is_empty-clause-reads
 returns-then-is_empty-clause-reads c =
-    let e : nat_eq (length c.names.names.items) 0 ≡ true =
-    (let k : length c.names.names.items ≡ vec_len c.names.names = omega (
-      arith,
-      c.names.names.ok.0,
-    ) in ap (λ (n : ℕ). nat_eq n 0) k ∙ sym c.if-is_empty.ensures) in
     ends _ _ _ c.in-End.ensures c.names.invariant.reads
-    ∙ ap (λ (b : Bool). cond b (Err Syntax) (Ok c.names.names.items)) e
+    ∙ some_names _ (vec_len c.names.names) _ (omega (arith, c.names.names.ok.0)) c.if-is_empty.ensures
 
 pub returns-in-End-clause-reads : goal.returns-in-End-clause-reads
 returns-in-End-clause-reads c =
-    let e : nat_eq (length c.names.names.items) 0 ≡ false =
-    (let k : length c.names.names.items ≡ vec_len c.names.names = omega (
-      arith,
-      c.names.names.ok.0,
-    ) in ap (λ (n : ℕ). nat_eq n 0) k ∙ sym c.if-is_empty.ensures) in
     ends _ _ _ c.in-End.ensures c.names.invariant.reads
-    ∙ ap (λ (b : Bool). cond b (Err Syntax) (Ok c.names.names.items)) e
+    ∙ some_names _ (vec_len c.names.names) _ (omega (arith, c.names.names.ok.0)) c.if-is_empty.ensures
 
 pub returns-in_err-name-in-Name-clause-reads : goal.returns-in_err-name-in-Name-clause-reads
 returns-in_err-name-in-Name-clause-reads c =

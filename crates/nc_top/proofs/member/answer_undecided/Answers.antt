@@ -1,10 +1,11 @@
 use Rattle.nc_algebra.specs.Monomials.{Sig, monomial_of}
 use Rattle.nc_desk.specs.Ends.{end_of}
-use Rattle.nc_report.proofs.Letters.{budget_left, budget_right}
+use Rattle.nc_report.proofs.Letters.{budget_named}
+use Rattle.nc_report.specs.Letters.{IsMonomialNamed}
 use Rattle.nc_snapshot.specs.Snapshots.{IsSnapshot, Snapshot}
 use Rattle.nc_theory.specs.Runs.{End}
 use Rattle.nc_top.proofs.MemberEnds.{OpenFacts, open_facts}
-use Rattle.std.proofs.Common.{All, ap, length, subst, sym, ◌<◌, ◌∙◌, ◌≡◌}
+use Rattle.std.proofs.Common.{ap, length, subst, sym, ◌∙◌, ◌≡◌}
 use Rattle.nc_top.proofs.member.answer_undecided.Goals.{After-names_of}
 use Rattle.nc_top.proofs.member.answer_undecided.Goals as goal
 
@@ -22,25 +23,16 @@ facts c =
     open_facts c.args.asked.now c.requires.asked (is_snapshot c) c.snapshot-snapshot.ensures.ended
     c.names_of.result.now (names_are c) c.args.rest.now c.requires.rest
 
-pub undecided_report-requires-clause-left : goal.undecided_report-requires-clause-left
-undecided_report-requires-clause-left c =
-    subst (λ (t : Sig). All (λ x. x.index < length c.names_of.result.now) t.left)
+pub undecided_report-requires-clause-next : goal.undecided_report-requires-clause-next
+undecided_report-requires-clause-next c =
+    subst (λ (t : Sig). IsMonomialNamed (length c.names_of.result.now) (monomial_of t))
     (sym c.deref.ensures)
-    (budget_left c.args.asked.now.finished.now.snapshot
-    (is_snapshot (goal.at.undecided_report-requires-clause-left c).After-names_of)
-    c.args.asked.now.finished.now.ending c.snapshot-snapshot.ensures.ended c.in-Budget.next.value
-    (ap end_of (sym c.in-Budget.is) ∙ c.end.ensures.end) c.names_of.result.now
-    (names_are (goal.at.undecided_report-requires-clause-left c).After-names_of))
-
-pub undecided_report-requires-clause-right : goal.undecided_report-requires-clause-right
-undecided_report-requires-clause-right c =
-    subst (λ (t : Sig). All (λ x. x.index < length c.names_of.result.now) t.right)
-    (sym c.deref.ensures)
-    (budget_right c.args.asked.now.finished.now.snapshot
-    (is_snapshot (goal.at.undecided_report-requires-clause-right c).After-names_of)
-    c.args.asked.now.finished.now.ending c.snapshot-snapshot.ensures.ended c.in-Budget.next.value
-    (ap end_of (sym c.in-Budget.is) ∙ c.end.ensures.end) c.names_of.result.now
-    (names_are (goal.at.undecided_report-requires-clause-right c).After-names_of))
+    (budget_named c.args.asked.now.finished.now.snapshot
+    (is_snapshot (goal.at.undecided_report-requires-clause-next c).After-names_of)
+    c.args.asked.now.finished.now.ending c.snapshot-snapshot.ensures.ended
+    (monomial_of c.in-Budget.next.value) (ap end_of (sym c.in-Budget.is) ∙ c.end.ensures.end)
+    c.names_of.result.now
+    (names_are (goal.at.undecided_report-requires-clause-next c).After-names_of))
 
 pub undecided_report-requires-clause-rest : goal.undecided_report-requires-clause-rest
 undecided_report-requires-clause-rest c =
