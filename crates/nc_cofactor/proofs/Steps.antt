@@ -2,9 +2,9 @@
 use Rattle.nc_algebra.proofs.Lists.{same-refl}
 use Rattle.nc_algebra.specs.Elements.{Element, Setting, element_times}
 use Rattle.nc_algebra.specs.Monomials.{Sig, compare_sigs, same_monomial}
-use Rattle.nc_algebra.specs.Sums.{SameSum, Term, minus, scale}
+use Rattle.nc_algebra.specs.Sums.{SameSum, Term, scale}
 use Rattle.nc_algebra.specs.Words.{Word}
-use Rattle.nc_cofactor.proofs.Sums.{sum_adds, sum_begins, sum_ends, sum_steps}
+use Rattle.nc_cofactor.proofs.Sums.{sum_adds, sum_begins, sum_ends}
 use Rattle.nc_cofactor.specs.Sums.{IsAddable, IsPlaced, IsSum, elements_of}
 use Rattle.nc_module.specs.Modules.{element_of, module_multiples, same_sig}
 use Rattle.nc_poly.specs.Ordered.{AreResiduesBy, Descends}
@@ -37,60 +37,31 @@ module _ (s : Setting) where
           (subst (λ (l : List (Term Sig)). SameSum same_sig s.prime new
           (module_multiples s.prime 1 u m v ++ l)) none e) d residues
 
-      -- less a multiple of one
-      pub stepped : (c k p : ℕ) (old new : List (Term Sig)) (α : Element) → c < s.prime
-          → p ≡ s.prime
-          → k ≡ (p - c) % p → SameSum same_sig s.prime new (module_multiples s.prime k u m v ++ old)
+      -- and a multiple of one
+      pub more : (c : ℕ) (old new : List (Term Sig)) (α : Element) → c < s.prime
+          → SameSum same_sig s.prime new (module_multiples s.prime c u m v ++ old)
           → Descends compare_sigs new → AreResiduesBy s.prime new → IsSum s α old
-          → IsSum s (minus s.prime α c (element_times u (label_at (elements_of labels) j) v)) new
-      stepped c k p old new α small prime negative e d residues h =
-          sum_steps s α (label_at (elements_of labels) j) c u m v old new small addable same_place
-          (subst (λ n. SameSum same_sig s.prime new (module_multiples s.prime n u m v ++ old))
-          (negative ∙ ap (λ n. (n - c) % n) prime) e) d residues h
+          → IsSum s (scale c (element_times u (label_at (elements_of labels) j) v) ++ α) new
+      more c old new α small e d residues h =
+          sum_adds s α (label_at (elements_of labels) j) c u m v old new (omega (arith, small))
+          addable same_place e d residues h
 
-  -- the code's step, by the step of the trace
-  pub taken : (labels : List (List (Term Sig))) (step : Step) (u : Word) (j : ℕ) (v : Word)
-      (c k p : ℕ) (m old new : List (Term Sig)) → u ≡ step.left → j ≡ step.number → v ≡ step.right
-      → c ≡ step.coefficient → m ≡ get_or labels (j - 1) [] → step.coefficient < s.prime
-      → p ≡ s.prime → k ≡ (p - c) % p → IsPlaced s labels step.left step.number step.right
-      → SameSum same_sig s.prime new (module_multiples s.prime k u m v ++ old)
-      → Descends compare_sigs new → AreResiduesBy s.prime new → (α : Element) → IsSum s α old
-      → IsSum s (minus s.prime α step.coefficient
-      (element_times step.left (label_at (elements_of labels) step.number) step.right)) new
-  taken labels step u j v c k p m old new left number right factor is small prime negative placed e
-      d residues α h =
-      stepped labels step.left step.number step.right placed m
-      (is ∙ ap (λ i. get_or labels (i - 1) []) number) step.coefficient k p old new α small
-      prime (negative ∙ ap (λ n. (p - n) % p) factor)
-      (subst (λ (w : Word). SameSum same_sig s.prime new
-      (module_multiples s.prime k step.left m w ++ old)) right
-      (subst (λ (w : Word). SameSum same_sig s.prime new
-      (module_multiples s.prime k w m v ++ old)) left e)) d residues h
-
-  -- the code's other step
+  -- the code's step, by what the step names
   pub added : (labels : List (List (Term Sig))) (step : Step) (u : Word) (j : ℕ) (v : Word) (c : ℕ)
       (m old new : List (Term Sig)) → u ≡ step.left → j ≡ step.number → v ≡ step.right
-      → c ≡ step.coefficient → m ≡ get_or labels (j - 1) [] → step.coefficient < s.prime
+      → m ≡ get_or labels (j - 1) [] → c < s.prime
       → IsPlaced s labels step.left step.number step.right
       → SameSum same_sig s.prime new (module_multiples s.prime c u m v ++ old)
       → Descends compare_sigs new → AreResiduesBy s.prime new → (α : Element) → IsSum s α old
-      → IsSum s (scale step.coefficient
+      → IsSum s (scale c
       (element_times step.left (label_at (elements_of labels) step.number) step.right) ++ α) new
-  added labels step u j v c m old new left number right factor is small placed e d residues α h =
-      let here : m ≡ get_or labels (step.number - 1) [] =
-      is ∙ ap (λ i. get_or labels (i - 1) []) number in
-      let sums : SameSum same_sig s.prime new
-      (module_multiples s.prime step.coefficient step.left m step.right ++ old) =
-      subst (λ (w : Word). SameSum same_sig s.prime new
-      (module_multiples s.prime step.coefficient step.left m w ++ old)) right
+  added labels step u j v c m old new left number right is small placed e d residues α h =
+      more labels step.left step.number step.right placed m
+      (is ∙ ap (λ i. get_or labels (i - 1) []) number) c old new α small
       (subst (λ (w : Word). SameSum same_sig s.prime new
-      (module_multiples s.prime step.coefficient w m v ++ old)) left
-      (subst (λ n. SameSum same_sig s.prime new (module_multiples s.prime n u m v ++ old)) factor
-      e)) in
-      sum_adds s α (label_at (elements_of labels) step.number) step.coefficient step.left m
-      step.right old new (omega (arith, small))
-      (addable labels step.left step.number step.right placed m here)
-      (same_place labels step.left step.number step.right placed m here) sums d residues h
+      (module_multiples s.prime c step.left m w ++ old)) right
+      (subst (λ (w : Word). SameSum same_sig s.prime new
+      (module_multiples s.prime c w m v ++ old)) left e)) d residues h
 
 -- a sum over all steps
 pub all_steps : (s : Setting) (sum_of : List Step → Element) (steps : List Step) (i : ℕ)

@@ -1,6 +1,7 @@
 -- Sums of module monomials with their degrees, and the module elements that they are.
--- Code adds one multiple after the other (`sum_begins`, `sum_steps`, `sum_adds`, `sum_ends`). What
--- a sum lists comes from what was added, so the degrees stay right.
+-- Code adds one multiple after the other (`sum_begins`, `sum_adds`, `sum_ends`). What a sum lists
+-- comes from what was added, so the degrees stay right. To subtract c times an element, code adds
+-- the multiple by the negative residue of c (`sum_less`).
 use Rattle.nc_algebra.proofs.Lists.{same-append, same-permutation, same-refl, same-trans}
 use Rattle.nc_algebra.proofs.Monomials.{monomial_laws}
 use Rattle.nc_algebra.proofs.Orders.{KeyLaws}
@@ -13,7 +14,7 @@ use Rattle.nc_algebra.specs.Words.{Word, word_weight}
 use Rattle.nc_cofactor.proofs.Keys.{keys_kept}
 use Rattle.nc_cofactor.specs.Sums.{IsAddable, IsSum}
 use Rattle.nc_module.specs.Modules.{element_of, module_multiples, module_times, same_sig}
-use Rattle.nc_poly.proofs.Multiples.{same_moved}
+use Rattle.nc_poly.proofs.Multiples.{negative_same}
 use Rattle.nc_poly.specs.Ordered.{AreResiduesBy, Descends}
 use Rattle.nc_sig.proofs.Equality.{sigs_decide}
 use Rattle.nc_sig.specs.Orders.{sigs_order}
@@ -92,6 +93,24 @@ module _ {K : Type 0} (same : K → K → Bool) (p : ℕ) where
       same-append same p f f' (scale ((p - 1) * c) g) (scale ((p - 1) * c) g') a
       (same_scale ((p - 1) * c) g g' b)
 
+  -- the multiple by the negative residue of c is what c times an element takes away
+  same_negative : (c : ℕ) (f g : List (Term K)) → c < p
+      → SameSum same p (scale ((p - c) % p) g ++ f) (minus p f c g)
+  same_negative c f g small =
+      same-trans same p (scale ((p - c) % p) g ++ f) (scale ((p - 1) * c) g ++ f) (minus p f c g)
+      (same-append same p (scale ((p - c) % p) g) (scale ((p - 1) * c) g) f f (record { at = each })
+      (same-refl same p f))
+      (same-permutation same p (scale ((p - 1) * c) g ++ f) (minus p f c g)
+      (IsPermutation-append_comm (scale ((p - 1) * c) g) f))
+    where
+      each : (k : K) → coefficient_by same (scale ((p - c) % p) g) k
+          % p ≡ coefficient_by same (scale ((p - 1) * c) g) k % p
+      each k =
+          ap (λ n. n % p) (linear_sum-scale (is_at same k) ((p - c) % p) g)
+          ∙ (ap (λ n. (n * coefficient_by same g k) % p) (negative_same p c small)
+          ∙ (mul-mod_first ((p - 1) * c) (coefficient_by same g k) p
+          ∙ ap (λ n. n % p) (sym (linear_sum-scale (is_at same k) ((p - 1) * c) g))))
+
 -- ---- the elements
 
 element_of-times : (u : Word) (m : List (Term Sig)) (v : Word)
@@ -112,12 +131,6 @@ element_of-scale c [] = refl
 element_of-scale c (t ∷ x) =
     ap (λ (l : Element). record { coefficient = c * t.coefficient; key = monomial_of t.key } ∷ l)
     (element_of-scale c x)
-
-element_of-minus : (p c : ℕ) (x y : List (Term Sig))
-    → element_of (minus p x c y) ≡ minus p (element_of x) c (element_of y)
-element_of-minus p c x y =
-    element_of-append x (scale ((p - 1) * c) y) ∙ ap (λ (l : Element). element_of x ++ l)
-    (element_of-scale ((p - 1) * c) y)
 
 -- residues times 1
 once : (p : ℕ) (u : Word) (m : List (Term Sig)) (v : Word)
@@ -255,41 +268,6 @@ module _ (s : Setting) where
       (same_elements s.prime some new (module_multiples s.prime 1 u m v ++ []) e))
       (same_times s.prime some u (element_of m) α v is))
 
-  -- one step more
-  pub sum_steps : (α β : Element) (c : ℕ) (u : Word) (m : List (Term Sig)) (v : Word)
-      (old new : List (Term Sig)) → c < s.prime → IsAddable s u m v
-      → SameSum same_monomial s.prime (element_of m) β
-      → SameSum same_sig s.prime new (module_multiples s.prime ((s.prime - c) % s.prime) u m v
-      ++ old) → Descends compare_sigs new → AreResiduesBy s.prime new → IsSum s α old
-      → IsSum s (minus s.prime α c (element_times u β v)) new
-  sum_steps α β c u m v old new small addable is e d residues h =
-      let k = (s.prime - c) % s.prime in
-      let some : 0 < s.prime = omega arith in
-      let turned : SameSum same_sig s.prime new (minus s.prime old c (module_times u m v)) =
-      same-trans same_sig s.prime new (module_multiples s.prime k u m v ++ old)
-      (minus s.prime old c (module_times u m v)) e
-      (same-trans same_sig s.prime (module_multiples s.prime k u m v ++ old)
-      (old ++ module_multiples s.prime k u m v) (minus s.prime old c (module_times u m v))
-      (same-permutation same_sig s.prime (module_multiples s.prime k u m v ++ old)
-      (old ++ module_multiples s.prime k u m v)
-      (IsPermutation-append_comm (module_multiples s.prime k u m v) old))
-      (same_moved same_sig s.prime c (λ σ. sig_times u σ v) old m small)) in
-      is_sum (module_multiples s.prime k u m v ++ old) new (minus s.prime α c (element_times u β v))
-      (joined_degrees (module_multiples s.prime k u m v) old
-      (moved_degrees k u m v (recursion_from_All (λ (t : Term Sig). HasDegree s t.key) m
-      addable.degrees)) (recursion_from_All (λ (t : Term Sig). HasDegree s t.key) old
-      h.degrees))
-      e d residues
-      (same-trans same_monomial s.prime (element_of new)
-      (minus s.prime (element_of old) c (element_times u (element_of m) v))
-      (minus s.prime α c (element_times u β v))
-      (subst (λ (l : Element). SameSum same_monomial s.prime (element_of new) l)
-      (element_of-minus s.prime c old (module_times u m v)
-      ∙ ap (λ (l : Element). minus s.prime (element_of old) c l) (element_of-times u m v))
-      (same_elements s.prime some new (minus s.prime old c (module_times u m v)) turned))
-      (same_minus same_monomial s.prime c (element_of old) α (element_times u (element_of m) v)
-      (element_times u β v) h.same (same_times s.prime some u (element_of m) β v is)))
-
   -- one multiple more
   pub sum_adds : (α β : Element) (c : ℕ) (u : Word) (m : List (Term Sig)) (v : Word)
       (old new : List (Term Sig)) → 0 < s.prime → IsAddable s u m v
@@ -324,6 +302,21 @@ module _ (s : Setting) where
       (scale c (element_times u β v)) (element_of old) α
       (same_scale same_monomial s.prime c (element_times u (element_of m) v) (element_times u β v)
       (same_times s.prime some u (element_of m) β v is)) h.same))
+
+  -- one multiple less
+  pub sum_less : (α β : Element) (c k p : ℕ) (m : List (Term Sig)) → c < s.prime → p ≡ s.prime
+      → k ≡ (p - c) % p → IsSum s (scale k β ++ α) m → IsSum s (minus s.prime α c β) m
+  sum_less α β c k p m small prime negative h = record {
+    same =
+        same-trans same_monomial s.prime (element_of m) (scale k β ++ α) (minus s.prime α c β)
+        h.same
+        (subst (λ n. SameSum same_monomial s.prime (scale n β ++ α) (minus s.prime α c β))
+        (sym (negative ∙ ap (λ n. (n - c) % n) prime))
+        (same_negative same_monomial s.prime c α β small));
+    descends = h.descends;
+    residues = h.residues;
+    degrees = h.degrees;
+  }
 
   -- no terms
   pub no_sum : (m : List (Term Sig)) → m ≡ [] → IsSum s [] m

@@ -1,7 +1,7 @@
 //! The label that a trace gives.
 
 ghost use Rattle.nc_algebra.specs.Elements.{Element, IsGenerator, element_times};
-ghost use Rattle.nc_algebra.specs.Sums.{minus, scale};
+ghost use Rattle.nc_algebra.specs.Sums.{scale};
 ghost use Rattle.nc_cofactor.specs.Sums.{AreSummable, IsPlaced, IsStartPlaced, IsSum, IsSummable, IsTraceSum, elements_of};
 ghost use Rattle.nc_poly.specs.Ordered.{AreResiduesBy};
 ghost use Rattle.nc_snapshot.specs.Traces.{start_of};
@@ -10,6 +10,7 @@ ghost use Rattle.nc_theory.specs.States.{Start as Beginning};
 ghost use Rattle.std.specs.Prelude.{IfOk, OnOk, get_or, length, [], ◌++◌, ◌-◌, ◌<◌, ◌≡◌, ◌≤◌};
 
 use crate::sum::{add_multiple, finish};
+use nc_field::Residue;
 use nc_module::{Module, Setting};
 use nc_poly::Sum;
 use nc_sig::Sig;
@@ -90,52 +91,21 @@ fn begin(
     }
 }
 
-/// Subtracts the multiple of a label.
-fn take_step(
-    alloc: Global,
-    sum: &mut Sum<Sig>,
-    setting: &Setting,
-    labels: &[Module],
-    step: &Step,
-) -> Result<(), AllocError>
-    requires before { AreResiduesBy setting.now.setting.prime sum.old }
-    requires residue { step.now.coefficient < setting.now.setting.prime }
-    requires placed { IsPlaced setting.now.setting labels.now step.now.left step.now.number
-        step.now.right }
-    ensures { OnOk result ((α : Element) → IsSum setting.now.setting α sum.old
-        → IsSum setting.now.setting (minus setting.now.setting.prime α step.now.coefficient
-        (element_times step.now.left (label_at (elements_of labels.now) step.now.number)
-        step.now.right)) sum.new) }
-{
-    let label = label_in(labels, step.number);
-    let c = setting.prime().neg(step.coefficient);
-    label.recall_rule();
-    add_multiple(
-        alloc,
-        sum,
-        setting,
-        c,
-        step.left.letters(),
-        label,
-        step.right.letters(),
-    )?;
-    Ok(())
-}
-
-/// Adds the multiple of a label.
+/// Adds the multiple of a label that the step names, with coefficient c.
 fn add_step(
     alloc: Global,
     sum: &mut Sum<Sig>,
     setting: &Setting,
     labels: &[Module],
+    c: Residue,
     step: &Step,
 ) -> Result<(), AllocError>
     requires before { AreResiduesBy setting.now.setting.prime sum.old }
-    requires residue { step.now.coefficient < setting.now.setting.prime }
+    requires residue { c < setting.now.setting.prime }
     requires placed { IsPlaced setting.now.setting labels.now step.now.left step.now.number
         step.now.right }
     ensures { OnOk result ((α : Element) → IsSum setting.now.setting α sum.old
-        → IsSum setting.now.setting (scale step.now.coefficient
+        → IsSum setting.now.setting (scale c
         (element_times step.now.left (label_at (elements_of labels.now) step.now.number)
         step.now.right) ++ α) sum.new) }
 {
@@ -146,7 +116,7 @@ fn add_step(
         alloc,
         sum,
         setting,
-        step.coefficient,
+        c,
         step.left.letters(),
         label,
         step.right.letters(),
@@ -168,7 +138,7 @@ pub(crate) fn steps_sum(
 {
     let mut sum = Sum::new(alloc);
     for step in steps {
-        add_step(alloc, &mut sum, setting, labels, step)?;
+        add_step(alloc, &mut sum, setting, labels, step.coefficient, step)?;
     }
     setting.recall_rule();
     let whole = finish(alloc, setting, sum)?;
@@ -188,7 +158,8 @@ pub(crate) fn trace_sum(
 {
     let mut sum = begin(alloc, setting, labels, &trace.start)?;
     for step in trace.steps.items() {
-        take_step(alloc, &mut sum, setting, labels, step)?;
+        let c = setting.prime().neg(step.coefficient);
+        add_step(alloc, &mut sum, setting, labels, c, step)?;
     }
     setting.recall_rule();
     let label = finish(alloc, setting, sum)?;

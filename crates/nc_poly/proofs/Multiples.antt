@@ -46,7 +46,7 @@ pub multiples_are_residues : (p c : ℕ) (u v : Word) (g : Polynomial) → 0 < p
 multiples_are_residues p c u v g some = moved_are_residues same_word p c (λ w. u ++ (w ++ v)) g some
 
 -- the negative of a residue counts as p - 1 times it
-negative_same : (p c : ℕ) → c < p → (p - c) % p ≡ ((p - 1) * c) % p
+pub negative_same : (p c : ℕ) → c < p → (p - c) % p ≡ ((p - 1) * c) % p
 negative_same p c small =
     sym (add-mul-mod_self_left (p - c) p c)
     ∙ (ap (λ n. n % p) (form (p - 1) (omega arith)) ∙ add-mul-mod_self_left ((p - 1) * c) p 1)
