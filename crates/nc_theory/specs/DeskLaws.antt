@@ -12,6 +12,7 @@ use Rattle.nc_theory.specs.Desk.{Abandoned, Abandons, Advances, Claimed, Claims,
 use Rattle.nc_theory.specs.Runs.{End, Handles, IsEnd, Outcome, SequentialRun}
 use Rattle.nc_theory.specs.Stale.{Extension, Unaffected}
 use Rattle.nc_theory.specs.States.{State}
+use Rattle.nc_theory.specs.UntracedDesks.{SameEvents}
 use Rattle.nc_theory.specs.Windows.{WindowLaw}
 use Rattle.std.specs.Prelude.{List, Option, ℕ, ◌↔◌, ◌≡◌, ◌≤◌, ◌⊎◌}
 
@@ -92,3 +93,7 @@ OwnWorkStands =
     Handles P.problem.setting d.state τ w.outcome
     × (¬ IsFinished P.problem d → (d' : Desk) → Advances P.problem d d'
     → Advances P.problem (after_committed d τ n w.outcome) d')
+
+-- what is done to a desk without traces is done to the desk with them
+abbrev pub TracesDoNotMatterToDesks : Type 0
+TracesDoNotMatterToDesks = (P : NamedProblem) (d : Desk) → SameEvents P d

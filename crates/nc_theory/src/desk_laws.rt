@@ -1,6 +1,6 @@
 //! The theorems on working ahead: which outcomes stand later, and desks.
 
-ghost use Rattle.nc_theory.specs.DeskLaws.{AnswersAreDetermined, DeskCounts, FinishedLaw, OwnWorkStands, PlaysAreDetermined, PlaysExist, SnapshotLaw, StaleLaw, WindowsAreKept};
+ghost use Rattle.nc_theory.specs.DeskLaws.{AnswersAreDetermined, DeskCounts, FinishedLaw, OwnWorkStands, PlaysAreDetermined, PlaysExist, SnapshotLaw, StaleLaw, TracesDoNotMatterToDesks, WindowsAreKept};
 
 /// When an outcome stands over a later state.
 pub fn stale_law()
@@ -45,4 +45,9 @@ pub fn plays_are_determined()
 /// A claim, a work that comes in, and a ticket that is given back have one answer each.
 pub fn answers_are_determined()
     ensures { AnswersAreDetermined }
+{}
+
+/// What is done to a desk without traces is done to the desk with them.
+pub fn traces_do_not_matter_to_desks()
+    ensures { TracesDoNotMatterToDesks }
 {}
