@@ -3,7 +3,7 @@
 -- of them stands before it (`stands_before`).
 use Rattle.nc_algebra.specs.Certificates.{item}
 use Rattle.nc_member.specs.Lines.{line_of}
-use Rattle.nc_theory.proofs.Stale.{front_or_later}
+use Rattle.nc_theory.proofs.Fronts.{front_or_later}
 use Rattle.std.proofs.Common.{Bool, Contains, List, [], ap, arith, cond, false, true, get_or, inl, inr, length, nat_le, refl, suc, zero, ℕ, ◌+◌, ◌++◌, ◌<◌, ◌∷◌, ◌≡◌, ◌≤◌, ◌⊎◌}
 use Rattle.std.proofs.lemmas.Bool.{le-leb, lt-leb}
 use Rattle.std.proofs.lemmas.List.{get_or_append_left, get_or_at}

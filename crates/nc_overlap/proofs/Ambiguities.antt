@@ -4,7 +4,7 @@ use Rattle.nc_algebra.specs.Monomials.{Monomial}
 use Rattle.nc_overlap.specs.Overlaps.{MeetsEither}
 use Rattle.nc_theory.proofs.Ambiguities.{from_meeting, to_meeting}
 use Rattle.nc_theory.proofs.Meetings.{swap}
-use Rattle.nc_theory.proofs.Stale.{in_front, last_is, last_listed}
+use Rattle.nc_theory.proofs.Fronts.{in_front, last_is, last_listed}
 use Rattle.nc_theory.specs.Meetings.{MeetSomewhere}
 use Rattle.nc_algebra.specs.Words.{Word}
 use Rattle.nc_theory.specs.Ambiguities.{Ambiguity, NewAmbiguity}

@@ -10,7 +10,7 @@ use Rattle.nc_algebra.specs.Sums.{Term}
 use Rattle.nc_algebra.specs.Words.{Word}
 use Rattle.nc_theory.proofs.Completeness.{Invariant, IsReached, entries_after, high_old, invariant, low_old, new_entry, reached_or_left}
 use Rattle.nc_theory.proofs.Relisted.{relisted_ambiguity}
-use Rattle.nc_theory.proofs.Stale.{front_or_later, last_is}
+use Rattle.nc_theory.proofs.Fronts.{front_or_later, last_is}
 use Rattle.nc_theory.specs.Ambiguities.{NewAmbiguity}
 use Rattle.nc_theory.specs.Reductions.{ReductionAt}
 use Rattle.nc_theory.specs.Runs.{BringsAmbiguity, Handles, IsAfter, IsCandidate, IsNext, IsWaiting, Outcome, SequentialRun, Starts, state_after}

@@ -8,11 +8,17 @@ use Rattle.nc_algebra.specs.Primes.{IsField}
 use Rattle.nc_algebra.specs.Problems.{Problem}
 use Rattle.nc_theory.proofs.Completeness.{invariant}
 use Rattle.nc_theory.proofs.Determinism.{run_unique}
+use Rattle.nc_theory.proofs.Fresh.{fresh, moved_fresh, unaffected}
 use Rattle.nc_theory.proofs.Stale.{stands, stood}
+use Rattle.nc_theory.proofs.Untraced.{same_length}
+use Rattle.nc_theory.proofs.UntracedRuns.{same_run}
+use Rattle.nc_theory.proofs.UntracedStates.{SameStates, moved_handles, same_entries, same_syzygies}
+use Rattle.nc_theory.specs.Stale.{IsFresh}
+use Rattle.nc_theory.specs.Untraced.{IsRunOf, untraced_entry, untraced_syzygy}
 use Rattle.nc_theory.specs.Runs.{Handles, Outcome, SequentialRun, opening, state_after}
-use Rattle.nc_theory.specs.Stale.{Extension, Unaffected}
+use Rattle.nc_theory.proofs.Unaffected.{Extension, Unaffected}
 use Rattle.nc_theory.specs.States.{Entry, State}
-use Rattle.std.proofs.Common.{Contains, None, Option, Some, [], ◌+◌, ap, append-nil, append_assoc, arith, inl, inr, subst, suc, sym, zero, ℕ, ◌++◌, ◌∙◌, ◌≡◌, ◌≤◌, ◌<◌, ◌∷◌, ◌⊎◌, ◌↔◌}
+use Rattle.std.proofs.Common.{length, Contains, None, Option, Some, [], ◌+◌, ap, append-nil, append_assoc, arith, inl, inr, subst, suc, sym, zero, ℕ, ◌++◌, ◌∙◌, ◌≡◌, ◌≤◌, ◌<◌, ◌∷◌, ◌⊎◌, ◌↔◌}
 
 extension_refl : (state : State) → Extension state state
 extension_refl state =
@@ -147,3 +153,83 @@ stale P field {state = state} {later = later} run run' l = (
     nonzero e c =
         (invariant P field run').sound.nonzero e
         (subst (λ y. Contains y.entries e) (sym (extends P field run run' l).is) c)
+
+-- the same, told of the later state and two counts
+pub stale_or_fresh : (P : Problem) → IsField P.setting.prime
+    → {k n : ℕ} {state later : State} {before last : Option Monomial}
+    → SequentialRun P k state before → SequentialRun P n later last → k ≤ n → (τ : Monomial)
+    (o : Outcome) → Handles P.setting state τ o → Handles P.setting later τ o
+    ↔ ((o ≡ Outcome.covered)
+    ⊎ IsFresh P.setting later (length state.entries) (length state.syzygies) τ o)
+stale_or_fresh P field {state = state} {later = later} run run' l τ o h = (
+  λ g. elim ((t.1 τ o h).0 g) [ inl e ↦ inl e | inr u ↦ inr (there u) ],
+  λ u. (t.1 τ o h).1 (elim u [ inl e ↦ inl e | inr f ↦ inr (back f) ]),
+)
+  where
+    t : (x : Extension state later) × ((τ : Monomial) (o : Outcome) → Handles P.setting state τ o
+        → Handles P.setting later τ o ↔ ((o ≡ Outcome.covered)
+        ⊎ Unaffected P.setting state x.es x.hs τ o))
+    t = stale P field run run' l
+
+    there : Unaffected P.setting state t.0.es t.0.hs τ o
+        → IsFresh P.setting later (length state.entries) (length state.syzygies) τ o
+    there u =
+        subst (λ y. IsFresh P.setting y (length state.entries) (length state.syzygies) τ o)
+        (sym t.0.is)
+        (fresh P.setting state t.0.es t.0.hs later.covered later.settled τ h u)
+
+    back : IsFresh P.setting later (length state.entries) (length state.syzygies) τ o
+        → Unaffected P.setting state t.0.es t.0.hs τ o
+    back f =
+        unaffected P.setting state t.0.es t.0.hs later.covered later.settled τ
+        (subst (λ y. IsFresh P.setting y (length state.entries) (length state.syzygies) τ o)
+        t.0.is f)
+
+-- and so it is without traces
+pub untraced_stale : (P : Problem) → IsField P.setting.prime
+    → {k n : ℕ} {state later : State} → IsRunOf P k state → IsRunOf P n later → k ≤ n
+    → (τ : Monomial) (o : Outcome) → Handles P.setting state τ o → Handles P.setting later τ o
+    ↔ ((o ≡ Outcome.covered)
+    ⊎ IsFresh P.setting later (length state.entries) (length state.syzygies) τ o)
+untraced_stale P field {state = state} {later = later} r r' l τ o h = (
+  λ g. elim (t.0 (moved_handles P.setting later r'.run same' τ o g)) [
+    | inl e ↦ inl e
+    | inr f ↦ inr (there f)
+  ],
+  λ u. moved_handles P.setting r'.run later (sym same') τ o
+      (t.1 (elim u [ inl e ↦ inl e | inr f ↦ inr (back f) ])),
+)
+  where
+    same : SameStates state r.run
+    same = same_run state r.run r.stands
+
+    same' : SameStates later r'.run
+    same' = same_run later r'.run r'.stands
+
+    t : Handles P.setting r'.run τ o ↔ ((o ≡ Outcome.covered)
+        ⊎ IsFresh P.setting r'.run (length r.run.entries) (length r.run.syzygies) τ o)
+    t =
+        stale_or_fresh P field r.runs r'.runs l τ o (moved_handles P.setting state r.run same τ o h)
+
+    entries : length state.entries ≡ length r.run.entries
+    entries =
+        same_length untraced_entry state.entries r.run.entries (same_entries state r.run same)
+
+    syzygies : length state.syzygies ≡ length r.run.syzygies
+    syzygies =
+        same_length untraced_syzygy state.syzygies r.run.syzygies (same_syzygies state r.run same)
+
+    there : IsFresh P.setting r'.run (length r.run.entries) (length r.run.syzygies) τ o
+        → IsFresh P.setting later (length state.entries) (length state.syzygies) τ o
+    there f =
+        subst (λ i. IsFresh P.setting later i (length state.syzygies) τ o) (sym entries)
+        (subst (λ i. IsFresh P.setting later (length r.run.entries) i τ o) (sym syzygies)
+        (moved_fresh P.setting r'.run later (sym same') (length r.run.entries)
+        (length r.run.syzygies) τ o f))
+
+    back : IsFresh P.setting later (length state.entries) (length state.syzygies) τ o
+        → IsFresh P.setting r'.run (length r.run.entries) (length r.run.syzygies) τ o
+    back f =
+        moved_fresh P.setting later r'.run same' (length r.run.entries) (length r.run.syzygies) τ o
+        (subst (λ i. IsFresh P.setting later i (length r.run.syzygies) τ o) entries
+        (subst (λ i. IsFresh P.setting later (length state.entries) i τ o) syzygies f))

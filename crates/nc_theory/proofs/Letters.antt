@@ -17,7 +17,7 @@ use Rattle.nc_algebra.specs.Words.{Letter, Word}
 use Rattle.nc_theory.proofs.Completeness.{invariant}
 use Rattle.nc_theory.proofs.Properties.{minus_are, more_are}
 use Rattle.nc_theory.proofs.Rebuilding.{rebuilt}
-use Rattle.nc_theory.proofs.Stale.{in_front}
+use Rattle.nc_theory.proofs.Fronts.{in_front}
 use Rattle.nc_theory.proofs.Steps.{candidate_over, divisor_over, run_over, starts_over, syzygies_are}
 use Rattle.nc_theory.specs.Divisors.{multiple_at}
 use Rattle.nc_theory.specs.Labels.{label_at, labels_of, labels_onto, less_steps, start_label, step_multiples, trace_label}

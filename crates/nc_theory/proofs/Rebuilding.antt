@@ -17,7 +17,7 @@ use Rattle.nc_theory.proofs.Determinism.{reduction_unique, starts_unique}
 use Rattle.nc_theory.proofs.Places.{at_most_multiple}
 use Rattle.nc_theory.proofs.Pushed.{each_pushed}
 use Rattle.nc_theory.proofs.Relisted.{relisted}
-use Rattle.nc_theory.proofs.Stale.{front_or_later, in_front}
+use Rattle.nc_theory.proofs.Fronts.{front_or_later, in_front}
 use Rattle.nc_theory.proofs.Traces.{only_one}
 use Rattle.nc_theory.specs.Divisors.{Divisor, IsChosenDivisor, RegularDivisor, signature_at}
 use Rattle.nc_theory.specs.Rebuilding.{IsAtLeast, Rebuilds}

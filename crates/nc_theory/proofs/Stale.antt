@@ -5,67 +5,24 @@
 -- same (`stands`). The other way (`stood`): a newer entry with a lesser word would give another
 -- best multiple (`not_beaten`), and a newer regular divisor of a kept word is excluded by
 -- `kept_clear`.
-use Rattle.nc_algebra.proofs.Orders.{nat_order}
 use Rattle.nc_algebra.proofs.Sums.{zero_number}
 use Rattle.nc_algebra.proofs.Words.{word_irrefl, word_total, word_trans}
 use Rattle.nc_algebra.specs.Elements.{IsLess, IsZeroPolynomial, Setting}
 use Rattle.nc_algebra.specs.Monomials.{Monomial}
-use Rattle.nc_algebra.specs.Polynomials.{Polynomial, coefficient, leading}
+use Rattle.nc_algebra.specs.Polynomials.{Polynomial, coefficient}
 use Rattle.nc_algebra.specs.Primes.{IsField, IsZero}
 use Rattle.nc_algebra.specs.Words.{IsWordLess, Word}
 use Rattle.nc_theory.proofs.Reductions.{kept_clear, kept_leads, kept_tail}
+use Rattle.nc_theory.proofs.Fronts.{front_or_later, in_front, in_whole, same_word_at}
 use Rattle.nc_theory.proofs.Relisted.{relisted}
 use Rattle.nc_theory.specs.Divisors.{Divisor, IsBestMultiple, IsChosenDivisor, RegularDivisor, signature_at}
 use Rattle.nc_theory.specs.Reductions.{Reduction, ReductionAt}
 use Rattle.nc_theory.specs.Runs.{Handles, Outcome, Starts}
-use Rattle.nc_theory.specs.Stale.{extended, CameFrom, Keeps, NewMultiple, NewRegular, NewlyCovered, StartedFrom, Unaffected}
+use Rattle.nc_theory.proofs.Unaffected.{extended, CameFrom, Keeps, NewMultiple, NewRegular, NewlyCovered, StartedFrom, Unaffected}
 use Rattle.nc_theory.specs.States.{Entry, Start, State, Step, Syzygy}
 use Rattle.nc_theory.specs.Syzygies.{Covered, IsSyzygySignature, TrivialSyzygy}
-use Rattle.std.proofs.Common.{ℕ, ◌≡◌, ◌+◌, ◌-◌, ◌<◌, ◌≤◌, ◌⊎◌, List, [], ◌∷◌, ◌++◌, length, refl, sym, ap, ap₂, ◌∙◌, subst, inl, inr, arith, Contains, length-append, get_or}
-use Rattle.std.proofs.lemmas.List.{get_or_append_left, get_or-append_right, get_or_default, append_cancel_left, append_cancel_right, get_or_push, length_push}
-use Rattle.std.proofs.lemmas.List.Elements.{Contains-append_cases, Contains-append_right, Contains-push_cases}
-
--- an element of the front stands in the whole, under the same number
-abbrev pub in_front : {X : Type 0} → (xs ys : List X) (x : X) → Contains xs x
-    → Contains (xs ++ ys) x
-in_front xs ys x k =
-    (k.0, omega (arith, k.1, length-append xs ys), get_or_append_left xs ys x k.0 k.1 ∙ k.2)
-
--- an element of the whole stands in the front, under the same number, or later
-pub front_or_later : {X : Type 0} → (xs ys : List X) (x : X) → (k : Contains (xs ++ ys) x)
-    → ((l : Contains xs x) × (l.0 ≡ k.0)) ⊎ (Contains ys x × (length xs ≤ k.0))
-front_or_later xs ys x k = go (nat_order k.0 (length xs))
-  where
-    later : length xs ≤ k.0 → Contains ys x × (length xs ≤ k.0)
-    later l = (
-      (
-        k.0 - length xs,
-        omega (arith, k.1, length-append xs ys),
-        sym (get_or-append_right xs ys (length xs) k.0 x refl l) ∙ k.2,
-      ),
-      l,
-    )
-
-    go : (k.0 < length xs) ⊎ ((k.0 ≡ length xs) ⊎ (length xs < k.0))
-        → ((l : Contains xs x) × (l.0 ≡ k.0)) ⊎ (Contains ys x × (length xs ≤ k.0))
-    go (inl l) = inl ((k.0, l, sym (get_or_append_left xs ys x k.0 l) ∙ k.2), refl)
-    go (inr (inl e)) = inr (later (omega (arith, e)))
-    go (inr (inr l)) = inr (later (omega arith))
-
--- what stands behind all of a list but the last is the last
-pub last_is : {X : Type 0} → (xs : List X) (y x : X) → (k : Contains (xs ++ y ∷ []) x)
-    → length xs ≤ k.0 → y ≡ x
-last_is xs y x k b = go (front_or_later xs (y ∷ []) x k)
-  where
-    go : ((l : Contains xs x) × (l.0 ≡ k.0)) ⊎ (Contains (y ∷ []) x × (length xs ≤ k.0)) → y ≡ x
-    go (inl (l, e)) = absurd (omega (arith, l.1, e, b))
-    go (inr (c, _)) =
-        elim (Contains-push_cases [] y x c) [ inl n ↦ absurd (omega (arith, n.1)) | inr e ↦ e ]
-
--- the last of a list stands behind the others
-abbrev pub last_listed : {X : Type 0} → (xs : List X) (y : X) → Contains (xs ++ y ∷ []) y
-last_listed xs y =
-    (length xs, omega (arith, length_push xs y), get_or_push xs y y (length xs) refl)
+use Rattle.std.proofs.Common.{ℕ, ◌≡◌, ◌+◌, ◌<◌, ◌≤◌, ◌⊎◌, List, ◌++◌, length, refl, ◌∙◌, subst, inl, inr, arith, Contains}
+use Rattle.std.proofs.lemmas.List.Elements.{Contains-append_cases, Contains-append_right}
 
 module _ (s : Setting) (field : IsField s.prime) (old : State) (nonzero : (e : Entry)
     → Contains old.entries e → ¬ IsZeroPolynomial s e.polynomial) (es : List Entry)
@@ -73,10 +30,9 @@ module _ (s : Setting) (field : IsField s.prime) (old : State) (nonzero : (e : E
   abbrev pub now : State
   now = extended old es hs covered settled
 
-  -- the divisor in the longer list, under its number
+  -- the divisor in the longer list
   abbrev on : (w : Word) → Divisor s old.entries w → Divisor s (old.entries ++ es) w
-  on w d =
-      relisted d (in_front old.entries es d.entry d.listed)
+  on w d = in_whole s old.entries es d
 
   back : (w : Word) (d : Divisor s (old.entries ++ es) w)
       → ((e : Divisor s old.entries w) × (e.entry ≡ d.entry) × (e.listed.0 ≡ d.listed.0)
@@ -285,31 +241,6 @@ module _ (s : Setting) (field : IsField s.prime) (old : State) (nonzero : (e : E
         (starts_on starts (λ w g. u.start w (CameFrom.from_entry g)))
         (reduction_on reduction (λ x nz. u.kept x (Keeps.keeps_entry nz)))
 
-    -- one number and one signature are one multiple
-    same_word_at : (w : Word) (d : Divisor s old.entries w) → signature_at s old.entries w d ≡ τ
-        → (w' : Word) (e : Divisor s (old.entries ++ es) w')
-        → signature_at s (old.entries ++ es) w' e ≡ τ → d.listed.0 ≡ e.listed.0 → w ≡ w'
-    same_word_at w d i w' e j k = sym d.spells ∙ (spell ∙ e.spells)
-      where
-        entry : d.entry ≡ e.entry
-        entry = sym ((in_front old.entries es d.entry d.listed).2)
-            ∙ (ap (λ n. get_or (old.entries ++ es) n d.entry) k
-            ∙ (get_or_default (old.entries ++ es) e.listed.0 d.entry e.entry e.listed.1
-            ∙ e.listed.2))
-
-        left : d.left ≡ e.left
-        left = append_cancel_right d.left e.left d.entry.signature.left
-            (ap (λ σ. σ.left) (i ∙ sym j) ∙ ap (λ x. e.left ++ x.signature.left) (sym entry))
-
-        right : d.right ≡ e.right
-        right = append_cancel_left d.entry.signature.right d.right e.right
-            (ap (λ σ. σ.right) (i ∙ sym j) ∙ ap (λ x. x.signature.right ++ e.right) (sym entry))
-
-        spell : d.left ++ (leading s.prime d.entry.polynomial ++ d.right) ≡ e.left
-            ++ (leading s.prime e.entry.polynomial ++ e.right)
-        spell = ap₂ (λ a b. a ++ (leading s.prime d.entry.polynomial ++ b)) left right
-            ∙ ap (λ x. e.left ++ (leading s.prime x.polynomial ++ e.right)) entry
-
     -- a best multiple over the newer state with the number of an older one has its word, so no
     -- newer entry has a lesser one
     not_beaten : (w : Word) (d : Divisor s old.entries w) → IsBestMultiple s old.entries τ w d
@@ -319,7 +250,7 @@ module _ (s : Setting) (field : IsField s.prime) (old : State) (nonzero : (e : E
     not_beaten w d best w' e best' k v m l = go (best'.least v m.0.divisor m.0.signed)
       where
         same : w ≡ w'
-        same = same_word_at w d best.signed w' e best'.signed k
+        same = same_word_at s old.entries es d e k best.signed best'.signed
 
         go : IsWordLess w' v ⊎ ((w' ≡ v) × (e.listed.0 + 1 ≤ m.0.divisor.listed.0 + 1)) → ⊥
         go (inl h) = word_irrefl v (word_trans v w' v (subst (IsWordLess v) same l) h)
@@ -360,7 +291,7 @@ module _ (s : Setting) (field : IsField s.prime) (old : State) (nonzero : (e : E
             → ¬ NewRegular s old es hs τ v
         kept v (Keeps.keeps_settled w' d best' i) r =
             not_regular (subst (RegularDivisor s (old.entries ++ es) τ)
-            (same_word_at w' d best'.signed w e best.signed (omega (arith, i))) r.0)
+            (same_word_at s old.entries es d e (omega (arith, i)) best'.signed best.signed) r.0)
     stood alive (Handles.is_syzygy n starts reduction) =
         inr (record {
           uncovered = λ k. n (newly_covers k);

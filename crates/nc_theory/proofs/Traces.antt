@@ -16,7 +16,7 @@ use Rattle.nc_theory.proofs.Carrying.{Carries, back_and_forth, subtracted}
 use Rattle.nc_theory.proofs.Chains.{coefficient_polynomial_minus, sum_mod}
 use Rattle.nc_theory.proofs.Completeness.{labelled_from, unit_carries}
 use Rattle.nc_theory.proofs.Pushed.{each_pushed}
-use Rattle.nc_theory.proofs.Stale.{front_or_later}
+use Rattle.nc_theory.proofs.Fronts.{front_or_later}
 use Rattle.nc_theory.specs.Labels.{label_at, labels_of, labels_onto, less_steps, start_label, trace_label}
 use Rattle.nc_theory.specs.Reductions.{Reduction, ReductionAt}
 use Rattle.nc_theory.specs.Runs.{Handles, Outcome, SequentialRun, Starts, state_after}

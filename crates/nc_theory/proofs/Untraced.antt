@@ -198,7 +198,7 @@ module _ (s : Setting) (es es' : List Entry) (same : SameEntries es es') where
       (IsLess s (second_side s i m j) (first_side s i m j) × (ρ ≡ first_side s i m j))
       ⊎ (IsLess s (first_side s i m j) (second_side s i m j) × (ρ ≡ second_side s i m j))
 
-  pub moved_trivial : (ρ : Monomial) → TrivialSyzygy s es ρ → TrivialSyzygy s es' ρ
+  abbrev pub moved_trivial : (ρ : Monomial) → TrivialSyzygy s es ρ → TrivialSyzygy s es' ρ
   moved_trivial ρ t = record {
     first = in_place untraced_entry es es' same t.first t.first_listed;
     first_listed = in_place_listed untraced_entry es es' same t.first t.first_listed;

@@ -10,22 +10,30 @@ use Rattle.nc_algebra.specs.Problems.{NamedProblem, Problem}
 use Rattle.nc_algebra.specs.Primes.{IsPrime}
 use Rattle.nc_theory.specs.Desk.{Abandoned, Abandons, Advances, Claimed, Claims, Desk, Event, IsCounted, IsFinished, IsReadyWork, Node, Plays, Submits, Submitted, Ticket, Work, after_committed, open_desk}
 use Rattle.nc_theory.specs.Runs.{End, Handles, IsEnd, Outcome, SequentialRun}
-use Rattle.nc_theory.specs.Stale.{Extension, Unaffected}
+use Rattle.nc_theory.specs.Stale.{IsFresh}
+use Rattle.nc_theory.specs.Untraced.{IsRunOf}
 use Rattle.nc_theory.specs.States.{State}
 use Rattle.nc_theory.specs.UntracedDesks.{SameEvents}
 use Rattle.nc_theory.specs.Windows.{WindowLaw}
-use Rattle.std.specs.Prelude.{List, Option, ℕ, ◌↔◌, ◌≡◌, ◌≤◌, ◌⊎◌}
+use Rattle.std.specs.Prelude.{List, Option, length, ℕ, ◌↔◌, ◌≡◌, ◌≤◌, ◌⊎◌}
 
--- what was found over an earlier state stands over a later one exactly where it is covered or
--- nothing newer bears on it
+-- what was found over an earlier state stands over a later one exactly where it is covered or fresh
 abbrev pub StaleLaw : Type 0
 StaleLaw =
     (P : Problem) → IsPrime P.setting.prime
     → (k n : ℕ) (state later : State) (before last : Option Monomial)
-    → SequentialRun P k state before → SequentialRun P n later last → k ≤ n →
-    (x : Extension state later) × ((τ : Monomial) (o : Outcome) → Handles P.setting state τ o
+    → SequentialRun P k state before → SequentialRun P n later last → k ≤ n → (τ : Monomial)
+    (o : Outcome) → Handles P.setting state τ o → Handles P.setting later τ o
+    ↔ ((o ≡ Outcome.covered)
+    ⊎ IsFresh P.setting later (length state.entries) (length state.syzygies) τ o)
+
+-- so it is without traces
+abbrev pub UntracedStaleLaw : Type 0
+UntracedStaleLaw =
+    (P : Problem) → IsPrime P.setting.prime → (k n : ℕ) (state later : State) → IsRunOf P k state
+    → IsRunOf P n later → k ≤ n → (τ : Monomial) (o : Outcome) → Handles P.setting state τ o
     → Handles P.setting later τ o ↔ ((o ≡ Outcome.covered)
-    ⊎ Unaffected P.setting state x.es x.hs τ o))
+    ⊎ IsFresh P.setting later (length state.entries) (length state.syzygies) τ o)
 
 -- a play leads from a desk at a state of the run, within the steps, to one that is so too; an open
 -- desk is one

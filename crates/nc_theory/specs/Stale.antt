@@ -1,88 +1,55 @@
 -- When an outcome that was found over an older state stands over a newer one.
 --
 -- Workers handle signatures while the run goes on, so an outcome may be asked for later than it was
--- found. An older state of a run is the front of a newer one: what was found since stands behind
--- it. So what is newer is told by its place, and not by its value. Such an outcome stands exactly
--- if it is `covered`, or if nothing newer bears on it: no newer syzygy signature covers τ, no newer
--- entry has a multiple at τ with a lesser word than the best one, and no newer entry gives a
--- regular divisor of a word that was kept. Where τ was settled, the word of the best multiple takes
--- the place of the kept words.
+-- found. The older state is told by its n entries and m syzygies, which are the first ones of the
+-- newer state; what stands behind them is newer. The outcome stands exactly if it is `covered`, or
+-- if it is fresh: no newer syzygy signature covers τ, no newer entry has a multiple at τ with a
+-- lesser word than the one that the outcome came from, and no newer entry gives a regular divisor
+-- of a word that was kept. Where τ was settled, the word of the best multiple takes the place of
+-- the kept words.
 --
 -- A newer multiple with an equal word does no harm, because the earlier entry wins. For the same
 -- reason the steps of the reduction stay what they are. The law is `StaleLaw`.
 use Rattle.nc_algebra.specs.Elements.{Setting}
-use Rattle.nc_algebra.specs.Monomials.{Divides, Monomial}
-use Rattle.nc_algebra.specs.Polynomials.{Polynomial, coefficient}
+use Rattle.nc_algebra.specs.Monomials.{Monomial}
+use Rattle.nc_algebra.specs.Polynomials.{coefficient}
 use Rattle.nc_algebra.specs.Primes.{IsZero}
 use Rattle.nc_algebra.specs.Words.{IsWordLess, Word}
-use Rattle.nc_theory.specs.Divisors.{Divisor, IsBestMultiple, Multiple, RegularDivisor, number_of}
+use Rattle.nc_theory.specs.Divisors.{Divisor, Multiple, number_of}
+use Rattle.nc_theory.specs.Newer.{HasNewerMultiple, HasNewerRegular, IsNewlyCovered}
 use Rattle.nc_theory.specs.Runs.{Outcome}
-use Rattle.nc_theory.specs.States.{Entry, Start, State, Syzygy, Trace}
-use Rattle.nc_theory.specs.Syzygies.{TrivialSyzygy}
-use Rattle.std.specs.Prelude.{Contains, List, length, ℕ, ◌++◌, ◌≡◌, ◌≤◌, ◌⊎◌}
+use Rattle.nc_theory.specs.States.{Entry, Start, State}
+use Rattle.std.specs.Prelude.{List, ℕ, ◌≡◌}
 
--- the state with more entries and syzygies, and other counts
-abbrev pub extended : State → List Entry → List Syzygy → ℕ → ℕ → State
-extended state es hs covered settled =
-    record {
-      entries = state.entries ++ es;
-      syzygies = state.syzygies ++ hs;
-      covered = covered;
-      settled = settled;
-    }
+module _ (s : Setting) (entries : List Entry) (τ : Monomial) where
+  -- the reduction began with the multiple of an entry, with leading word w
+  abbrev pub BeganWith : Start → Word → Type 0
+  BeganWith start w =
+      (d : Divisor s entries w)
+      × (start ≡ Start.a_multiple d.left (number_of s entries w d) d.right)
 
--- the state with what came after it
-pub record Extension (state later : State) : Type 0 where
-  pub es : List Entry
-  pub hs : List Syzygy
-  pub is : later ≡ extended state es hs later.covered later.settled
+  -- entry j has a multiple with signature τ and leading word w
+  abbrev pub SettledBy : ℕ → Word → Type 0
+  SettledBy j w = (m : Multiple s entries τ w) × (j ≡ number_of s entries w m.divisor)
 
-module _ (s : Setting) (old : State) (τ : Monomial) where
-  -- the start was the best multiple, of word w
-  pub record StartedFrom (start : Start) (w : Word) : Type 0 where
-    pub divisor : Divisor s old.entries w
-    pub best : IsBestMultiple s old.entries τ w divisor
-    pub is : start ≡ Start.a_multiple divisor.left (number_of s old.entries w divisor) divisor.right
-
-  -- the outcome came from the best multiple, of word w
-  pub data CameFrom : Outcome → Word → Type 0 where
-    from_settled : {j : ℕ} (w : Word) (d : Divisor s old.entries w)
-        → IsBestMultiple s old.entries τ w d → j ≡ number_of s old.entries w d
-        → CameFrom (Outcome.settled j) w
-    from_entry : {f : Polynomial} {trace : Trace} {w : Word} → StartedFrom trace.start w
-        → CameFrom (Outcome.an_entry f trace) w
-    from_syzygy : {trace : Trace} {w : Word} → StartedFrom trace.start w
-        → CameFrom (Outcome.a_syzygy trace) w
+  -- the outcome came from a multiple with leading word w
+  abbrev pub CameFrom : Outcome → Word → Type 0
+  CameFrom Outcome.covered w = ⊥
+  CameFrom (Outcome.settled j) w = SettledBy j w
+  CameFrom (Outcome.an_entry f trace) w = BeganWith trace.start w
+  CameFrom (Outcome.a_syzygy trace) w = BeganWith trace.start w
 
   -- a word of the outcome's polynomial, and where it is settled the word of the best multiple
-  pub data Keeps : Outcome → Word → Type 0 where
-    keeps_settled : {j : ℕ} (w : Word) (d : Divisor s old.entries w)
-        → IsBestMultiple s old.entries τ w d → j ≡ number_of s old.entries w d
-        → Keeps (Outcome.settled j) w
-    keeps_entry : {f : Polynomial} {trace : Trace} {w : Word} → ¬ IsZero s.prime (coefficient f w)
-        → Keeps (Outcome.an_entry f trace) w
+  abbrev pub Keeps : Outcome → Word → Type 0
+  Keeps Outcome.covered w = ⊥
+  Keeps (Outcome.settled j) w = SettledBy j w
+  Keeps (Outcome.an_entry f trace) w = ¬ IsZero s.prime (coefficient f w)
+  Keeps (Outcome.a_syzygy trace) w = ⊥
 
-module _ (s : Setting) (old : State) (es : List Entry) (hs : List Syzygy) (τ : Monomial) where
-  -- a syzygy signature that needs a newer syzygy or entry divides τ
-  pub record NewlyCovered : Type 0 where
-    pub by : Monomial
-    pub divides : Divides by τ
-    pub newer : ((h : Syzygy) × Contains hs h × (h.signature ≡ by))
-        ⊎ ((t : TrivialSyzygy s (old.entries ++ es) by)
-        × ((length old.entries ≤ t.first_listed.0) ⊎ (length old.entries ≤ t.second_listed.0)))
-
-  -- a newer entry gives a multiple with signature τ and word v
-  abbrev pub NewMultiple : Word → Type 0
-  NewMultiple v =
-      (m : Multiple s (old.entries ++ es) τ v) × (length old.entries ≤ m.divisor.listed.0)
-
-  -- a newer entry gives a regular divisor of w
-  abbrev pub NewRegular : Word → Type 0
-  NewRegular w =
-      (r : RegularDivisor s (old.entries ++ es) τ w) × (length old.entries ≤ r.divisor.listed.0)
-
-  -- nothing newer bears on the outcome
-  pub record Unaffected (o : Outcome) : Type 0 where
-    pub uncovered : ¬ NewlyCovered
-    pub start : (w : Word) → CameFrom s old τ o w → (v : Word) → NewMultiple v → ¬ IsWordLess v w
-    pub kept : (w : Word) → Keeps s old τ o w → ¬ NewRegular w
+-- nothing behind the first n entries and m syzygies bears on the outcome
+pub record IsFresh (s : Setting) (state : State) (n m : ℕ) (τ : Monomial) (o : Outcome) : Type 0
+  where
+    pub uncovered : ¬ IsNewlyCovered s state n m τ
+    pub start : (w : Word) → CameFrom s state.entries τ o w → (v : Word)
+        → HasNewerMultiple s state.entries n τ v → ¬ IsWordLess v w
+    pub kept : (w : Word) → Keeps s state.entries τ o w → ¬ HasNewerRegular s state.entries n τ w

@@ -1,10 +1,15 @@
 //! The theorems on working ahead: which outcomes stand later, and desks.
 
-ghost use Rattle.nc_theory.specs.DeskLaws.{AnswersAreDetermined, DeskCounts, FinishedLaw, OwnWorkStands, PlaysAreDetermined, PlaysExist, SnapshotLaw, StaleLaw, TracesDoNotMatterToDesks, WindowsAreKept};
+ghost use Rattle.nc_theory.specs.DeskLaws.{AnswersAreDetermined, DeskCounts, FinishedLaw, OwnWorkStands, PlaysAreDetermined, PlaysExist, SnapshotLaw, StaleLaw, TracesDoNotMatterToDesks, UntracedStaleLaw, WindowsAreKept};
 
 /// When an outcome stands over a later state.
 pub fn stale_law()
     ensures { StaleLaw }
+{}
+
+/// The same without traces.
+pub fn untraced_stale_law()
+    ensures { UntracedStaleLaw }
 {}
 
 /// Every play of events leaves the desk at a state of the run, within the steps.
