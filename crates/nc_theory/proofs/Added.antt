@@ -1,7 +1,7 @@
 -- Lists with one element added, and what holds of their elements and of pairs of these.
 use Rattle.nc_algebra.specs.Lists.{Among}
-use Rattle.std.proofs.Common.{List, [], arith, inl, inr, map, refl, subst, sym, ◌++◌, ◌∷◌, ◌≡◌}
-use Rattle.std.proofs.lemmas.List.Elements.{All-cons, All-nil}
+use Rattle.std.proofs.Common.{List, suc, [], arith, inl, inr, map, refl, subst, sym, ◌++◌, ◌∷◌, ◌≡◌}
+use Rattle.std.proofs.lemmas.List.Elements.{All-cons, All-nil, recursion_from_All}
 use Rattle.std.proofs.lemmas.List.Kept.{AllPairs-cons}
 use Rattle.std.proofs.lemmas.List.Sorted.{IsPermutation-cons, IsPermutation-middle, IsPermutation-refl, IsPermutation-trans}
 use Rattle.std.specs.List.{All, AllByRecursion, AllPairs}
@@ -45,6 +45,13 @@ module _ {X : Type 0} where
   pub pairs_all : (R : X → X → Type 0) (xs : List X) → Pairs R xs → AllPairs R xs
   pairs_all R [] h = λ i j d l m. absurd (omega (arith, m))
   pairs_all R (x ∷ xs) h = AllPairs-cons R x xs (each_all (R x) xs h.0) (pairs_all R xs h.1)
+
+  pub pairs_from : (R : X → X → Type 0) (xs : List X) → AllPairs R xs → Pairs R xs
+  pairs_from R [] h = tt
+  pairs_from R (x ∷ xs) h = (
+    recursion_from_All (R x) xs (λ k d l. h 0 (suc k) d (omega arith) (omega (arith, l))),
+    pairs_from R xs (λ i j d l m. h (suc i) (suc j) d (omega (arith, l)) (omega (arith, m))),
+  )
 
   pub pairs_map : (R S : X → X → Type 0) → ((x y : X) → R x y → S x y) → (xs : List X) → Pairs R xs
       → Pairs S xs
@@ -129,3 +136,13 @@ module _ {X Y : Type 0} (f : X → Y) where
       → Pairs (λ x y. R (f x) (f y)) xs
   pairs_mapped R [] h = tt
   pairs_mapped R (x ∷ xs) h = (each_mapped (R (f x)) xs h.0, pairs_mapped R xs h.1)
+
+  pub each_unmapped : (Q : Y → Type 0) (xs : List X) → AllByRecursion (λ x. Q (f x)) xs
+      → AllByRecursion Q (map f xs)
+  each_unmapped Q [] h = tt
+  each_unmapped Q (x ∷ xs) h = (h.0, each_unmapped Q xs h.1)
+
+  pub pairs_unmapped : (R : Y → Y → Type 0) (xs : List X) → Pairs (λ x y. R (f x) (f y)) xs
+      → Pairs R (map f xs)
+  pairs_unmapped R [] h = tt
+  pairs_unmapped R (x ∷ xs) h = (each_unmapped (R (f x)) xs h.0, pairs_unmapped R xs h.1)

@@ -94,11 +94,13 @@ module _ (P : NamedProblem) where
   abbrev IsLimited : Desk → Type 0
   IsLimited d = d.handled ≤ P.problem.steps
 
-  play_limits : {d d' : Desk} {events : List Event} → Plays P events d d' → IsLimited d
-      → IsLimited d'
-  play_limits plays l =
-      play_holds P (λ n state last a. n ≤ P.problem.steps)
-      (λ d f τ next o handles l. go d f l (nat_order d.handled P.problem.steps)) plays l
+  pub opened_limits : (capacity : ℕ) → IsLimited (open_desk capacity)
+  opened_limits capacity = omega arith
+
+  pub event_limits : {d d' : Desk} {e : Event} → Does P d e d' → IsLimited d → IsLimited d'
+  event_limits does l =
+      event_holds P (λ n state last a. n ≤ P.problem.steps)
+      (λ d f τ next o handles l. go d f l (nat_order d.handled P.problem.steps)) does l
     where
       go : (d : Desk) → ¬ IsFinished P.problem d → IsLimited d → (d.handled < P.problem.steps)
           ⊎ ((d.handled ≡ P.problem.steps) ⊎ (P.problem.steps < d.handled))
@@ -107,6 +109,11 @@ module _ (P : NamedProblem) where
       go d f l (inr (inl e)) = absurd (f (inr e))
       go d f l (inr (inr k)) = absurd (omega (arith, l, k))
 
+  play_limits : {d d' : Desk} {events : List Event} → Plays P events d d' → IsLimited d
+      → IsLimited d'
+  play_limits Plays.ends l = l
+  play_limits (Plays.goes e does more) l = play_limits more (event_limits does l)
+
   -- a play goes on from a state of the run to one, within the steps
   pub goes_on : {d d' : Desk} {events : List Event} → Plays P events d d' → (IsAtRun d → IsAtRun d')
       × (IsLimited d → IsLimited d')
@@ -114,7 +121,7 @@ module _ (P : NamedProblem) where
 
   pub snapshot : (capacity : ℕ) {events : List Event} {d : Desk}
       → Plays P events (open_desk capacity) d → IsAtRun d × IsLimited d
-  snapshot capacity plays = (play_runs plays SequentialRun.opened, play_limits plays (omega arith))
+  snapshot capacity plays = (play_runs plays SequentialRun.opened, play_limits plays (opened_limits capacity))
 
 -- ---- the counts
 
@@ -217,7 +224,7 @@ module _ (P : NamedProblem) where
   abandon_counts d t given answer d' (Abandons.is_freed g) h =
       (omega (arith, h.0, generation_counts t.index d.window given.0 (sym given.1 ∙ g)), h.1)
 
-  event_counts : {d d' : Desk} {e : Event} → Does P d e d' → IsCounted d → IsCounted d'
+  pub event_counts : {d d' : Desk} {e : Event} → Does P d e d' → IsCounted d → IsCounted d'
   event_counts (Does.claims (Claims.is_finished f)) h = h
   event_counts (Does.claims (Claims.is_none f o)) h = h
   event_counts {d} (Does.claims (Claims.is_task f i others free few τ first)) h = (

@@ -12,7 +12,7 @@ use Rattle.nc_algebra.specs.Lists.{Among}
 use Rattle.nc_algebra.specs.Monomials.{IsMonomialLess, Monomial, compare_monomials, same_monomial}
 use Rattle.nc_algebra.specs.Primes.{IsField}
 use Rattle.nc_algebra.specs.Problems.{NamedProblem}
-use Rattle.nc_theory.proofs.Added.{Inserts, IsSymmetric, Pairs, adds_behind, adds_map, adds_permutes, among_here, among_map, among_mapped, among_more, each_at, each_from, each_less, each_map, each_more, pairs_all, pairs_around, pairs_back, pairs_less, pairs_map, pairs_mapped, pairs_more}
+use Rattle.nc_theory.proofs.Added.{pairs_from, pairs_unmapped, Inserts, IsSymmetric, Pairs, adds_behind, adds_map, adds_permutes, among_here, among_map, among_mapped, among_more, each_at, each_from, each_less, each_map, each_more, pairs_all, pairs_around, pairs_back, pairs_less, pairs_map, pairs_mapped, pairs_more}
 use Rattle.nc_theory.proofs.Ascent.{waiting}
 use Rattle.nc_theory.proofs.Desk.{IsLaid, event_runs, found, own_stands, refused_or_laid, snapshot, work_keeps}
 use Rattle.nc_theory.proofs.Events.{held_dec}
@@ -22,6 +22,10 @@ use Rattle.nc_theory.specs.Runs.{Handles, IsNext, IsWaiting, Outcome, Sequential
 use Rattle.nc_theory.specs.States.{State}
 use Rattle.nc_theory.specs.Windows.{AreFromOneClaim, IsFromClaim, WindowLaw, generation_of}
 use Rattle.std.proofs.Common.{Bool, Contains, List, None, Option, Some, [], ap, append-nil, arith, cond, false, inl, inr, le_refl, map, nat_eq, refl, subst, suc, sym, true, zero, ℕ, ◌*◌, ◌+◌, ◌++◌, ◌<◌, ◌∙◌, ◌∷◌, ◌≡◌, ◌≢◌, ◌≤◌, ◌⊎◌}
+use Rattle.std.proofs.lemmas.Bool.Decides.{nat_tests}
+use Rattle.std.proofs.lemmas.Map.Keys.{IsDistinct-IsPermutation}
+use Rattle.std.proofs.lemmas.Map.Made.{AllPairs-from_IsDistinct, IsDistinct-from_AllPairs}
+use Rattle.std.specs.Bool.{Decides}
 use Rattle.std.proofs.lemmas.Bool.{eq-eqb, eqb-true, false≢true}
 use Rattle.std.proofs.lemmas.List.Sorted.{IsPermutation-refl, IsPermutation-sym, IsPermutation-trans}
 use Rattle.std.specs.List.{AllByRecursion}
@@ -201,6 +205,12 @@ claim_laid n w k odd c from = go n.work from
     go : (work : Option Work) → n.generation ≡ generation_of c work → n.generation + 1 ≡ 2 * c + 2
     go None j = omega (arith, j)
     go (Some v) j = absurd (omega (arith, j, odd))
+
+number_decides : (i j : ℕ) → Decides (nat_eq i j) (i ≡ j)
+number_decides i j = (eqb-true i j, eq-eqb i j)
+
+numbers_flip : (i j : ℕ) → nat_eq i j ≡ nat_eq j i
+numbers_flip i j = grind (arith, nat_tests)
 
 -- ---- what is kept
 
@@ -507,31 +517,76 @@ module _ (P : NamedProblem) (capacity : ℕ) where
     play_keeps (Plays.goes e does more) run k =
         play_keeps more (event_runs P does run) (event_keeps does run k)
 
-    pub window_law : {events : List Event} {d : Desk} → Plays P events (open_desk capacity) d
-        → WindowLaw P capacity d
-    window_law {d = d} plays = go (play_keeps plays SequentialRun.opened opened_kept)
+    kept_law : (d : Desk) → Kept d → WindowLaw P capacity d
+    kept_law d k = record {
+      ascends = pairs_all
+          (λ n m. IsLess P.problem.setting n.signature m.signature) d.window
+          (pairs_mapped (λ n. n.signature) (IsLess P.problem.setting) d.window k.ascends);
+      waits = λ n c. each_at (IsWaiting P.problem d.state d.last) (signatures d.window)
+          k.waits n.signature (among_map (λ m. m.signature) n d.window
+          (contains_among n d.window c));
+      indices = k.indices_are;
+      claimed = λ n c. each_at (IsMade d.claimed) d.window
+          k.claimed n (contains_among n d.window c);
+      apart = pairs_all (λ n m. ¬ AreFromOneClaim n m) d.window k.apart;
+      lawful = λ n w c e. (works n c w e).0;
+      own = λ n w c e. let t : IsLawful w × (w.problem ≡ P) × (w.number ≤ d.handled)
+          × (w.signature ≡ n.signature) = works n c w e in (t.1, t.2, t.3);
+      full = λ l e τ next. among_held d τ (k.full l e τ next);
+    }
       where
-        works : Kept d → (n : Node) → Contains d.window n → HoldsLawful d.handled n
-        works k n c =
+        works : (n : Node) → Contains d.window n → HoldsLawful d.handled n
+        works n c =
             each_at (HoldsLawful d.handled) d.window k.works n (contains_among n d.window c)
 
-        go : Kept d → WindowLaw P capacity d
-        go k = record {
-          ascends = pairs_all
-              (λ n m. IsLess P.problem.setting n.signature m.signature) d.window
-              (pairs_mapped (λ n. n.signature) (IsLess P.problem.setting) d.window k.ascends);
-          waits = λ n c. each_at (IsWaiting P.problem d.state d.last) (signatures d.window)
-              k.waits n.signature (among_map (λ m. m.signature) n d.window
-              (contains_among n d.window c));
-          indices = k.indices_are;
-          claimed = λ n c. each_at (IsMade d.claimed) d.window
-              k.claimed n (contains_among n d.window c);
-          apart = pairs_all (λ n m. ¬ AreFromOneClaim n m) d.window k.apart;
-          lawful = λ n w c e. (works k n c w e).0;
-          own = λ n w c e. let t : IsLawful w × (w.problem ≡ P) × (w.number ≤ d.handled)
-              × (w.signature ≡ n.signature) = works k n c w e in (t.1, t.2, t.3);
-          full = λ l e τ next. among_held d τ (k.full l e τ next);
+    -- and the other way round
+    law_kept : (d : Desk) → WindowLaw P capacity d → Kept d
+    law_kept d law =
+        record {
+          ascends = pairs_unmapped (λ n. n.signature) (IsLess P.problem.setting) d.window
+              (pairs_from (λ n m. IsLess P.problem.setting n.signature m.signature) d.window
+              law.ascends);
+          waits = each_from (IsWaiting P.problem d.state d.last) (signatures d.window) waits;
+          distinct = pairs_from (λ i j. i ≢ j) (d.free ++ indices d.window)
+              (AllPairs-from_IsDistinct number_decides (d.free ++ indices d.window)
+              (IsDistinct-IsPermutation nat_eq numbers_flip (count_from 0 capacity)
+              (d.free ++ indices d.window) law.indices
+              (IsDistinct-from_AllPairs number_decides (count_from 0 capacity)
+              (pairs_all (λ i j. i ≢ j) (count_from 0 capacity) (counted_apart 0 capacity)))));
+          indices_are = law.indices;
+          claimed = each_from (IsMade d.claimed) d.window
+              (λ n a. law.claimed n (among_contains n d.window a));
+          apart = pairs_from (λ n m. ¬ AreFromOneClaim n m) d.window law.apart;
+          works = each_from (HoldsLawful d.handled) d.window
+              (λ n a w e. let c = among_contains n d.window a in (
+                law.lawful n w c e,
+                (law.own n w c e).0,
+                (law.own n w c e).1,
+                (law.own n w c e).2,
+              ));
+          full = λ l e τ next. held_among d τ (law.full l e τ next);
         }
+      where
+        waits : (τ : Monomial) → Among τ (signatures d.window)
+            → IsWaiting P.problem d.state d.last τ
+        waits τ a =
+            let t : (n : Node) × Among n d.window × (n.signature ≡ τ) =
+            among_mapped (λ m. m.signature) τ d.window a in
+            subst (IsWaiting P.problem d.state d.last) t.2
+            (law.waits t.0 (among_contains t.0 d.window t.1))
+
+    pub window_law : {events : List Event} {d : Desk} → Plays P events (open_desk capacity) d
+        → WindowLaw P capacity d
+    window_law {d = d} plays = kept_law d (play_keeps plays SequentialRun.opened opened_kept)
+
+    pub opened_law : WindowLaw P capacity (open_desk capacity)
+    opened_law = kept_law (open_desk capacity) opened_kept
+
+    -- each event keeps the law
+    pub event_law : {d d' : Desk} {e : Event} → Does P d e d'
+        → SequentialRun P.problem d.handled d.state d.last → WindowLaw P capacity d
+        → WindowLaw P capacity d'
+    event_law {d} {d'} does run law = kept_law d' (event_keeps does run (law_kept d law))
 
     -- a work over the desk's own state is what handling gives there
     pub own_work : {events : List Event} {d : Desk} → Plays P events (open_desk capacity) d

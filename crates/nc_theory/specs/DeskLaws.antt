@@ -8,12 +8,12 @@
 use Rattle.nc_algebra.specs.Monomials.{Monomial}
 use Rattle.nc_algebra.specs.Problems.{NamedProblem, Problem}
 use Rattle.nc_algebra.specs.Primes.{IsPrime}
-use Rattle.nc_theory.specs.Desk.{Abandoned, Abandons, Advances, Claimed, Claims, Desk, Event, IsCounted, IsFinished, IsReadyWork, Node, Plays, Submits, Submitted, Ticket, Work, after_committed, open_desk}
+use Rattle.nc_theory.specs.Desk.{Abandoned, Abandons, Advances, Claimed, Claims, Desk, Does, Event, IsCounted, IsFinished, IsReadyWork, Node, Plays, Submits, Submitted, Ticket, Work, after_committed, open_desk}
 use Rattle.nc_theory.specs.Runs.{End, Handles, IsEnd, Outcome, SequentialRun}
 use Rattle.nc_theory.specs.Stale.{IsFresh}
 use Rattle.nc_theory.specs.Untraced.{IsRunOf}
 use Rattle.nc_theory.specs.States.{State}
-use Rattle.nc_theory.specs.UntracedDesks.{SameEvents}
+use Rattle.nc_theory.specs.UntracedDesks.{IsSoundDesk, SameEvents}
 use Rattle.nc_theory.specs.Windows.{WindowLaw}
 use Rattle.std.specs.Prelude.{List, Option, length, ℕ, ◌↔◌, ◌≡◌, ◌≤◌, ◌⊎◌}
 
@@ -105,3 +105,10 @@ OwnWorkStands =
 -- what is done to a desk without traces is done to the desk with them
 abbrev pub TracesDoNotMatterToDesks : Type 0
 TracesDoNotMatterToDesks = (P : NamedProblem) (d : Desk) → SameEvents P d
+
+-- an open desk is as it should be, and each event leaves a desk so
+abbrev pub DesksAreKept : Type 0
+DesksAreKept = (P : NamedProblem) → IsPrime P.problem.setting.prime → (capacity : ℕ) →
+    IsSoundDesk P capacity (open_desk capacity)
+    × ((d d' : Desk) (e : Event) → Does P d e d' → IsSoundDesk P capacity d
+    → IsSoundDesk P capacity d')

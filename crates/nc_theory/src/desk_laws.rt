@@ -1,6 +1,6 @@
 //! The theorems on working ahead: which outcomes stand later, and desks.
 
-ghost use Rattle.nc_theory.specs.DeskLaws.{AnswersAreDetermined, DeskCounts, FinishedLaw, OwnWorkStands, PlaysAreDetermined, PlaysExist, SnapshotLaw, StaleLaw, TracesDoNotMatterToDesks, UntracedStaleLaw, WindowsAreKept};
+ghost use Rattle.nc_theory.specs.DeskLaws.{AnswersAreDetermined, DeskCounts, DesksAreKept, FinishedLaw, OwnWorkStands, PlaysAreDetermined, PlaysExist, SnapshotLaw, StaleLaw, TracesDoNotMatterToDesks, UntracedStaleLaw, WindowsAreKept};
 
 /// When an outcome stands over a later state.
 pub fn stale_law()
@@ -35,6 +35,11 @@ pub fn own_work_stands()
 /// A desk's window ascends, waits, uses each index once, and holds the next signature where it is full.
 pub fn window_law()
     ensures { WindowsAreKept }
+{}
+
+/// An open desk is as it should be, and each event leaves a desk so.
+pub fn desks_are_kept()
+    ensures { DesksAreKept }
 {}
 
 /// Each list of events has a play.
