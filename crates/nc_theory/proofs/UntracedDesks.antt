@@ -6,12 +6,12 @@ use Rattle.nc_algebra.specs.Elements.{generator_weight}
 use Rattle.nc_algebra.specs.Monomials.{Monomial}
 use Rattle.nc_algebra.specs.Problems.{NamedProblem, Problem}
 use Rattle.nc_theory.proofs.UntracedStates.{SameStates, moved_candidate, moved_handles, moved_next, moved_none, same_after, untraced_twice}
-use Rattle.nc_theory.specs.Desk.{Abandoned, Abandons, Advances, Claimed, Claims, Desk, IsFinished, IsFirstUnheld, IsHeld, IsReadyWork, Node, Submits, Submitted, Ticket, Work, after_claimed, claim_limit, with_work, without_node}
+use Rattle.nc_theory.specs.Desk.{Abandoned, Abandons, Advances, Claimed, Claims, Desk, Drives, IsFinished, IsFirstUnheld, IsHeld, IsReadyWork, Node, Submits, Submitted, Ticket, Work, after_claimed, after_freed, freed_from, claim_limit, with_work, without_node}
 use Rattle.nc_theory.specs.Runs.{IsWaiting, state_after}
 use Rattle.nc_theory.specs.States.{State}
 use Rattle.nc_theory.specs.Untraced.{untraced}
 use Rattle.nc_theory.specs.UntracedDesks.{SameEvents, untraced_desk}
-use Rattle.std.proofs.Common.{[], inl, inr, refl, sym, ◌+◌, ◌∷◌, ◌≡◌, ◌≤◌, ◌⊎◌}
+use Rattle.std.proofs.Common.{List, [], inl, inr, refl, sym, ◌+◌, ◌∷◌, ◌≡◌, ◌≤◌, ◌⊎◌}
 
 -- the desk with another state
 abbrev at_state : Desk → State → Desk
@@ -89,6 +89,26 @@ advances_alike P (Advances.commits {d = d} f τ n w ready handles more) state sa
       rest.2,
     )
 
+-- after the same signatures are handled alone
+drives_alike : (P : Problem) {d d' : Desk} → Drives P d d' → (state : State)
+    → SameStates d.state state
+    → (after : State) × Drives P (at_state d state) (at_state d' after) × SameStates d'.state after
+drives_alike P Drives.rests state same = (state, Drives.rests, same)
+drives_alike P {d} (Drives.handles_alone f τ next o handles more) state same =
+    let rest =
+    drives_alike P more (state_after state τ o) (same_after d.state state same τ o) in (
+      rest.0,
+      Drives.handles_alone (λ g. f (finished_back P d state same g)) τ
+          (moved_next P d.state state same d.last τ next) o
+          (moved_handles P.setting d.state state same τ o handles) rest.1,
+      rest.2,
+    )
+
+freed_alike : (ns : List Node) (d : Desk) → freed_from ns (untraced_desk d)
+    ≡ untraced_desk (freed_from ns d)
+freed_alike [] d = refl
+freed_alike (n ∷ ns) d = freed_alike ns (after_freed d n ns)
+
 module _ (P : NamedProblem) (d : Desk) where
   same : SameStates (untraced_desk d).state d.state
   same = untraced_twice d.state
@@ -158,6 +178,13 @@ module _ (P : NamedProblem) (d : Desk) where
         abandons = abandons_alike;
         advances =
             λ d' a. let t = advances_alike P.problem a d.state same in (
+              at_state d' t.0,
+              t.1,
+              λ k. record d' { state = t.2 k },
+            );
+        empties = freed_alike d.window d;
+        drives =
+            λ d' a. let t = drives_alike P.problem a d.state same in (
               at_state d' t.0,
               t.1,
               λ k. record d' { state = t.2 k },

@@ -17,12 +17,14 @@ use Rattle.nc_theory.proofs.Ascent.{waiting}
 use Rattle.nc_theory.proofs.Desk.{IsLaid, event_runs, found, own_stands, refused_or_laid, snapshot, work_keeps}
 use Rattle.nc_theory.proofs.Events.{held_dec}
 use Rattle.nc_theory.proofs.Plays.{some_same}
-use Rattle.nc_theory.specs.Desk.{Abandoned, Abandons, Advances, Claims, Desk, Does, Event, IsFirstUnheld, IsGiven, IsHeld, IsLawful, IsReadyWork, Node, Plays, Submits, Submitted, Ticket, Work, after_claimed, count_from, generation_at, insert_node, laid, node_at, node_of, open_desk, with_work, without_node}
+use Rattle.nc_theory.specs.Desk.{after_alone, after_freed, emptied, freed_from, Abandoned, Abandons, Advances, Claims, Desk, Does, Event, IsFirstUnheld, IsGiven, IsHeld, IsLawful, IsReadyWork, Node, Plays, Submits, Submitted, Ticket, Work, after_claimed, count_from, generation_at, insert_node, laid, node_at, node_of, open_desk, with_work, without_node}
 use Rattle.nc_theory.specs.Runs.{Handles, IsNext, IsWaiting, Outcome, SequentialRun, state_after}
 use Rattle.nc_theory.specs.States.{State}
 use Rattle.nc_theory.specs.Windows.{AreFromOneClaim, IsFromClaim, WindowLaw, generation_of}
-use Rattle.std.proofs.Common.{Bool, Contains, List, None, Option, Some, [], ap, append-nil, arith, cond, false, inl, inr, le_refl, map, nat_eq, refl, subst, suc, sym, true, zero, ℕ, ◌*◌, ◌+◌, ◌++◌, ◌<◌, ◌∙◌, ◌∷◌, ◌≡◌, ◌≢◌, ◌≤◌, ◌⊎◌}
+use Rattle.std.proofs.Common.{ap₂, length, cond, Bool, Contains, List, None, Option, Some, [], ap, append-nil, arith, cond, false, inl, inr, le_refl, map, nat_eq, refl, subst, suc, sym, true, zero, ℕ, ◌*◌, ◌+◌, ◌++◌, ◌<◌, ◌∙◌, ◌∷◌, ◌≡◌, ◌≢◌, ◌≤◌, ◌⊎◌}
 use Rattle.std.proofs.lemmas.Bool.Decides.{nat_tests}
+use Rattle.std.proofs.lemmas.List.Sorted.{length_permutation}
+use Rattle.std.specs.Option.{is_some}
 use Rattle.std.proofs.lemmas.Map.Keys.{IsDistinct-IsPermutation}
 use Rattle.std.proofs.lemmas.Map.Made.{AllPairs-from_IsDistinct, IsDistinct-from_AllPairs}
 use Rattle.std.specs.Bool.{Decides}
@@ -574,6 +576,52 @@ module _ (P : NamedProblem) (capacity : ℕ) where
             among_mapped (λ m. m.signature) τ d.window a in
             subst (IsWaiting P.problem d.state d.last) t.2
             (law.waits t.0 (among_contains t.0 d.window t.1))
+
+    -- the window is freed, node by node
+    freed_keeps : (ns : List Node) (d : Desk) → d.window ≡ ns → Kept d → Kept (freed_from ns d)
+    freed_keeps [] d e k = k
+    freed_keeps (n ∷ ns) d e k =
+        let a : Inserts n ns d.window = subst (Inserts n ns) (sym e) Inserts.here in
+        freed_keeps ns (after_freed d n ns) refl
+        (freed d k n ns a d.handled (le_refl d.handled) d.state d.last d.committed
+        (d.dropped + cond (is_some n.work) 1 0) (d.abandoned + cond (is_some n.work) 0 1)
+        (left_waits d k n ns a) n.index refl)
+
+    pub emptied_law : (d : Desk) → WindowLaw P capacity d → WindowLaw P capacity (emptied d)
+    emptied_law d law =
+        kept_law (emptied d) (freed_keeps d.window d refl (law_kept d law))
+
+    -- with no window a signature may be handled alone
+    alone_keeps : (d : Desk) → d.window ≡ [] → Kept d → (τ : Monomial) (o : Outcome)
+        → Kept (after_alone d τ o)
+    alone_keeps d e k τ o =
+        record {
+          ascends = k.ascends;
+          waits = subst (λ w. AllByRecursion (IsWaiting P.problem (state_after d.state τ o)
+              (Some τ)) (signatures w)) (sym e) tt;
+          distinct = k.distinct;
+          indices_are = k.indices_are;
+          claimed = k.claimed;
+          apart = k.apart;
+          works = each_map (HoldsLawful d.handled) (HoldsLawful (suc d.handled))
+              (holds_later d.handled (suc d.handled) (omega arith)) d.window k.works;
+          full = λ l none σ next. absurd (omega (arith, l, some_free none));
+        }
+      where
+        some_free : d.free ≡ [] → capacity ≡ 0
+        some_free none =
+            sym (counted capacity 0)
+            ∙ (sym (length_permutation (count_from 0 capacity) (d.free ++ indices d.window)
+            k.indices_are) ∙ ap₂ (λ f w. length (f ++ indices w)) none e)
+          where
+            counted : (n i : ℕ) → length (count_from i n) ≡ n
+            counted zero i = refl
+            counted (suc n) i = let h = counted n (i + 1) in omega (arith, h)
+
+    pub alone_law : (d : Desk) → d.window ≡ [] → WindowLaw P capacity d → (τ : Monomial)
+        (o : Outcome) → WindowLaw P capacity (after_alone d τ o)
+    alone_law d e law τ o =
+        kept_law (after_alone d τ o) (alone_keeps d e (law_kept d law) τ o)
 
     pub window_law : {events : List Event} {d : Desk} → Plays P events (open_desk capacity) d
         → WindowLaw P capacity d

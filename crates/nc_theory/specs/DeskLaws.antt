@@ -8,14 +8,14 @@
 use Rattle.nc_algebra.specs.Monomials.{Monomial}
 use Rattle.nc_algebra.specs.Problems.{NamedProblem, Problem}
 use Rattle.nc_algebra.specs.Primes.{IsPrime}
-use Rattle.nc_theory.specs.Desk.{Abandoned, Abandons, Advances, Claimed, Claims, Desk, Does, Event, IsCounted, IsFinished, IsReadyWork, Node, Plays, Submits, Submitted, Ticket, Work, after_committed, open_desk}
+use Rattle.nc_theory.specs.Desk.{Abandoned, Abandons, Advances, Claimed, Claims, Desk, Does, Drives, Event, IsCounted, IsFinished, IsReadyWork, Node, Plays, Submits, Submitted, Ticket, Work, after_committed, emptied, open_desk}
 use Rattle.nc_theory.specs.Runs.{End, Handles, IsEnd, Outcome, SequentialRun}
 use Rattle.nc_theory.specs.Stale.{IsFresh}
 use Rattle.nc_theory.specs.Untraced.{IsRunOf}
 use Rattle.nc_theory.specs.States.{State}
 use Rattle.nc_theory.specs.UntracedDesks.{IsSoundDesk, SameEvents}
 use Rattle.nc_theory.specs.Windows.{WindowLaw}
-use Rattle.std.specs.Prelude.{List, Option, length, ℕ, ◌↔◌, ◌≡◌, ◌≤◌, ◌⊎◌}
+use Rattle.std.specs.Prelude.{List, Option, [], length, ℕ, ◌↔◌, ◌≡◌, ◌≤◌, ◌⊎◌}
 
 -- what was found over an earlier state stands over a later one exactly where it is covered or fresh
 abbrev pub StaleLaw : Type 0
@@ -112,3 +112,12 @@ DesksAreKept = (P : NamedProblem) → IsPrime P.problem.setting.prime → (capac
     IsSoundDesk P capacity (open_desk capacity)
     × ((d d' : Desk) (e : Event) → Does P d e d' → IsSoundDesk P capacity d
     → IsSoundDesk P capacity d')
+
+-- a desk whose window was freed is as it should be, with no window, and stays so while signatures
+-- are handled alone
+abbrev pub DrivesAreKept : Type 0
+DrivesAreKept = (P : NamedProblem) → IsPrime P.problem.setting.prime → (capacity : ℕ) →
+    ((d : Desk) → IsSoundDesk P capacity d → IsSoundDesk P capacity (emptied d)
+    × ((emptied d).window ≡ []))
+    × ((d d' : Desk) → Drives P.problem d d' → IsSoundDesk P capacity d → d.window ≡ []
+    → IsSoundDesk P capacity d' × (d'.window ≡ []))

@@ -6,7 +6,7 @@
 -- is. A commit adds an item with its trace, which is then forgotten. So the program's events are
 -- those of the theory.
 use Rattle.nc_algebra.specs.Problems.{NamedProblem}
-use Rattle.nc_theory.specs.Desk.{Abandoned, Abandons, Advances, Claimed, Claims, Desk, IsCounted, IsFinished, Submits, Submitted, Ticket, Work}
+use Rattle.nc_theory.specs.Desk.{Abandoned, Abandons, Advances, Claimed, Claims, Desk, Drives, IsCounted, IsFinished, Submits, Submitted, Ticket, Work, emptied}
 use Rattle.nc_theory.specs.Runs.{SequentialRun}
 use Rattle.nc_theory.specs.Untraced.{untraced}
 use Rattle.nc_theory.specs.Windows.{WindowLaw}
@@ -43,3 +43,6 @@ pub record SameEvents (P : NamedProblem) (d : Desk) : Type 0 where
       → (after : Desk) × Abandons d t answer after × (d' ≡ untraced_desk after)
   pub advances : (d' : Desk) → Advances P.problem (untraced_desk d) d'
       → (after : Desk) × Advances P.problem d after × (untraced_desk d' ≡ untraced_desk after)
+  pub empties : emptied (untraced_desk d) ≡ untraced_desk (emptied d)
+  pub drives : (d' : Desk) → Drives P.problem (untraced_desk d) d'
+      → (after : Desk) × Drives P.problem d after × (untraced_desk d' ≡ untraced_desk after)

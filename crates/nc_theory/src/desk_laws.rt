@@ -1,6 +1,6 @@
 //! The theorems on working ahead: which outcomes stand later, and desks.
 
-ghost use Rattle.nc_theory.specs.DeskLaws.{AnswersAreDetermined, DeskCounts, DesksAreKept, FinishedLaw, OwnWorkStands, PlaysAreDetermined, PlaysExist, SnapshotLaw, StaleLaw, TracesDoNotMatterToDesks, UntracedStaleLaw, WindowsAreKept};
+ghost use Rattle.nc_theory.specs.DeskLaws.{AnswersAreDetermined, DeskCounts, DesksAreKept, DrivesAreKept, FinishedLaw, OwnWorkStands, PlaysAreDetermined, PlaysExist, SnapshotLaw, StaleLaw, TracesDoNotMatterToDesks, UntracedStaleLaw, WindowsAreKept};
 
 /// When an outcome stands over a later state.
 pub fn stale_law()
@@ -40,6 +40,11 @@ pub fn window_law()
 /// An open desk is as it should be, and each event leaves a desk so.
 pub fn desks_are_kept()
     ensures { DesksAreKept }
+{}
+
+/// A desk whose window is freed, and that then handles signatures alone, stays as it should be.
+pub fn drives_are_kept()
+    ensures { DrivesAreKept }
 {}
 
 /// Each list of events has a play.
