@@ -10,12 +10,13 @@ use Rattle.nc_algebra.specs.Polynomials.{leading}
 use Rattle.nc_algebra.specs.Words.{Word, word_weight}
 use Rattle.nc_criteria.specs.Leads.{IsBefore, IsBehind, IsLesserBefore, IsLesserBehind}
 use Rattle.nc_snapshot.specs.Leads.{IsLeadAt}
-use Rattle.nc_criteria.specs.Pairs.{IsTrivialAt, IsTrivialBelow, IsTrivialBy, IsTrivialPair}
+use Rattle.nc_criteria.specs.Pairs.{IsTrivialBelow, IsTrivialBy, IsTrivialFrom, IsTrivialPair, first_other}
 use Rattle.nc_snapshot.specs.declared.lead.Lead.{Lead}
 use Rattle.nc_module.proofs.Bounds.{less_from_sigs, sigs_from_less}
 use Rattle.nc_theory.specs.States.{Entry}
 use Rattle.nc_theory.specs.Syzygies.{first_side, second_side}
-use Rattle.std.proofs.Common.{Contains, List, Some, [], ap, append-nil, append_assoc, arith, inl, inr, length, refl, subst, subst₂, sym, ℕ, ◌+◌, ◌++◌, ◌<◌, ◌∙◌, ◌≡◌, ◌≤◌, ◌↔◌, ◌⊎◌}
+use Rattle.std.proofs.Common.{Bool, cond, false, nat_lt, true, Contains, List, Some, [], ap, append-nil, append_assoc, arith, inl, inr, length, refl, subst, subst₂, sym, ℕ, ◌+◌, ◌++◌, ◌<◌, ◌∙◌, ◌≡◌, ◌≤◌, ◌↔◌, ◌⊎◌}
+use Rattle.std.proofs.lemmas.Bool.Decides.{nat_tests}
 use Rattle.std.proofs.lemmas.List.{append_cancel_left, append_cancel_right}
 use Rattle.std.proofs.lemmas.Option.{get_or_from_slice_get, slice_get-get_or, slice_get_within}
 use Rattle.std.specs.List.{slice_get}
@@ -200,80 +201,115 @@ module _ (s : Setting) (entries : List Entry) (τ : Monomial) where
 
   -- ---- one after another
 
-  abbrev pub NonePair : ℕ → ℕ → Type 0
-  NonePair n count = (j : ℕ) → j < count → ¬ IsTrivialPair s entries τ n j
+  abbrev pub NonePair : ℕ → ℕ → ℕ → Type 0
+  NonePair from n count = (j : ℕ) → from ≤ j → j < count → ¬ IsTrivialPair s entries τ n j
 
-  pub none_pair_further : (n j : ℕ) → NonePair n j → ¬ IsTrivialPair s entries τ n j
-      → NonePair n (j + 1)
-  none_pair_further n j before here k l p = go (nat_order k j)
+  pub none_pair_further : (from n j : ℕ) → NonePair from n j → ¬ IsTrivialPair s entries τ n j
+      → NonePair from n (j + 1)
+  none_pair_further from n j before here k m l p = go (nat_order k j)
     where
       go : (k < j) ⊎ ((k ≡ j) ⊎ (j < k)) → ⊥
-      go (inl q) = before k q p
+      go (inl q) = before k m q p
       go (inr (inl q)) = here (subst (IsTrivialPair s entries τ n) q p)
       go (inr (inr q)) = omega (arith, l, q)
 
-  pub none_pair : (n j : ℕ) → length entries ≤ j → NonePair n j → ¬ IsTrivialAt s entries τ n
-  none_pair n j h before (k, p) =
-      before k (omega (arith, h, slice_get_within entries k p.other p.other_stands)) p
+  pub none_pair : (from n j : ℕ) → length entries ≤ j → NonePair from n j
+      → ¬ IsTrivialFrom s entries τ from n
+  none_pair from n j h before (k, m, p) =
+      before k m (omega (arith, h, slice_get_within entries k p.other p.other_stands)) p
 
-  pub none_divides : (n : ℕ) (own : Lead) → IsLeadAt s entries n own
-      → ¬ Divides (monomial_of own.sig.now) τ → ¬ IsTrivialAt s entries τ n
-  none_divides n own mine none (j, p) =
+  pub none_divides : (from n : ℕ) (own : Lead) → IsLeadAt s entries n own
+      → ¬ Divides (monomial_of own.sig.now) τ → ¬ IsTrivialFrom s entries τ from n
+  none_divides from n own mine none (j, _, p) =
       let same : p.own ≡ mine.entry =
       (let d : Some p.own ≡ Some mine.entry = sym p.own_stands ∙ mine.stands in cc) in
       none (subst (λ σ. Divides σ τ) (ap (λ (e : Entry). e.signature) same ∙ mine.signed)
       (own_divides p.own p.other p.by))
 
-  abbrev pub NoneAt : ℕ → Type 0
-  NoneAt count = (n : ℕ) → n < count → ¬ IsTrivialAt s entries τ n
+  abbrev pub NoneAt : ℕ → ℕ → Type 0
+  NoneAt after count =
+      (n : ℕ) → n < count → ¬ IsTrivialFrom s entries τ (first_other after n) n
 
-  pub none_at_further : (n : ℕ) → NoneAt n → ¬ IsTrivialAt s entries τ n → NoneAt (n + 1)
-  none_at_further n before here k l p = go (nat_order k n)
+  pub none_at_further : (after n : ℕ) → NoneAt after n
+      → ¬ IsTrivialFrom s entries τ (first_other after n) n → NoneAt after (n + 1)
+  none_at_further after n before here k l p = go (nat_order k n)
     where
       go : (k < n) ⊎ ((k ≡ n) ⊎ (n < k)) → ⊥
       go (inl q) = before k q p
-      go (inr (inl q)) = here (subst (IsTrivialAt s entries τ) q p)
+      go (inr (inl q)) = here (subst (λ i. IsTrivialFrom s entries τ (first_other after i) i) q p)
       go (inr (inr q)) = omega (arith, l, q)
 
   -- ---- the theory's trivial syzygies
 
-  listed : (e : Entry) (n : ℕ) → slice_get entries n ≡ Some e → Contains entries e
+  abbrev listed : (e : Entry) (n : ℕ) → slice_get entries n ≡ Some e → Contains entries e
   listed e n h = (n, slice_get_within entries n e h, get_or_from_slice_get entries n e e h)
 
   stands : (e : Entry) (k : Contains entries e) → slice_get entries k.0 ≡ Some e
   stands e k = slice_get-get_or entries k.0 e k.1 ∙ ap (λ x. Some x) k.2
 
-  pub trivial_found : (n : ℕ) → IsTrivialAt s entries τ n → IsTrivialBelow s entries τ
-  trivial_found n (j, p) = go p.by
+  -- one of the two is newer
+  other_newer : (after n j : ℕ) → first_other after n ≤ j → (after ≤ n) ⊎ (after ≤ j)
+  other_newer after n j l = go (nat_lt n after) refl
     where
-      go : IsTrivialBy s p.own p.other τ → IsTrivialBelow s entries τ
+      go : (b : Bool) → nat_lt n after ≡ b → (after ≤ n) ⊎ (after ≤ j)
+      go true e = inr (subst (λ (c : Bool). cond c after 0 ≤ j) e l)
+      go false e = inl (grind (arith, nat_tests))
+
+  newer_other : (after n j : ℕ) → (after ≤ n) ⊎ (after ≤ j) → first_other after n ≤ j
+  newer_other after n j o = go (nat_lt n after) refl o
+    where
+      go : (b : Bool) → nat_lt n after ≡ b → (after ≤ n) ⊎ (after ≤ j)
+          → cond (nat_lt n after) after 0 ≤ j
+      go true e (inl l) = let m : n < after = grind (arith, nat_tests) in absurd (omega (arith, l, m))
+      go true e (inr l) = subst (λ (c : Bool). cond c after 0 ≤ j) (sym e) l
+      go false e _ = subst (λ (c : Bool). cond c after 0 ≤ j) (sym e) (omega arith)
+
+  turned : (a b : Type 0) → a ⊎ b → b ⊎ a
+  turned a b (inl x) = inr x
+  turned a b (inr y) = inl y
+
+  pub trivial_found : (after n : ℕ) → IsTrivialFrom s entries τ (first_other after n) n
+      → IsTrivialBelow s entries τ after
+  trivial_found after n (j, l, p) = go p.by
+    where
+      newer : (after ≤ n) ⊎ (after ≤ j)
+      newer = other_newer after n j l
+
+      go : IsTrivialBy s p.own p.other τ → IsTrivialBelow s entries τ after
       go (inl (m, less, d)) = (
         first_side s p.own m p.other,
-        record {
-          first = p.own;
-          first_listed = listed p.own n p.own_stands;
-          second = p.other;
-          second_listed = listed p.other j p.other_stands;
-          m = m;
-          greater = inl (less, refl);
-        },
+        (
+          record {
+            first = p.own;
+            first_listed = listed p.own n p.own_stands;
+            second = p.other;
+            second_listed = listed p.other j p.other_stands;
+            m = m;
+            greater = inl (less, refl);
+          },
+          newer,
+        ),
         d,
       )
       go (inr (m, less, d)) = (
         second_side s p.other m p.own,
-        record {
-          first = p.other;
-          first_listed = listed p.other j p.other_stands;
-          second = p.own;
-          second_listed = listed p.own n p.own_stands;
-          m = m;
-          greater = inr (less, refl);
-        },
+        (
+          record {
+            first = p.other;
+            first_listed = listed p.other j p.other_stands;
+            second = p.own;
+            second_listed = listed p.own n p.own_stands;
+            m = m;
+            greater = inr (less, refl);
+          },
+          turned (after ≤ n) (after ≤ j) newer,
+        ),
         d,
       )
 
-  pub none_trivial : (n : ℕ) → length entries ≤ n → NoneAt n → ¬ IsTrivialBelow s entries τ
-  none_trivial n h before (ρ, t, d) = go t.greater
+  pub none_trivial : (after n : ℕ) → length entries ≤ n → NoneAt after n
+      → ¬ IsTrivialBelow s entries τ after
+  none_trivial after n h before (ρ, (t, newer), d) = go t.greater
     where
       go : (IsLess s (second_side s t.first t.m t.second) (first_side s t.first t.m t.second)
           × (ρ ≡ first_side s t.first t.m t.second))
@@ -282,6 +318,7 @@ module _ (s : Setting) (entries : List Entry) (τ : Monomial) where
       go (inl (less, i)) =
           before t.first_listed.0 (omega (arith, h, t.first_listed.1)) (
             t.second_listed.0,
+            newer_other after t.first_listed.0 t.second_listed.0 newer,
             record {
               own = t.first;
               own_stands = stands t.first t.first_listed;
@@ -293,6 +330,8 @@ module _ (s : Setting) (entries : List Entry) (τ : Monomial) where
       go (inr (less, i)) =
           before t.second_listed.0 (omega (arith, h, t.second_listed.1)) (
             t.first_listed.0,
+            newer_other after t.second_listed.0 t.first_listed.0
+                (turned (after ≤ t.first_listed.0) (after ≤ t.second_listed.0) newer),
             record {
               own = t.second;
               own_stands = stands t.second t.second_listed;

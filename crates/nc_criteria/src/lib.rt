@@ -6,4 +6,4 @@ mod syzygy;
 mod trivial;
 
 pub use multiple::{Multiple, best_multiple, best_multiple_law};
-pub use syzygy::syzygy_divides;
+pub use syzygy::{syzygy_divides, syzygy_divides_after};

@@ -1,6 +1,5 @@
 use Rattle.nc_algebra.specs.Monomials.{Divides, monomial_of}
-use Rattle.nc_criteria.proofs.Divisors.{listed_found, listed_further, quotient_divides}
-use Rattle.nc_theory.proofs.Covers.{none_listed}
+use Rattle.nc_criteria.proofs.Divisors.{listed_found, listed_further, none_listed, quotient_divides}
 use Rattle.std.proofs.Common.{arith, refl, subst, sym, ◌∙◌}
 use Rattle.std.proofs.lemmas.Bool.{false≢true}
 use Rattle.nc_criteria.proofs.syzygy.is_listed.Goals as goal
@@ -11,7 +10,8 @@ returns-then-is_some c =
     (quotient_divides (monomial_of c.deref.result.now) (monomial_of c.args.sig.now)
     c.divide.result c.divide.ensures).0 (sym c.is_some.ensures ∙ c.if-is_some.true) in (
       λ t. listed_found c.args.snapshot.now.state.syzygies (monomial_of c.args.sig.now)
-          c.loop-index.index c.syzygy.result.now c.syzygy.ensures.syzygy
+          c.args.after c.loop-index.index c.syzygy.result.now c.syzygy.ensures.syzygy
+          c.loop-index.auto.index
           (subst (λ σ. Divides (monomial_of σ) (monomial_of c.args.sig.now))
           (c.deref.ensures ∙ c.sig.ensures) divides),
       λ h. refl,
@@ -24,7 +24,7 @@ loop-index-preserved c =
     ∙ (c.is_some.ensures ∙ (quotient_divides (monomial_of c.deref.result.now)
     (monomial_of c.args.sig.now) c.divide.result c.divide.ensures).1 d))) in
     listed_further c.args.snapshot.now.state.syzygies (monomial_of c.args.sig.now)
-    c.loop-index.index c.syzygy.result.now c.syzygy.ensures.syzygy c.loop-index.invariant
+    c.args.after c.loop-index.index c.syzygy.result.now c.syzygy.ensures.syzygy c.loop-index.invariant
     (subst (λ σ. ¬ Divides (monomial_of σ) (monomial_of c.args.sig.now))
     (c.deref.ensures ∙ c.sig.ensures) none)
 
@@ -33,5 +33,5 @@ returns c = (
   λ t. absurd (false≢true t),
   λ h. absurd
       (none_listed c.args.snapshot.now.state.syzygies (monomial_of c.args.sig.now)
-      c.loop-index.index (omega arith) c.loop-index.invariant h),
+      c.args.after c.loop-index.index (omega arith) c.loop-index.invariant h),
 )

@@ -10,14 +10,15 @@ returns-in_default c = (
   λ t. absurd (false≢true t),
   λ h. absurd
       (none_divides c.args.snapshot.now.problem.problem.setting c.args.snapshot.now.state.entries
-      (monomial_of c.args.sig.now) (c.args.number - 1) c.lead-own.result c.lead-own.ensures
-      c.in_default.ensures h),
+      (monomial_of c.args.sig.now) c.args.from (c.args.number - 1) c.lead-own.result
+      c.lead-own.ensures c.in_default.ensures h),
 )
 
 pub returns-then-is_trivial : goal.returns-then-is_trivial
 returns-then-is_trivial c = (
   λ t. (
     c.loop-index.index + 1 - 1,
+    (let from = c.loop-index.auto.index in omega arith),
     pair_found c.args.snapshot.now.problem.problem.setting c.args.snapshot.now.state.entries
         (monomial_of c.args.sig.now) (c.args.number - 1) (c.loop-index.index + 1 - 1)
         c.lead-own.result c.lead.result c.lead-own.ensures c.lead.ensures c.in-Some.before.now
@@ -34,8 +35,8 @@ loop-index-preserved c =
     subst (λ k. IsLeadAt c.args.snapshot.now.problem.problem.setting
     c.args.snapshot.now.state.entries k c.lead.result) same c.lead.ensures in
     none_pair_further c.args.snapshot.now.problem.problem.setting c.args.snapshot.now.state.entries
-    (monomial_of c.args.sig.now) (c.args.number - 1) c.loop-index.index c.loop-index.invariant
-    (λ p. false≢true (sym c.if-is_trivial.false
+    (monomial_of c.args.sig.now) c.args.from (c.args.number - 1) c.loop-index.index
+    c.loop-index.invariant (λ p. false≢true (sym c.if-is_trivial.false
     ∙ c.is_trivial.ensures.1 (pair_is c.args.snapshot.now.problem.problem.setting
     c.args.snapshot.now.state.entries (monomial_of c.args.sig.now) (c.args.number - 1)
     c.loop-index.index c.lead-own.result c.lead.result c.lead-own.ensures other
@@ -46,6 +47,6 @@ returns c = (
   λ t. absurd (false≢true t),
   λ h. absurd
       (none_pair c.args.snapshot.now.problem.problem.setting c.args.snapshot.now.state.entries
-      (monomial_of c.args.sig.now) (c.args.number - 1) c.loop-index.index (omega arith)
-      c.loop-index.invariant h),
+      (monomial_of c.args.sig.now) c.args.from (c.args.number - 1) c.loop-index.index
+      (omega arith) c.loop-index.invariant h),
 )
