@@ -9,13 +9,13 @@ use Rattle.nc_cofactor.proofs.Filling.{few_filled}
 use Rattle.nc_cofactor.proofs.Labelled.{label_sum}
 use Rattle.nc_cofactor.proofs.Needing.{names_within, needs_earlier}
 use Rattle.nc_cofactor.proofs.Once.{label_count, trace_once}
-use Rattle.nc_cofactor.proofs.Reaching.{needs_reached, reached_needs}
+use Rattle.nc_cofactor.proofs.Reaching.{need_more}
 use Rattle.nc_cofactor.proofs.Runs.{label_terms, one_run}
 use Rattle.nc_cofactor.proofs.Terms.{has_terms, terms_once}
 use Rattle.nc_cofactor.specs.Expanding.{AreNamedLabels, FailsToExpand, FailsToSum, IsExpanded}
 use Rattle.nc_cofactor.specs.Labels.{HasLabel, IsLabelIn, IsLabelOf}
-use Rattle.nc_cofactor.specs.Needed.{AreFilled, FailsToFill, IsFilledAt, IsMarked, IsReached}
-use Rattle.nc_cofactor.specs.Terms.{CountsFor, EntryTerms, HasTerms, IsTooMany, Names, Needs}
+use Rattle.nc_cofactor.specs.Needed.{AreFilled, FailsToFill, IsFilledAt, IsMarked, MarksName}
+use Rattle.nc_cofactor.specs.Terms.{CountsFor, EntryTerms, HasTerms, IsNeeded, IsTooMany, Names}
 use Rattle.nc_cofactor.specs.Traces.{HasTrace, IsTraceIn}
 use Rattle.nc_cofactor.specs.declared.fault.CofactorFault.{CofactorFault}
 use Rattle.nc_cofactor.specs.declared.fault.CofactorFault.TheVariants.{OutOfMemory, TooMany}
@@ -34,22 +34,23 @@ module _ (P : NamedProblem) (problem : IsProblem P) (n : ℕ) (listed : Listed) 
     is_there =
         subst (λ (r : State). IsTraceIn r listed t) (one_run P problem n has.at.runs runs) has.is
 
-    -- what is needed is reached, and what is reached is needed
-    need : {j : ℕ} → Needs run.entries t j → IsReached run.entries marks j
+    -- the trace needs what the marks do
+    need : {j : ℕ} → IsNeeded run.entries (Names t) j → IsNeeded run.entries (MarksName marks) j
     need needs =
-        needs_reached run.entries marks t
+        need_more run.entries (Names t) (MarksName marks)
         (λ j m. let some : 1 ≤ j = (names_within P problem runs listed t j is_there m).0 in
         (some, (exact j some).1 m)) needs
 
-    needed : {j : ℕ} → IsReached run.entries marks j → Needs run.entries t j
-    needed reached = reached_needs run.entries marks t (λ j some m. (exact j some).0 m) reached
+    needed : {j : ℕ} → IsNeeded run.entries (MarksName marks) j → IsNeeded run.entries (Names t) j
+    needed reached =
+        need_more run.entries (MarksName marks) (Names t) (λ j m. (exact j m.0).0 m.1) reached
 
-    -- what counts is the item or reached
+    -- what counts is the item, or the marks need it
     counted : (j : ℕ) → CountsFor run listed j → (listed ≡ EntryOf j)
-        ⊎ IsReached run.entries marks j
+        ⊎ IsNeeded run.entries (MarksName marks) j
     counted j (inl e) = inl e
     counted j (inr (t', is, needs)) =
-        inr (need (subst (λ (x : Trace). Needs run.entries x j)
+        inr (need (subst (λ (x : Trace). IsNeeded run.entries (Names x) j)
         (trace_once run listed t' t is is_there) needs))
 
   -- where not all labels are made
@@ -64,16 +65,16 @@ module _ (P : NamedProblem) (problem : IsProblem P) (n : ℕ) (listed : Listed) 
       }
     where
       lesser : (j i : ℕ) → j < f.number → EntryTerms P.problem.setting.prime f.at.run j i
-          → (listed ≡ EntryOf j) ⊎ IsReached f.at.run.entries marks j → i ≤ limit
+          → (listed ≡ EntryOf j) ⊎ IsNeeded f.at.run.entries (MarksName marks) j → i ≤ limit
       lesser j i l terms (inl same) =
-          absurd (let b : f.number < j = (needs_earlier P problem f.at.runs j t
+          absurd (let b : f.number < j = needs_earlier P problem f.at.runs j t
           (subst (λ (x : Listed). IsTraceIn f.at.run x t) same (is_there f.at.runs))
-          (needed f.at.runs f.reached)).1 in omega (arith, b, l))
+          (needed f.at.runs f.needed) in omega (arith, b, l))
       lesser j i l terms (inr reached) = f.lesser j i reached l terms
 
       many : IsTooMany P.problem.setting.prime f.at.run listed limit (EntryOf f.number) terms
       many = (
-        inr (t, is_there f.at.runs, needed f.at.runs f.reached),
+        inr (t, is_there f.at.runs, needed f.at.runs f.needed),
         f.has,
         f.many,
         λ j i c l ts. lesser j i l ts (counted f.at.runs j c),
@@ -87,7 +88,7 @@ module _ (P : NamedProblem) (problem : IsProblem P) (n : ℕ) (listed : Listed) 
       at = h.at;
       is = is_there h.at.runs;
       named = λ j m. let f : IsFilledAt P.problem h.at.run labels limit j =
-          h.places j (need h.at.runs (Needs.named m)) in (f.label, f.at, f.is);
+          h.places j (need h.at.runs (IsNeeded.given m)) in (f.label, f.at, f.is);
     }
 
     pub item_expands : (m : List (Term Sig)) → HasLabel P.problem n listed m → length m ≤ limit
@@ -113,7 +114,7 @@ module _ (P : NamedProblem) (problem : IsProblem P) (n : ℕ) (listed : Listed) 
             omega (arith, same, few)
 
         entries : (j i : ℕ) → EntryTerms P.problem.setting.prime h.at.run j i → (listed ≡ EntryOf j)
-            ⊎ IsReached h.at.run.entries marks j → i ≤ limit
+            ⊎ IsNeeded h.at.run.entries (MarksName marks) j → i ≤ limit
         entries j i terms (inl e) =
             let o : IsLabelOf P.problem.setting h.at.run (EntryOf j) m =
             subst (λ (x : Listed). IsLabelOf P.problem.setting h.at.run x m) e own in
@@ -147,7 +148,7 @@ module _ (P : NamedProblem) (problem : IsProblem P) (n : ℕ) (listed : Listed) 
 
         lesser : (k j i : ℕ) → listed ≡ EntryOf k → j < k
             → EntryTerms P.problem.setting.prime h.at.run j i → (listed ≡ EntryOf j)
-            ⊎ IsReached h.at.run.entries marks j → i ≤ limit
+            ⊎ IsNeeded h.at.run.entries (MarksName marks) j → i ≤ limit
         lesser k j i e l terms (inl d) =
             absurd (let same : EntryOf k ≡ EntryOf j = sym e ∙ d in let one : k ≡ j = cc in
             omega (arith, one, l))
@@ -158,7 +159,7 @@ module _ (P : NamedProblem) (problem : IsProblem P) (n : ℕ) (listed : Listed) 
         entry_alone k j e d = let same : SyzygyOf k ≡ EntryOf j = sym e ∙ d in cc
 
         others : (k j i : ℕ) → listed ≡ SyzygyOf k → EntryTerms P.problem.setting.prime h.at.run j i
-            → (listed ≡ EntryOf j) ⊎ IsReached h.at.run.entries marks j → i ≤ limit
+            → (listed ≡ EntryOf j) ⊎ IsNeeded h.at.run.entries (MarksName marks) j → i ≤ limit
         others k j i e terms (inl d) = absurd (entry_alone k j e d)
         others k j i e terms (inr reached) =
             few_filled P problem n marks limit labels h j i reached terms

@@ -13,8 +13,8 @@ use Rattle.nc_cofactor.proofs.Runs.{entries_kept, label_terms, one_run}
 use Rattle.nc_cofactor.proofs.Terms.{terms_once}
 use Rattle.nc_cofactor.specs.Expanding.{AreNamedLabels, FailsToSum}
 use Rattle.nc_cofactor.specs.Labels.{IsLabelOf}
-use Rattle.nc_cofactor.specs.Needed.{AreFilled, AreFound, FailsToFill, IsFilledAt, IsFound, IsNewLabel, IsReached}
-use Rattle.nc_cofactor.specs.Terms.{EntryTerms, Names}
+use Rattle.nc_cofactor.specs.Needed.{AreFilled, AreFound, FailsToFill, IsFilledAt, IsFound, IsNewLabel, MarksName}
+use Rattle.nc_cofactor.specs.Terms.{EntryTerms, IsNeeded, Names}
 use Rattle.nc_cofactor.specs.Traces.{IsTraceIn, RunAt}
 use Rattle.nc_cofactor.specs.declared.fault.CofactorFault.{CofactorFault}
 use Rattle.nc_cofactor.specs.declared.fault.CofactorFault.TheVariants.{OutOfMemory, TooMany}
@@ -35,7 +35,7 @@ pub record AreFilledTo (P : Problem) (n : ℕ) (marks : List Bool) (stack : List
   pub height : length labels + length stack ≡ length at.run.entries
   pub slots : (k : ℕ) (o : Option Trace) → length labels < k → k ≤ length at.run.entries
       → slice_get stack (length at.run.entries - k) ≡ Some o → IsFound at.run marks k o
-  pub places : (k : ℕ) → 1 ≤ k → k ≤ length labels → IsReached at.run.entries marks k
+  pub places : (k : ℕ) → 1 ≤ k → k ≤ length labels → IsNeeded at.run.entries (MarksName marks) k
       → IsFilledAt P at.run labels limit k
 
 pub none_filled : (P : Problem) (n : ℕ) (marks : List Bool) (stack : List (Option Trace))
@@ -55,15 +55,15 @@ module _ (P : NamedProblem) (problem : IsProblem P) (n : ℕ) (marks : List Bool
   module _ (stack : List (Option Trace)) (h : AreFilledTo P.problem n marks stack labels limit)
     where
       -- a label in its place
-      there : (j : ℕ) → IsReached h.at.run.entries marks j → j ≤ length labels → (m : List (Term Sig))
-          × (slice_get labels (j - 1) ≡ Some m) × IsLabelOf P.problem.setting h.at.run (EntryOf j) m
+      there : (j : ℕ) → IsNeeded h.at.run.entries (MarksName marks) j → j ≤ length labels
+          → (m : List (Term Sig)) × (slice_get labels (j - 1) ≡ Some m) × IsLabelOf P.problem.setting h.at.run (EntryOf j) m
       there j reached within =
           let f : IsFilledAt P.problem h.at.run labels limit j =
           h.places j (reached_within P problem h.at.runs marks h.size reached).0 within reached in
           (f.label, f.at, f.is)
 
       -- each label that is there has few terms
-      few_there : (j i : ℕ) → IsReached h.at.run.entries marks j → j ≤ length labels
+      few_there : (j i : ℕ) → IsNeeded h.at.run.entries (MarksName marks) j → j ≤ length labels
           → EntryTerms P.problem.setting.prime h.at.run j i → i ≤ limit
       few_there j i reached within terms =
           let f : IsFilledAt P.problem h.at.run labels limit j =
@@ -102,7 +102,7 @@ module _ (P : NamedProblem) (problem : IsProblem P) (n : ℕ) (marks : List Bool
               }
             where
               named : (j : ℕ) → IsTraceIn h.at.run (EntryOf (length labels + 1)) x
-                  → IsReached h.at.run.entries marks (length labels + 1) → Names x j
+                  → IsNeeded h.at.run.entries (MarksName marks) (length labels + 1) → Names x j
                   → (m : List (Term Sig)) × (slice_get labels (j - 1) ≡ Some m)
                   × IsLabelOf P.problem.setting h.at.run (EntryOf j) m
               named j (y, some, at, same) reached m =
@@ -110,7 +110,7 @@ module _ (P : NamedProblem) (problem : IsProblem P) (n : ℕ) (marks : List Bool
                   let b : (1 ≤ j) × (j < length labels + 1) =
                   names_earlier P.problem (problem_field P problem) h.at.runs (length labels + 1) j y
                   some at by in
-                  there j (IsReached.through reached y at by) (omega (arith, b.1))
+                  there j (IsNeeded.through reached y at by) (omega (arith, b.1))
 
           -- its label is one place more
           pub slot_fills : (m : List (Term Sig))
@@ -140,7 +140,7 @@ module _ (P : NamedProblem) (problem : IsProblem P) (n : ℕ) (marks : List Bool
 
               filled : (x : Option Trace) → IsNewLabel P.problem n limit (length labels + 1) x m
                   → IsFound h.at.run marks (length labels + 1) x
-                  → IsReached h.at.run.entries marks (length labels + 1)
+                  → IsNeeded h.at.run.entries (MarksName marks) (length labels + 1)
                   → IsFilledAt P.problem h.at.run (labels ++ m ∷ []) limit (length labels + 1)
               filled None a b reached = absurd (b reached)
               filled (Some x) a b reached = record {
@@ -152,7 +152,8 @@ module _ (P : NamedProblem) (problem : IsProblem P) (n : ℕ) (marks : List Bool
                 few = a.1;
               }
 
-              places : (k : ℕ) → 1 ≤ k → IsReached h.at.run.entries marks k → (k < length labels + 1)
+              places : (k : ℕ) → 1 ≤ k → IsNeeded h.at.run.entries (MarksName marks) k
+                  → (k < length labels + 1)
                   ⊎ ((k ≡ length labels + 1) ⊎ (length labels + 1 < k)) → k ≤ length labels + 1
                   → IsFilledAt P.problem h.at.run (labels ++ m ∷ []) limit k
               places k some reached (inl l) within =
@@ -166,7 +167,8 @@ module _ (P : NamedProblem) (problem : IsProblem P) (n : ℕ) (marks : List Bool
                   }
               places k some reached (inr (inl e)) within =
                   subst (λ i. IsFilledAt P.problem h.at.run (labels ++ m ∷ []) limit i) (sym e)
-                  (filled o new slot (subst (λ i. IsReached h.at.run.entries marks i) e reached))
+                  (filled o new slot
+                  (subst (λ i. IsNeeded h.at.run.entries (MarksName marks) i) e reached))
               places k some reached (inr (inr l)) within = absurd (omega (arith, l, within))
 
           -- where it has too many terms it is the first
@@ -179,7 +181,7 @@ module _ (P : NamedProblem) (problem : IsProblem P) (n : ℕ) (marks : List Bool
             size = h.size;
             number = length labels + 1;
             names = f.names;
-            reached = s.1;
+            needed = s.1;
             has = subst (λ i. EntryTerms P.problem.setting.prime h.at.run (length labels + 1) i)
                 (sym f.count) (label_terms P problem n h.at.run (length labels + 1) f.label new);
             many = f.many;
@@ -208,7 +210,8 @@ module _ (P : NamedProblem) (problem : IsProblem P) (n : ℕ) (marks : List Bool
 -- each label that is there has few terms
 pub few_filled : (P : NamedProblem) (problem : IsProblem P) (n : ℕ) (marks : List Bool) (limit : ℕ)
     (labels : List (List (Term Sig))) (h : AreFilled P.problem n marks limit labels) (j i : ℕ)
-    → IsReached h.at.run.entries marks j → EntryTerms P.problem.setting.prime h.at.run j i → i ≤ limit
+    → IsNeeded h.at.run.entries (MarksName marks) j
+    → EntryTerms P.problem.setting.prime h.at.run j i → i ≤ limit
 few_filled P problem n marks limit labels h j i reached terms =
     let f : IsFilledAt P.problem h.at.run labels limit j = h.places j reached in
     let same : i ≡ length f.label =

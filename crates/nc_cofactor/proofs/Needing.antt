@@ -9,8 +9,8 @@ use Rattle.nc_cofactor.proofs.Named.{IsAnyNamed, IsSigned, any_named, names_earl
 use Rattle.nc_cofactor.proofs.Once.{trace_once}
 use Rattle.nc_cofactor.proofs.Places.{earlier_place, last_place}
 use Rattle.nc_cofactor.proofs.Runs.{entries_kept, one_run, run_at}
-use Rattle.nc_cofactor.specs.Needed.{AreFound, IsFound, IsMarked, IsReached, IsSlot}
-use Rattle.nc_cofactor.specs.Terms.{Names, Needs}
+use Rattle.nc_cofactor.specs.Needed.{AreFound, IsFound, IsMarked, IsSlot, MarksName}
+use Rattle.nc_cofactor.specs.Terms.{IsNeeded, Names}
 use Rattle.nc_cofactor.specs.Traces.{HasTrace, IsTraceIn, RunAt}
 use Rattle.nc_theory.specs.Untraced.{IsRunOf}
 use Rattle.nc_snapshot.specs.declared.outcome.Listed.{Listed}
@@ -35,7 +35,7 @@ pub record IsOnTheWay (run : State) (first : List Bool) (left : ℕ) (marks : Li
   pub begins : length first ≡ length run.entries
   pub size : length marks ≡ length run.entries
   pub height : length stack + left ≡ length run.entries
-  pub sound : (j : ℕ) → 1 ≤ j → IsMarked marks j → IsReached run.entries first j
+  pub sound : (j : ℕ) → 1 ≤ j → IsMarked marks j → IsNeeded run.entries (MarksName first) j
   pub kept : (j : ℕ) → 1 ≤ j → IsMarked first j → IsMarked marks j
   pub passed : (j k : ℕ) (e : Entry) → left < k → k ≤ length run.entries → IsMarked marks k
       → slice_get run.entries (k - 1) ≡ Some e → Names e.trace j → IsMarked marks j
@@ -53,7 +53,7 @@ pub record IsStep (run : State) (first : List Bool) (left : ℕ) (old new : List
     (o : Option Trace) : Type 0 where
   pub grows : (j : ℕ) → 1 ≤ j → IsMarked old j → IsMarked new j
   pub lower : (j : ℕ) → 1 ≤ j → IsMarked new j → IsMarked old j
-      ⊎ ((j < left) × IsReached run.entries first j)
+      ⊎ ((j < left) × IsNeeded run.entries (MarksName first) j)
   pub slot : IsSlotOf run new left o
   pub here : (j : ℕ) (e : Entry) → IsMarked new left → slice_get run.entries (left - 1) ≡ Some e
       → Names e.trace j → IsMarked new j
@@ -74,28 +74,40 @@ module _ (P : NamedProblem) (problem : IsProblem P) {n : ℕ} {run : State} {las
       slice_get_within run.entries (j - 1) x.named.entry x.named.at in
       (x.named.some, omega (arith, l, x.named.some))
 
-  pub reached_within : (marks : List Bool) → length marks ≡ length run.entries → {j : ℕ}
-      → IsReached run.entries marks j → (1 ≤ j) × (j ≤ length run.entries)
-  reached_within marks size (IsReached.marked {j = j} some m) =
-      let l : j - 1 < length marks = slice_get_within marks (j - 1) true m in
-      (some, omega (arith, l, some, size))
-  reached_within marks size (IsReached.through {j = j} {k = k} reached e at m) =
-      let b : (1 ≤ k) × (k ≤ length run.entries) = reached_within marks size reached in
+  -- what is needed lies within the bound that what is given lies within
+  pub needed_bounded : (Given : ℕ → Type 0) (bound : ℕ)
+      → ((j : ℕ) → Given j → (1 ≤ j) × (j ≤ bound)) → {j : ℕ} → IsNeeded run.entries Given j
+      → (1 ≤ j) × (j ≤ bound)
+  needed_bounded Given bound low (IsNeeded.given {j = j} g) = low j g
+  needed_bounded Given bound low (IsNeeded.through {j = j} {k = k} needed e at m) =
+      let b : (1 ≤ k) × (k ≤ bound) = needed_bounded Given bound low needed in
       let d : (1 ≤ j) × (j < k) =
       names_earlier P.problem (problem_field P problem) runs k j e b.0 at m in
       (d.0, omega (arith, b.1, d.1))
 
+  pub reached_within : (marks : List Bool) → length marks ≡ length run.entries → {j : ℕ}
+      → IsNeeded run.entries (MarksName marks) j → (1 ≤ j) × (j ≤ length run.entries)
+  reached_within marks size reached =
+      needed_bounded (MarksName marks) (length run.entries) low reached
+    where
+      low : (j : ℕ) → MarksName marks j → (1 ≤ j) × (j ≤ length run.entries)
+      low j (some, m) =
+          let l : j - 1 < length marks = slice_get_within marks (j - 1) true m in
+          (some, omega (arith, l, some, size))
+
   -- what an entry needs are earlier ones
   pub needs_earlier : (i : ℕ) (t : Trace) → IsTraceIn run (EntryOf i) t → {j : ℕ}
-      → Needs run.entries t j → (1 ≤ j) × (j < i)
-  needs_earlier i t (e, some, at, is) (Needs.named {j = j} m) =
-      names_earlier P.problem (problem_field P problem) runs i j e some at
-      (subst (λ (x : Trace). Names x j) (sym is) m)
-  needs_earlier i t is (Needs.through {j = j} {k = k} needs e at m) =
-      let b : (1 ≤ k) × (k < i) = needs_earlier i t is needs in
-      let d : (1 ≤ j) × (j < k) =
-      names_earlier P.problem (problem_field P problem) runs k j e b.0 at m in
-      (d.0, omega (arith, b.1, d.1))
+      → IsNeeded run.entries (Names t) j → j < i
+  needs_earlier i t (e, some, at, is) needs =
+      let b = needed_bounded (Names t) (i - 1) low needs in
+      omega (arith, b.0, b.1)
+    where
+      low : (j : ℕ) → Names t j → (1 ≤ j) × (j ≤ i - 1)
+      low j m =
+          let d : (1 ≤ j) × (j < i) =
+          names_earlier P.problem (problem_field P problem) runs i j e some at
+          (subst (λ (x : Trace). Names x j) (sym is) m) in
+          (d.0, omega (arith, d.1))
 
   -- ---- the way down
 
@@ -106,7 +118,7 @@ module _ (P : NamedProblem) (problem : IsProblem P) {n : ℕ} {run : State} {las
       begins = size;
       size = size;
       height = omega (arith, all);
-      sound = λ j some m. IsReached.marked some m;
+      sound = λ j some m. IsNeeded.given (some, m);
       kept = λ j some m. m;
       passed =
           λ j k e l within. absurd (let a : k ≤ left = omega (arith, within, all) in
@@ -146,11 +158,11 @@ module _ (P : NamedProblem) (problem : IsProblem P) {n : ℕ} {run : State} {las
           }
         where
           new_reach : (j : ℕ) (x : Trace) → IsTraceIn run (EntryOf left) x → IsMarked old left
-              → Names x j → (j < left) × IsReached run.entries first j
+              → Names x j → (j < left) × IsNeeded run.entries (MarksName first) j
           new_reach j x (y, one, at, same) m k =
               let named : Names y.trace j = subst (λ (z : Trace). Names z j) (sym same) k in (
                 (names_earlier P.problem (problem_field P problem) runs left j y some at named).1,
-                IsReached.through (way.sound left some m) y at named,
+                IsNeeded.through (way.sound left some m) y at named,
               )
 
       goes_on : IsStep run first left old new o → length new ≡ length old
@@ -210,9 +222,9 @@ module _ (P : NamedProblem) (problem : IsProblem P) {n : ℕ} {run : State} {las
     -- what is reached is marked at the end
     module _ (marks : List Bool) (stack : List (Option Trace))
         (way : IsOnTheWay run first 0 marks stack) where
-      marked : {j : ℕ} → IsReached run.entries first j → IsMarked marks j
-      marked (IsReached.marked {j = j} some m) = way.kept j some m
-      marked (IsReached.through {j = j} {k = k} reached e at m) =
+      marked : {j : ℕ} → IsNeeded run.entries (MarksName first) j → IsMarked marks j
+      marked (IsNeeded.given {j = j} m) = way.kept j m.0 m.1
+      marked (IsNeeded.through {j = j} {k = k} reached e at m) =
           let b : (1 ≤ k) × (k ≤ length run.entries) = reached_within first way.begins reached in
           way.passed j k e (omega (arith, b.0)) b.1 (marked reached) at m
 

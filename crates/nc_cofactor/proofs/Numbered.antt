@@ -3,9 +3,10 @@ use Rattle.nc_algebra.specs.Problems.{IsProblem, NamedProblem, Problem}
 use Rattle.nc_cofactor.proofs.Lists.{contains_map, map_contains, rising_push}
 use Rattle.nc_cofactor.proofs.Needing.{compared, reached_within}
 use Rattle.nc_cofactor.proofs.Places.{earlier_there, last_there}
-use Rattle.nc_cofactor.proofs.Reaching.{needed_reached, reached_needed}
-use Rattle.nc_cofactor.specs.Claims.{AreNeededFor, AreNeededTraces, IsNeededFor, ListsNeeded}
-use Rattle.nc_cofactor.specs.Needed.{AreFound, AreNumbered, IsFound, IsMarked, IsReached}
+use Rattle.nc_cofactor.proofs.Reaching.{need_more}
+use Rattle.nc_cofactor.specs.Claims.{AreNeededFor, AreNeededTraces, ListsNeeded}
+use Rattle.nc_cofactor.specs.Needed.{AreFound, AreNumbered, IsFound, IsMarked, MarksName}
+use Rattle.nc_cofactor.specs.Terms.{IsNeeded}
 use Rattle.nc_cofactor.specs.Traces.{IsTraceIn}
 use Rattle.nc_snapshot.specs.declared.outcome.Listed.TheVariants.{Entry as EntryOf}
 use Rattle.nc_theory.specs.States.{Trace}
@@ -140,21 +141,22 @@ module _ (P : NamedProblem) (problem : IsProblem P) (n : ℕ) (numbers : List �
     ↔ Contains numbers j) where
   module _ (stack : List (Option Trace)) (numbered : List (ℕ × Trace))
       (f : AreFound P.problem n marks stack) (a : AreNumbered stack numbered) where
-    some_of : (j : ℕ) → Contains numbers j → (1 ≤ j) × IsMarked marks j
+    some_of : (j : ℕ) → Contains numbers j → MarksName marks j
     some_of j c =
         let some : 1 ≤ j = subst (λ i. 1 ≤ i) c.2 (low c.0 j c.1) in
         (some, (exact j some).1 c)
 
     -- one that is there is needed
     found : (k : ℕ) (t : Trace) → Contains numbered (k, t) → IsTraceIn f.at.run (EntryOf k) t
-        × IsReached f.at.run.entries marks k
+        × IsNeeded f.at.run.entries (MarksName marks) k
     found k t c =
         let s = a.sound k t c in
         f.slots k (Some t) s.0 (omega (arith, s.1, f.height))
         (subst (λ i. slice_get stack (i - k) ≡ Some (Some t)) f.height s.2)
 
     -- one that is needed is there
-    there : (j : ℕ) → IsReached f.at.run.entries marks j → Contains (map (λ x. x.0) numbered) j
+    there : (j : ℕ) → IsNeeded f.at.run.entries (MarksName marks) j
+        → Contains (map (λ x. x.0) numbered) j
     there j reached =
         let b : (1 ≤ j) × (j ≤ length f.at.run.entries) =
         reached_within P problem f.at.runs marks f.size reached in
@@ -184,10 +186,11 @@ module _ (P : NamedProblem) (problem : IsProblem P) (n : ℕ) (numbers : List �
       ascending = a.ascending;
       exact = λ j. (
         (λ c. let r = map_contains (λ (x : ℕ × Trace). x.0) numbered j c in
-            subst (IsNeededFor f.at.run.entries numbers) r.2
-            (reached_needed f.at.run.entries marks numbers (λ i some m. (exact i some).0 m)
-            (found r.0.0 r.0.1 r.1).1)),
-        (λ needed. there j (needed_reached f.at.run.entries marks numbers some_of needed)),
+            subst (IsNeeded f.at.run.entries (Contains numbers)) r.2
+            (need_more f.at.run.entries (MarksName marks) (Contains numbers)
+            (λ i m. (exact i m.0).0 m.1) (found r.0.0 r.0.1 r.1).1)),
+        (λ needed. there j (need_more f.at.run.entries (Contains numbers) (MarksName marks) some_of
+            needed)),
       );
     }
 

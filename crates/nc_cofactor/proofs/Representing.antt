@@ -10,11 +10,12 @@ use Rattle.nc_cofactor.proofs.Keys.{all_among}
 use Rattle.nc_cofactor.proofs.Labelled.{StandsAt, addable_steps, steps_whole}
 use Rattle.nc_cofactor.proofs.Lists.{contains_map, map_contains}
 use Rattle.nc_cofactor.proofs.Named.{AreLight, IsLight}
-use Rattle.nc_cofactor.proofs.Reaching.{needed_reached, reached_needed}
+use Rattle.nc_cofactor.proofs.Reaching.{need_more}
 use Rattle.nc_cofactor.proofs.Runs.{entries_kept, one_run}
 use Rattle.nc_cofactor.proofs.Terms.{has_terms, terms_once}
-use Rattle.nc_cofactor.specs.Claims.{AreSubtracted, FailsToRepresent, IsNeededFor, IsRepresentation, IsTooManyFor, IsTooManyForAt, numbers_of}
-use Rattle.nc_cofactor.specs.Needed.{AreFilled, FailsToFill, IsFilledAt, IsMarked, IsReached, StepsName}
+use Rattle.nc_cofactor.specs.Claims.{AreSubtracted, FailsToRepresent, IsRepresentation, IsTooManyFor, IsTooManyForAt, numbers_of}
+use Rattle.nc_cofactor.specs.Needed.{AreFilled, FailsToFill, IsFilledAt, IsMarked, MarksName, StepsName}
+use Rattle.nc_cofactor.specs.Terms.{IsNeeded}
 use Rattle.nc_cofactor.specs.Sums.{AreSummable, IsSum, elements_of}
 use Rattle.nc_cofactor.specs.Terms.{HasTerms}
 use Rattle.nc_cofactor.specs.declared.fault.CofactorFault.{CofactorFault}
@@ -80,22 +81,23 @@ module _ (s : Snapshot) (is : IsSnapshot s) (steps : List Step)
 
   module _ (marks : List Bool) (limit : ℕ) (exact : (j : ℕ) → 1 ≤ j → IsMarked marks j
       ↔ StepsName steps j) where
-    -- what is needed is reached, and what is reached is needed
-    need : (run : State) {j : ℕ} → IsNeededFor run.entries (numbers_of steps) j
-        → IsReached run.entries marks j
-    need run needed = needed_reached run.entries marks (numbers_of steps) given needed
+    -- the steps need what the marks do
+    need : (run : State) {j : ℕ} → IsNeeded run.entries (Contains (numbers_of steps)) j
+        → IsNeeded run.entries (MarksName marks) j
+    need run needed =
+        need_more run.entries (Contains (numbers_of steps)) (MarksName marks) given needed
       where
-        given : (j : ℕ) → Contains (numbers_of steps) j → (1 ≤ j) × IsMarked marks j
+        given : (j : ℕ) → Contains (numbers_of steps) j → MarksName marks j
         given j c =
             let r = map_contains (λ (t : Step). t.number) steps j c in
             let some : 1 ≤ j = (named_low (length s.state.entries) refl j r).0 in
             (some, (exact j some).1 r)
 
-    needed : (run : State) {j : ℕ} → IsReached run.entries marks j
-        → IsNeededFor run.entries (numbers_of steps) j
+    needed : (run : State) {j : ℕ} → IsNeeded run.entries (MarksName marks) j
+        → IsNeeded run.entries (Contains (numbers_of steps)) j
     needed run reached =
-        reached_needed run.entries marks (numbers_of steps)
-        (λ j some m. let r = (exact j some).0 m in
+        need_more run.entries (MarksName marks) (Contains (numbers_of steps))
+        (λ j m. let r = (exact j m.0).0 m.1 in
         contains_map (λ (t : Step). t.number) steps r.0 j r.1 r.2) reached
 
     -- where not all labels are made
@@ -106,7 +108,7 @@ module _ (s : Snapshot) (is : IsSnapshot s) (steps : List Step)
       at = f.at;
       many = subst (λ (l : Listed). IsTooManyFor s.problem.problem.setting.prime f.at.run steps limit l
           terms) (sym f.names) (
-            needed f.at.run f.reached,
+            needed f.at.run f.needed,
             f.has,
             f.many,
             λ j m n l ts. f.lesser j m (need f.at.run n) l ts,
@@ -119,7 +121,7 @@ module _ (s : Snapshot) (is : IsSnapshot s) (steps : List Step)
       stands j k =
           let some : 1 ≤ j = (named_low (length s.state.entries) refl j k).0 in
           let f : IsFilledAt s.problem.problem h.at.run labels limit j =
-          h.places j (IsReached.marked some ((exact j some).1 k)) in
+          h.places j (IsNeeded.given (some, (exact j some).1 k)) in
           record { label = f.label; at = f.at; is = f.is }
 
       pub can_add : AreSummable s.problem.problem.setting labels steps

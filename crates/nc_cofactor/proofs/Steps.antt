@@ -10,7 +10,7 @@ use Rattle.nc_module.specs.Modules.{element_of, module_multiples, same_sig}
 use Rattle.nc_poly.specs.Ordered.{AreResiduesBy, Descends}
 use Rattle.nc_theory.specs.Labels.{label_at}
 use Rattle.nc_theory.specs.States.{Step}
-use Rattle.std.proofs.Common.{List, [], ap, arith, get_or, length, subst, sym, take, ℕ, ◌%◌, ◌+◌, ◌++◌, ◌-◌, ◌<◌, ◌∙◌, ◌∷◌, ◌≡◌, ◌≤◌}
+use Rattle.std.proofs.Common.{List, [], ap, arith, get_or, length, subst, sym, take, ℕ, ◌+◌, ◌++◌, ◌-◌, ◌<◌, ◌∙◌, ◌∷◌, ◌≡◌, ◌≤◌}
 use Rattle.std.proofs.Math.ListN.{get_or-map}
 use Rattle.std.proofs.lemmas.List.{take_all, take_more}
 

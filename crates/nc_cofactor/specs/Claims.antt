@@ -11,7 +11,7 @@ use Rattle.nc_algebra.specs.Polynomials.{Polynomial}
 use Rattle.nc_algebra.specs.Problems.{IsWithin, Problem}
 use Rattle.nc_algebra.specs.Sums.{Term}
 use Rattle.nc_cofactor.specs.Sums.{IsSum}
-use Rattle.nc_cofactor.specs.Terms.{EntryTerms, HasTerms, Names}
+use Rattle.nc_cofactor.specs.Terms.{EntryTerms, HasTerms, IsNeeded}
 use Rattle.nc_cofactor.specs.Traces.{IsTraceIn, RunAt}
 use Rattle.nc_cofactor.specs.declared.fault.CofactorFault.{CofactorFault}
 use Rattle.nc_cofactor.specs.declared.fault.CofactorFault.TheVariants.{OutOfMemory, TooMany}
@@ -21,20 +21,14 @@ use Rattle.nc_theory.specs.Labels.{labels_of, step_multiples}
 use Rattle.nc_theory.specs.Reductions.{Reduction}
 use Rattle.nc_theory.specs.States.{Entry, State, Step, Trace}
 use Rattle.std.specs.List.Sorted.{IsStrictlyIncreasing}
-use Rattle.std.specs.Prelude.{All, Contains, List, Some, map, slice_get, ℕ, ◌-◌, ◌<◌, ◌↔◌, ◌≡◌, ◌≤◌}
+use Rattle.std.specs.Prelude.{All, Contains, List, map, ℕ, ◌<◌, ◌↔◌, ◌≤◌}
 
 -- ---- the entries that are needed
-
--- entry j is one of these, or the trace of an entry that is needed names it
-pub data IsNeededFor (entries : List Entry) (numbers : List ℕ) : ℕ → Type 0 where
-  given : {j : ℕ} → Contains numbers j → IsNeededFor entries numbers j
-  through : {j k : ℕ} → IsNeededFor entries numbers k → (e : Entry)
-      → slice_get entries (k - 1) ≡ Some e → Names e.trace j → IsNeededFor entries numbers j
 
 -- these numbers are exactly the needed ones
 pub record ListsNeeded (entries : List Entry) (numbers needed : List ℕ) : Type 0 where
   pub ascending : IsStrictlyIncreasing needed
-  pub exact : (j : ℕ) → Contains needed j ↔ IsNeededFor entries numbers j
+  pub exact : (j : ℕ) → Contains needed j ↔ IsNeeded entries (Contains numbers) j
 
 -- the entries of the run after n steps that these need, and they themselves
 pub record AreNeededFor (P : Problem) (n : ℕ) (numbers needed : List ℕ) : Type 0 where
@@ -61,7 +55,8 @@ AreSubtracted P entries steps =
 
 -- the label of each entry that the steps need has at most so many terms, and so has their sum
 pub record AreWithinLimit (p : ℕ) (run : State) (steps : List Step) (limit : ℕ) : Type 0 where
-  pub entries : (j n : ℕ) → IsNeededFor run.entries (numbers_of steps) j → EntryTerms p run j n
+  pub entries : (j n : ℕ) → IsNeeded run.entries (Contains (numbers_of steps)) j
+      → EntryTerms p run j n
       → n ≤ limit
   pub sum : (n : ℕ) → HasTerms p (step_multiples (labels_of p run.entries) steps) n → n ≤ limit
 
@@ -77,13 +72,14 @@ pub record IsRepresentation (P : Problem) (n : ℕ) (steps : List Step) (limit :
 -- claim, whose representation has
 abbrev pub IsTooManyFor : ℕ → State → List Step → ℕ → Listed → ℕ → Type 0
 IsTooManyFor p run steps limit (EntryOf k) n =
-    IsNeededFor run.entries (numbers_of steps) k × EntryTerms p run k n × (limit < n)
-    × ((j m : ℕ) → IsNeededFor run.entries (numbers_of steps) j → j < k → EntryTerms p run j m
-    → m ≤ limit)
+    IsNeeded run.entries (Contains (numbers_of steps)) k × EntryTerms p run k n × (limit < n)
+    × ((j m : ℕ) → IsNeeded run.entries (Contains (numbers_of steps)) j → j < k
+    → EntryTerms p run j m → m ≤ limit)
 IsTooManyFor p run steps limit (SyzygyOf k) n = ⊥
 IsTooManyFor p run steps limit Claim n =
     HasTerms p (step_multiples (labels_of p run.entries) steps) n × (limit < n)
-    × ((j m : ℕ) → IsNeededFor run.entries (numbers_of steps) j → EntryTerms p run j m → m ≤ limit)
+    × ((j m : ℕ) → IsNeeded run.entries (Contains (numbers_of steps)) j
+    → EntryTerms p run j m → m ≤ limit)
 
 -- so in the run after n steps
 pub record IsTooManyForAt (P : Problem) (n : ℕ) (steps : List Step) (limit : ℕ) (named : Listed)

@@ -1,23 +1,20 @@
--- The entries that are reached from marks, as a sweep finds them, and their labels.
+-- The entries that marks need, as a sweep finds them, and their labels.
 --
 -- A trace names only entries with lesser numbers. So one sweep from the last entry to the first
 -- finds all that are needed: where an entry is marked, its trace is made again, and what it names
 -- is marked as well. The traces lie on a stack, that of entry 1 on top. A second sweep, from the
 -- first entry to the last, makes the labels.
---
--- `IsReached` is the same notion as `IsNeededFor` in `Claims.antt`, with marks in the place of a
--- list of numbers.
 use Rattle.nc_algebra.specs.Monomials.{Sig}
 use Rattle.nc_algebra.specs.Problems.{Problem}
 use Rattle.nc_algebra.specs.Sums.{Term}
 use Rattle.nc_cofactor.specs.Labels.{HasLabel, IsLabelOf}
-use Rattle.nc_cofactor.specs.Terms.{EntryTerms, Names}
+use Rattle.nc_cofactor.specs.Terms.{EntryTerms, IsNeeded, Names}
 use Rattle.nc_cofactor.specs.Traces.{HasTrace, IsTraceIn, RunAt}
 use Rattle.nc_cofactor.specs.declared.fault.CofactorFault.{CofactorFault}
 use Rattle.nc_cofactor.specs.declared.fault.CofactorFault.TheVariants.{OutOfMemory, TooMany}
 use Rattle.nc_snapshot.specs.declared.outcome.Listed.{Listed}
 use Rattle.nc_snapshot.specs.declared.outcome.Listed.TheVariants.{Entry as EntryOf}
-use Rattle.nc_theory.specs.States.{Entry, State, Step, Trace}
+use Rattle.nc_theory.specs.States.{State, Step, Trace}
 use Rattle.std.specs.List.Sorted.{IsStrictlyIncreasing}
 use Rattle.std.specs.Prelude.{Bool, Contains, List, None, Option, Some, length, map, slice_get, true, ℕ, ◌-◌, ◌<◌, ◌↔◌, ◌≡◌, ◌≤◌, ◌⊎◌}
 
@@ -35,11 +32,9 @@ StepsName steps j = (step : Step) × Contains steps step × (step.number ≡ j)
 abbrev pub MarksMore : List Bool → List Bool → (ℕ → Type 0) → Type 0
 MarksMore old new named = (j : ℕ) → 1 ≤ j → IsMarked new j ↔ (IsMarked old j ⊎ named j)
 
--- entry j is marked, or the trace of an entry that is reached from the marks names it
-pub data IsReached (entries : List Entry) (marks : List Bool) : ℕ → Type 0 where
-  marked : {j : ℕ} → 1 ≤ j → IsMarked marks j → IsReached entries marks j
-  through : {j k : ℕ} → IsReached entries marks k → (e : Entry) → slice_get entries (k - 1) ≡ Some e
-      → Names e.trace j → IsReached entries marks j
+-- the marks name entry j
+abbrev pub MarksName : List Bool → ℕ → Type 0
+MarksName marks j = (1 ≤ j) × IsMarked marks j
 
 -- ---- their traces
 
@@ -50,12 +45,13 @@ IsSlot P n old new k None = ¬ IsMarked old k × (new ≡ old)
 IsSlot P n old new k (Some t) =
     IsMarked old k × HasTrace P n (EntryOf k) t × MarksMore old new (Names t)
 
--- the trace of entry k where it is reached, and nothing where it is not
+-- the trace of entry k where it is needed, and nothing where it is not
 abbrev pub IsFound : State → List Bool → ℕ → Option Trace → Type 0
-IsFound run marks k None = ¬ IsReached run.entries marks k
-IsFound run marks k (Some t) = IsTraceIn run (EntryOf k) t × IsReached run.entries marks k
+IsFound run marks k None = ¬ IsNeeded run.entries (MarksName marks) k
+IsFound run marks k (Some t) =
+    IsTraceIn run (EntryOf k) t × IsNeeded run.entries (MarksName marks) k
 
--- of each entry that is reached the trace is there, that of entry 1 last
+-- of each entry that is needed the trace is there, that of entry 1 last
 pub record AreFound (P : Problem) (n : ℕ) (marks : List Bool) (stack : List (Option Trace)) : Type 0
   where
     pub at : RunAt P n
@@ -87,14 +83,15 @@ pub record IsFilledAt (P : Problem) (run : State) (labels : List (List (Term Sig
   pub is : IsLabelOf P.setting run (EntryOf k) label
   pub few : length label ≤ limit
 
--- the labels of the entries that are reached stand in their places
+-- the labels of the entries that are needed stand in their places
 pub record AreFilled (P : Problem) (n : ℕ) (marks : List Bool) (limit : ℕ)
     (labels : List (List (Term Sig))) : Type 0 where
   pub at : RunAt P n
   pub size : length marks ≡ length at.run.entries
-  pub places : (k : ℕ) → IsReached at.run.entries marks k → IsFilledAt P at.run labels limit k
+  pub places : (k : ℕ) → IsNeeded at.run.entries (MarksName marks) k
+      → IsFilledAt P at.run labels limit k
 
--- the label of the entry named has so many terms: of those that are reached the least one whose
+-- the label of the entry named has so many terms: of those that are needed the least one whose
 -- label has more than the limit
 pub record IsFirstMany (P : Problem) (n : ℕ) (marks : List Bool) (limit : ℕ) (named : Listed)
     (terms : ℕ) : Type 0 where
@@ -102,10 +99,10 @@ pub record IsFirstMany (P : Problem) (n : ℕ) (marks : List Bool) (limit : ℕ)
   pub size : length marks ≡ length at.run.entries
   pub number : ℕ
   pub names : named ≡ EntryOf number
-  pub reached : IsReached at.run.entries marks number
+  pub needed : IsNeeded at.run.entries (MarksName marks) number
   pub has : EntryTerms P.setting.prime at.run number terms
   pub many : limit < terms
-  pub lesser : (j m : ℕ) → IsReached at.run.entries marks j → j < number
+  pub lesser : (j m : ℕ) → IsNeeded at.run.entries (MarksName marks) j → j < number
       → EntryTerms P.setting.prime at.run j m → m ≤ limit
 
 -- why not all of them were given labels; want of memory says nothing

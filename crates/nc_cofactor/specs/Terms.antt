@@ -39,16 +39,17 @@ StartNames (Start.a_multiple u k v) j = k ≡ j
 abbrev pub Names : Trace → ℕ → Type 0
 Names t j = StartNames t.start j ⊎ ((step : Step) × Contains t.steps step × (step.number ≡ j))
 
--- entry j is needed for the trace: it is named there, or in the trace of an entry that is needed
-pub data Needs (entries : List Entry) (t : Trace) : ℕ → Type 0 where
-  named : {j : ℕ} → Names t j → Needs entries t j
-  through : {j k : ℕ} → Needs entries t k → (e : Entry) → slice_get entries (k - 1) ≡ Some e
-      → Names e.trace j → Needs entries t j
+-- entry j is needed for what is given: it is given, or the trace of an entry that is needed names
+-- it
+pub data IsNeeded (entries : List Entry) (Given : ℕ → Type 0) : ℕ → Type 0 where
+  given : {j : ℕ} → Given j → IsNeeded entries Given j
+  through : {j k : ℕ} → IsNeeded entries Given k → (e : Entry) → slice_get entries (k - 1) ≡ Some e
+      → Names e.trace j → IsNeeded entries Given j
 
 -- the label of entry j counts for the item: it is the item, or the item's trace needs it
 abbrev pub CountsFor : State → Listed → ℕ → Type 0
 CountsFor run listed j =
-    (listed ≡ EntryOf j) ⊎ ((t : Trace) × IsTraceIn run listed t × Needs run.entries t j)
+    (listed ≡ EntryOf j) ⊎ ((t : Trace) × IsTraceIn run listed t × IsNeeded run.entries (Names t) j)
 
 -- ---- limits
 

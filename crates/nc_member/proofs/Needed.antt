@@ -8,7 +8,8 @@ use Rattle.nc_algebra.specs.Problems.{IsProblem, NamedProblem, Problem}
 use Rattle.nc_cofactor.proofs.Labelled.{problem_field}
 use Rattle.nc_cofactor.proofs.Named.{IsSigned, signed}
 use Rattle.nc_cofactor.proofs.Runs.{run_at}
-use Rattle.nc_cofactor.specs.Claims.{AreNeededTraces, AreSubtracted, IsNeededFor, numbers_of}
+use Rattle.nc_cofactor.specs.Claims.{AreNeededTraces, AreSubtracted, numbers_of}
+use Rattle.nc_cofactor.specs.Terms.{IsNeeded}
 use Rattle.nc_cofactor.specs.Traces.{IsTraceIn}
 use Rattle.nc_member.proofs.Places.{Ascends, ascends}
 use Rattle.nc_member.specs.Found.{AreProofLines, AreUsable, HasResidues, entries_of}
@@ -17,7 +18,7 @@ use Rattle.nc_snapshot.specs.declared.outcome.Listed.TheVariants.{Entry as Entry
 use Rattle.nc_theory.proofs.Counting.{counts}
 use Rattle.nc_theory.specs.Reductions.{Reduction}
 use Rattle.nc_theory.specs.States.{Entry, State, Step, Trace}
-use Rattle.std.proofs.Common.{List, [], arith, length, subst, sym, ℕ, ◌-◌, ◌<◌, ◌∷◌, ◌≡◌, ◌≤◌}
+use Rattle.std.proofs.Common.{Contains, List, [], arith, length, subst, sym, ℕ, ◌-◌, ◌<◌, ◌∷◌, ◌≡◌, ◌≤◌}
 use Rattle.std.proofs.lemmas.List.{length-map}
 use Rattle.std.proofs.lemmas.List.Elements.{All-from_recursion, recursion_from_All}
 use Rattle.std.proofs.lemmas.Option.{slice_get_within}
@@ -109,9 +110,9 @@ module _ (P : NamedProblem) (is : IsProblem P) (n : ℕ) (few : n ≤ P.problem.
 
 -- ---- where nothing is needed
 
-none_needed : (entries : List Entry) {j : ℕ} → IsNeededFor entries [] j → ⊥
-none_needed entries (IsNeededFor.given c) = omega (arith, c.1)
-none_needed entries (IsNeededFor.through h e at m) = none_needed entries h
+none_needed : (entries : List Entry) {j : ℕ} → IsNeeded entries (Contains []) j → ⊥
+none_needed entries (IsNeeded.given c) = omega (arith, c.1)
+none_needed entries (IsNeeded.through h e at m) = none_needed entries h
 
 pub no_lines : (P : Problem) (n : ℕ) (state : State) → IsRunOf P n state → (steps : List Step)
     → steps ≡ [] → (lines : List Line) → lines ≡ [] → AreProofLines P n steps lines

@@ -16,9 +16,9 @@ use Rattle.nc_algebra.specs.Settings.{IsSetting, NamedSetting}
 use Rattle.nc_algebra.specs.Words.{Word}
 use Rattle.nc_cofactor.proofs.Letters.{trace_over}
 use Rattle.nc_cofactor.proofs.Named.{AreNamed, IsNamed, IsStartNamed, at_contains, contains_at, names_earlier, rebuilds_named}
-use Rattle.nc_cofactor.specs.Claims.{IsNeededFor, ListsNeeded, numbers_of}
+use Rattle.nc_cofactor.specs.Claims.{ListsNeeded, numbers_of}
 use Rattle.nc_cofactor.specs.Letters.{IsStartIn, IsTraceOver}
-use Rattle.nc_cofactor.specs.Terms.{Names, StartNames}
+use Rattle.nc_cofactor.specs.Terms.{IsNeeded, Names, StartNames}
 use Rattle.nc_cofactor.specs.Traces.{IsTraceIn}
 use Rattle.nc_member.proofs.Places.{Ascends, ascends, item_before, item_last, line_at, stands_before}
 use Rattle.nc_member.proofs.Reaches.{IsLight, IsReached, IsShort, generator_part, line_part, line_short}
@@ -236,10 +236,10 @@ module _ (P : NamedProblem) (is : IsProblem P) (prime : IsPrime P.problem.settin
     -- what the entry names stands before it
     before : (k : ℕ) → Names e.trace k → Contains done k
     before k m =
-        let here : IsNeededFor run.entries numbers j =
+        let here : IsNeeded run.entries (Contains numbers) j =
         (lists.exact j).0 (subst (λ (l : List ℕ). Contains l j) (sym splits)
         (contains_middle done j later)) in
-        let there : Contains needed k = (lists.exact k).1 (IsNeededFor.through here e at m) in
+        let there : Contains needed k = (lists.exact k).1 (IsNeeded.through here e at m) in
         stands_before done j later k ordered (subst (λ (l : List ℕ). Contains l k) splits there)
         (names_earlier P.problem field runs j k e some at m).1
 
@@ -359,7 +359,7 @@ module _ (P : NamedProblem) (is : IsProblem P) (prime : IsPrime P.problem.settin
     claim_listed : numbers ≡ numbers_of steps → (step : Step) → Contains steps step
         → Contains needed step.number
     claim_listed e step c =
-        (lists.exact step.number).1 (IsNeededFor.given
+        (lists.exact step.number).1 (IsNeeded.given
         (subst (λ (l : List ℕ). Contains l step.number) (sym e) (number_listed steps step c)))
 
     module _ (given : numbers ≡ numbers_of steps)

@@ -9,9 +9,10 @@ use Rattle.nc_algebra.specs.Polynomials.{Polynomial}
 use Rattle.nc_algebra.specs.Problems.{IsProblem, NamedProblem}
 use Rattle.nc_algebra.specs.Elements.{Setting}
 use Rattle.nc_cofactor.proofs.Named.{names_earlier}
+use Rattle.nc_cofactor.proofs.Needing.{needed_bounded}
 use Rattle.nc_cofactor.proofs.Once.{trace_once}
-use Rattle.nc_cofactor.specs.Claims.{IsNeededFor, ListsNeeded, numbers_of}
-use Rattle.nc_cofactor.specs.Terms.{Names, StartNames}
+use Rattle.nc_cofactor.specs.Claims.{ListsNeeded, numbers_of}
+use Rattle.nc_cofactor.specs.Terms.{IsNeeded, Names, StartNames}
 use Rattle.nc_cofactor.specs.Traces.{IsTraceIn}
 use Rattle.nc_snapshot.specs.declared.outcome.Listed.TheVariants.{Entry as EntryOf}
 use Rattle.nc_theory.specs.Reductions.{Reduction}
@@ -147,13 +148,14 @@ among_dec (x ∷ xs) j = go (nat_dec j x) (among_dec xs j)
 -- entry k is needed, and its trace names entry j
 abbrev Through : List Entry → List ℕ → ℕ → ℕ → Type 0
 Through entries numbers j k =
-    IsNeededFor entries numbers k × ((e : Entry) × (slice_get entries (k - 1) ≡ Some e)
+    IsNeeded entries (Contains numbers) k × ((e : Entry) × (slice_get entries (k - 1) ≡ Some e)
     × Names e.trace j)
 
-needed_cases : (entries : List Entry) (numbers : List ℕ) {j : ℕ} → IsNeededFor entries numbers j
+needed_cases : (entries : List Entry) (numbers : List ℕ) {j : ℕ}
+    → IsNeeded entries (Contains numbers) j
     → Contains numbers j ⊎ ((k : ℕ) × Through entries numbers j k)
-needed_cases entries numbers (IsNeededFor.given c) = inl c
-needed_cases entries numbers (IsNeededFor.through {j = j} {k = k} needs e at m) =
+needed_cases entries numbers (IsNeeded.given c) = inl c
+needed_cases entries numbers (IsNeeded.through {j = j} {k = k} needs e at m) =
     inr (k, (needs, (e, at, m)))
 
 number_first : (k n j : ℕ) (others : List ℕ) → 1 ≤ k → k ≤ n → Among j (k ∷ others)
@@ -176,18 +178,16 @@ module _ (P : NamedProblem) (is : IsProblem P) {n : ℕ} {run : State} {last : O
     (runs : SequentialRun P.problem n run last) (numbers : List ℕ) (within : (j : ℕ)
     → Among j numbers → (1 ≤ j) × (j ≤ length run.entries)) where
   abbrev Needed : ℕ → Type 0
-  Needed j = IsNeededFor run.entries numbers j
+  Needed j = IsNeeded run.entries (Contains numbers) j
 
   earlier : (k j : ℕ) (e : Entry) → 1 ≤ k → slice_get run.entries (k - 1) ≡ Some e → Names e.trace j
       → (1 ≤ j) × (j < k)
   earlier = names_earlier P.problem (field_of P is) runs
 
   pub needed_within : {j : ℕ} → Needed j → (1 ≤ j) × (j ≤ length run.entries)
-  needed_within (IsNeededFor.given {j = j} c) = within j (contains_among j numbers c)
-  needed_within (IsNeededFor.through {j = j} {k = k} needs e at m) =
-      let b : (1 ≤ k) × (k ≤ length run.entries) = needed_within needs in
-      let d : (1 ≤ j) × (j < k) = earlier k j e b.0 at m in
-      (d.0, omega (arith, b.1, d.1))
+  needed_within needed =
+      needed_bounded P is runs (Contains numbers) (length run.entries)
+      (λ j c. within j (contains_among j numbers c)) needed
 
   through_dec : (j k : ℕ) → Decided (Needed k) → Decided (Through run.entries numbers j k)
   through_dec j k (inr never) = inr (λ t. never t.0)
@@ -231,8 +231,8 @@ module _ (P : NamedProblem) (is : IsProblem P) {n : ℕ} {run : State} {last : O
           × ((i : ℕ) → i < k → ¬ Through run.entries numbers j i))
           ⊎ ((k : ℕ) → k < length run.entries + 1 → ¬ Through run.entries numbers j k)
           → Decided (Needed j)
-      go (inl a) o = inl (IsNeededFor.given (among_contains j numbers a))
-      go (inr never) (inl (k, small, t, before)) = inl (IsNeededFor.through t.0 t.1.0 t.1.1 t.1.2)
+      go (inl a) o = inl (IsNeeded.given (among_contains j numbers a))
+      go (inr never) (inl (k, small, t, before)) = inl (IsNeeded.through t.0 t.1.0 t.1.1 t.1.2)
       go (inr never) (inr none) = inr (λ h. neither never none (needed_cases run.entries numbers h))
 
   need_dec : (gap j : ℕ) → length run.entries < j + gap → Decided (Needed j)

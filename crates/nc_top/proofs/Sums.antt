@@ -5,18 +5,18 @@ use Rattle.nc_algebra.proofs.Orders.{Decided, least, nat_order}
 use Rattle.nc_algebra.specs.Elements.{Element, Setting}
 use Rattle.nc_cofactor.proofs.Existence.{terms_exist}
 use Rattle.nc_cofactor.proofs.Terms.{terms_once}
-use Rattle.nc_cofactor.specs.Claims.{AreWithinLimit, IsNeededFor, IsTooManyFor, numbers_of}
-use Rattle.nc_cofactor.specs.Terms.{EntryTerms, HasTerms}
+use Rattle.nc_cofactor.specs.Claims.{AreWithinLimit, IsTooManyFor, numbers_of}
+use Rattle.nc_cofactor.specs.Terms.{EntryTerms, HasTerms, IsNeeded}
 use Rattle.nc_snapshot.specs.declared.outcome.Listed.{Listed}
 use Rattle.nc_snapshot.specs.declared.outcome.Listed.TheVariants.{Claim, Entry as EntryOf, Syzygy as SyzygyOf}
 use Rattle.nc_theory.specs.Labels.{label_at, labels_of, step_multiples}
 use Rattle.nc_theory.specs.States.{State, Step}
-use Rattle.std.proofs.Common.{List, ap, arith, inl, inr, length, refl, subst, sym, ℕ, ◌+◌, ◌<◌, ◌≡◌, ◌≤◌, ◌⊎◌}
+use Rattle.std.proofs.Common.{Contains, List, ap, arith, inl, inr, length, refl, subst, sym, ℕ, ◌+◌, ◌<◌, ◌≡◌, ◌≤◌, ◌⊎◌}
 use Rattle.std.proofs.lemmas.Bool.{cases_lt}
 
 module _ (s : Setting) (some : 0 < s.prime) (run : State) (steps : List Step) (limit : ℕ) where
   abbrev Needed : ℕ → Type 0
-  Needed j = IsNeededFor run.entries (numbers_of steps) j
+  Needed j = IsNeeded run.entries (Contains (numbers_of steps)) j
 
   abbrev label : ℕ → Element
   label j = label_at (labels_of s.prime run.entries) j
