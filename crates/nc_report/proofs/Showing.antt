@@ -1,6 +1,6 @@
 -- What is written behind the items of a run.
 -- A snapshot stands for one run (`one_run`), whose items differ from its own in traces alone, which
--- the line of an item does not show (`entry_alike`, `counts_same`). A trace that was made again is
+-- the line of an item does not show (`next_lines`, `counts_same`). A trace that was made again is
 -- the run's (`trace_line`), and letters have names (`trace_named`, `label_left`).
 use Rattle.nc_algebra.specs.Alphabets.{IsWordIn}
 use Rattle.nc_algebra.specs.Elements.{Element}
@@ -13,7 +13,8 @@ use Rattle.nc_cofactor.specs.Letters.{IsStartIn, IsTraceOver}
 use Rattle.nc_cofactor.specs.Traces.{HasTrace, IsTraceIn}
 use Rattle.nc_options.specs.declared.options.Cofactors.TheVariants.{Trace as TraceOf}
 use Rattle.nc_print.specs.Printing.{ended}
-use Rattle.nc_report.specs.Reports.{counts_line}
+use Rattle.nc_report.proofs.Numbered.{written_next}
+use Rattle.nc_report.specs.Reports.{counts_line, numbered}
 use Rattle.nc_report.specs.Traces.{StartIsNamed, trace_text}
 use Rattle.nc_theory.specs.Untraced.{untraced, untraced_entry, untraced_syzygy}
 use Rattle.nc_snapshot.proofs.Snapshots.{snapshot_field, snapshot_prime}
@@ -21,14 +22,19 @@ use Rattle.nc_snapshot.specs.Snapshots.{IsSnapshot, Snapshot}
 use Rattle.nc_snapshot.specs.declared.outcome.Listed.{Listed}
 use Rattle.nc_snapshot.specs.declared.outcome.Listed.TheVariants.{Entry as EntryOf, Syzygy as SyzygyOf}
 use Rattle.nc_theory.proofs.Determinism.{run_unique}
-use Rattle.nc_theory.specs.States.{Entry, Start, State, Syzygy, Trace}
+use Rattle.nc_theory.specs.States.{Start, State, Trace}
 use Rattle.nc_report.proofs.Letters.{named}
 use Rattle.nc_report.specs.Letters.{AreTermsNamed}
 use Rattle.nc_report.specs.Reports.{cofactor_lines}
+use Rattle.nc_report.specs.Listings.{all_lines, count_of, first_lines, lines_of_entry, lines_of_syzygy}
+use Rattle.nc_report.specs.declared.listing.Items.{Items}
+use Rattle.nc_report.specs.declared.listing.Items.TheVariants.{Entries, Syzygies}
+use Rattle.nc_report.specs.declared.shown.Listing.{Listing}
 use Rattle.nc_report.specs.Shown.{AreAllLabels, IsRunAt, IsTraceNamed}
-use Rattle.std.proofs.Common.{All, Err, List, Ok, Result, Some, [], ap, append_assoc, codes, if◌then◌else◌, is_ok, length, map, refl, slice_get, subst, suc, sym, unwrap_or, zero, ℕ, ◌++◌, ◌-◌, ◌∙◌, ◌∷◌, ◌≡◌, ◌≤◌}
-use Rattle.std.proofs.lemmas.List.{append-nil, length-map}
+use Rattle.std.proofs.Common.{All, Err, List, Ok, Result, Some, [], ap, append_assoc, arith, codes, if◌then◌else◌, is_ok, length, map, refl, slice_get, subst, suc, sym, take, unwrap_or, zero, ℕ, ◌+◌, ◌++◌, ◌-◌, ◌<◌, ◌∙◌, ◌∷◌, ◌≡◌, ◌≤◌}
+use Rattle.std.proofs.lemmas.List.{append-nil, length-map, take_all}
 use Rattle.std.proofs.lemmas.List.Concat.{flat_map-append}
+use Rattle.std.proofs.lemmas.Option.{slice_get_within}
 use Rattle.std.specs.Result.{OnOk}
 
 module _ (s : Snapshot) (h : IsSnapshot s) where
@@ -113,36 +119,12 @@ module _ (s : Snapshot) (h : IsSnapshot s) where
   -- ---- the lines of an item
 
   module _ (run : State) (a : IsRunAt s run) where
-    mapped_get : {X : Type 0} (f : X → X) (xs : List X) (i : ℕ) (x y : X) → slice_get xs i ≡ Some x
-        → slice_get (map f xs) i ≡ Some y → f x ≡ y
-    mapped_get f [] i x y p q = absurd cc
-    mapped_get f (z ∷ xs) zero x y p q = ap f (sym (some_same p)) ∙ some_same q
-      where
-        some_same : {X : Type 0} {x y : X} → Some x ≡ Some y → x ≡ y
-        some_same {x = x} e = ap (λ o. unwrap_or o x) e
-    mapped_get f (z ∷ xs) (suc i) x y p q = mapped_get f xs i x y p q
-
-    pub entry_alike : (n : ℕ) (e e0 : Entry) → slice_get run.entries n ≡ Some e
-        → slice_get s.state.entries n ≡ Some e0 → untraced_entry e ≡ e0
-    entry_alike n e e0 at at0 =
-        mapped_get untraced_entry run.entries n e e0 at
-        (subst (λ (t : State). slice_get t.entries n ≡ Some e0) (stands run a) at0)
-
-    pub syzygy_alike : (n : ℕ) (g g0 : Syzygy) → slice_get run.syzygies n ≡ Some g
-        → slice_get s.state.syzygies n ≡ Some g0 → untraced_syzygy g ≡ g0
-    syzygy_alike n g g0 at at0 =
-        mapped_get untraced_syzygy run.syzygies n g g0 at
-        (subst (λ (t : State). slice_get t.syzygies n ≡ Some g0) (stands run a) at0)
-
     -- the number of items
-    pub entries_count : length s.state.entries ≡ length run.entries
-    entries_count =
-        ap (λ (t : State). length t.entries) (stands run a) ∙ length-map run.entries untraced_entry
-
-    pub syzygies_count : length s.state.syzygies ≡ length run.syzygies
-    syzygies_count =
-        ap (λ (t : State). length t.syzygies) (stands run a)
-        ∙ length-map run.syzygies untraced_syzygy
+    pub count_same : (items : Items) → count_of items s.state ≡ count_of items run
+    count_same Entries =
+        ap (count_of Entries) (stands run a) ∙ length-map run.entries untraced_entry
+    count_same Syzygies =
+        ap (count_of Syzygies) (stands run a) ∙ length-map run.syzygies untraced_syzygy
 
     pub counts_same : counts_line s.handled s.state ≡ counts_line s.handled run
     counts_same =
@@ -157,6 +139,68 @@ pub behind : (old middle new line : List ℕ) (lines : List (List ℕ))
 behind old middle new line lines one two =
     two ∙ (ap (λ (l : List ℕ). l ++ ended lines) one
     ∙ append_assoc old (line ++ 10 ∷ []) (ended lines))
+
+-- an item of a mapped list stands where the item that it is made of does
+mapped_get : {X : Type 0} (f : X → X) (xs : List X) (i : ℕ) (x y : X) → slice_get xs i ≡ Some x
+    → slice_get (map f xs) i ≡ Some y → f x ≡ y
+mapped_get f [] i x y p q = absurd cc
+mapped_get f (z ∷ xs) zero x y p q = ap f (sym (some_same p)) ∙ some_same q
+  where
+    some_same : {X : Type 0} {x y : X} → Some x ≡ Some y → x ≡ y
+    some_same {x = x} e = ap (λ o. unwrap_or o x) e
+mapped_get f (z ∷ xs) (suc i) x y p q = mapped_get f xs i x y p q
+
+-- items of a state, which differ from those of the snapshot in traces alone, and their lines
+module _ {X : Type 0} (items_of : State → List X) (bare : X → X)
+    (line : List (List ℕ) → ℕ → X → List ℕ)
+    (alike : (run : State) → items_of (untraced run) ≡ map bare (items_of run))
+    (same : (names : List (List ℕ)) (k : ℕ) (x : X) → line names k (bare x) ≡ line names k x)
+    (shown : ℕ → X → List (List ℕ)) (names : List (List ℕ)) where
+  abbrev pub lines : ℕ → X → List (List ℕ)
+  lines k x = line names k x ∷ shown k x
+
+  -- the lines of one more item behind those that were written
+  pub next_lines : (s : Snapshot) → IsSnapshot s → (run : State) → IsRunAt s run
+      → (n : ℕ) (x0 : X) → 1 ≤ n → slice_get (items_of s.state) (n - 1) ≡ Some x0
+      → (names' : List (List ℕ)) → names' ≡ names
+      → (before old middle new : List ℕ)
+      → old ≡ before ++ ended (numbered lines 1 (take (n - 1) (items_of run)))
+      → middle ≡ old ++ (line names' n x0 ++ 10 ∷ [])
+      → ((x : X) → slice_get (items_of run) (n - 1) ≡ Some x → new ≡ middle ++ ended (shown n x))
+      → new ≡ before ++ ended (numbered lines 1 (take n (items_of run)))
+  next_lines s h run a n x0 some at0 names' eq before old middle new so_far one two =
+      subst (λ (m : ℕ). new ≡ before ++ ended (numbered lines 1 (take m (items_of run)))) number
+      (written_next lines (items_of run) (n - 1) within before old new
+      so_far (λ x at. subst (λ (m : ℕ). new ≡ old ++ ended (lines m x)) (sym number)
+      (item x (subst (λ (m : ℕ). slice_get (items_of run) (m - 1) ≡ Some x) number at))))
+    where
+      number : n - 1 + 1 ≡ n
+      number = omega (arith, some)
+
+      made : slice_get (map bare (items_of run)) (n - 1) ≡ Some x0
+      made =
+          subst (λ (xs : List X). slice_get xs (n - 1) ≡ Some x0)
+          (ap items_of (stands s h run a) ∙ alike run) at0
+
+      within : n - 1 < length (items_of run)
+      within =
+          subst (λ (m : ℕ). n - 1 < m) (length-map (items_of run) bare)
+          (slice_get_within (map bare (items_of run)) (n - 1) x0 made)
+
+      item : (x : X) → slice_get (items_of run) (n - 1) ≡ Some x → new ≡ old ++ ended (lines n x)
+      item x at =
+          behind old middle new (line names n x) (shown n x)
+          (one ∙ (λ j. old ++ (line (eq j) n (bare_is j) ++ 10 ∷ []))
+          ∙ ap (λ (l : List ℕ). old ++ (l ++ 10 ∷ [])) (same names n x)) (two x at)
+        where
+          bare_is : x0 ≡ bare x
+          bare_is = sym (mapped_get bare (items_of run) (n - 1) x x0 at made)
+
+-- the lines of the first items are those of all where there are no more
+pub first_all : (l : Listing) (run : State) (items : Items) (n : ℕ) → count_of items run ≤ n
+    → first_lines l run items n ≡ all_lines l run items
+first_all l run Entries n long = ap (numbered (lines_of_entry l) 1) (take_all n run.entries long)
+first_all l run Syzygies n long = ap (numbered (lines_of_syzygy l) 1) (take_all n run.syzygies long)
 
 -- the pieces of a report in a row
 pub in_a_row : (old first second third last ending counts : List ℕ) (es hs : List (List ℕ))

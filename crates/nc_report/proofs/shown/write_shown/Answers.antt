@@ -1,5 +1,6 @@
 use Rattle.nc_options.specs.declared.options.Cofactors.TheVariants.{Full}
 use Rattle.nc_print.specs.Printing.{ended}
+use Rattle.nc_report.specs.Listings.{names_in}
 use Rattle.nc_report.specs.Reports.{cofactor_lines}
 use Rattle.nc_report.specs.Shown.{kind_of, label_among, labels_in}
 use Rattle.nc_report.specs.declared.shown.Shown.{Shown}
@@ -11,7 +12,7 @@ pub returns-in-Traces : goal.returns-in-Traces
 returns-in-Traces c =
     on_ok_weaker c.write_trace_line.result (λ f run t a is.
     subst (λ (x : Shown). c.write_trace_line.new.out.items ≡ c.args.out.now.items
-    ++ ended (cofactor_lines (kind_of x) c.args.snapshot.now.problem.alphabet.names t
+    ++ ended (cofactor_lines (kind_of x) (names_in c.args.listing.now) t
     (labels_in x c.args.listed))) (sym c.in-Traces.is) (f run t [] a is))
     c.write_trace_line.ensures
 
@@ -19,7 +20,7 @@ pub returns-in-Labelled : goal.returns-in-Labelled
 returns-in-Labelled c =
     on_ok_weaker c.write_label_line.result (λ f run t a is.
     subst (λ (x : Shown). c.write_label_line.new.out.items ≡ c.args.out.now.items
-    ++ ended (cofactor_lines (kind_of x) c.args.snapshot.now.problem.alphabet.names t
+    ++ ended (cofactor_lines (kind_of x) (names_in c.args.listing.now) t
     (labels_in x c.args.listed))) (sym c.in-Labelled.is)
     (f t ∙ (λ j. c.args.out.now.items
     ++ ended (cofactor_lines Full (c.names_of.ensures j) t

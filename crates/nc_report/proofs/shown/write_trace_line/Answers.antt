@@ -8,5 +8,5 @@ returns c =
     trace_line run c.args.listed c.in_ok-trace.trace t (c.in_ok-trace.ensures.trace run a) is
     c.args.out.now.items c.extend_from_slice.new.self.items c.write_trace.new.out.items
     c.extend_from_slice-2.new.self.items c.names_of.result.now
-    c.args.snapshot.now.problem.alphabet.names label
+    c.args.listing.now.snapshot.now.problem.alphabet.names label
     c.names_of.ensures c.in_ok-extend_from_slice.ensures.items c.in_ok-write_trace.ensures last)
