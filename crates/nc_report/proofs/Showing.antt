@@ -1,21 +1,18 @@
 -- What is written behind the items of a run.
 -- A snapshot stands for one run (`one_run`), whose items differ from its own in traces alone, which
 -- the line of an item does not show (`next_lines`, `counts_same`). A trace that was made again is
--- the run's (`trace_line`), and letters have names (`trace_named`, `label_left`).
+-- the run's (`trace_in`), and letters have names (`trace_named`, `label_named`).
 use Rattle.nc_algebra.specs.Alphabets.{IsWordIn}
-use Rattle.nc_algebra.specs.Elements.{Element}
 use Rattle.nc_algebra.specs.Monomials.{Sig}
 use Rattle.nc_algebra.specs.Sums.{Term}
 use Rattle.nc_cofactor.proofs.Letters.{cofactors_over as all_over}
-use Rattle.nc_cofactor.proofs.Once.{trace_once}
 use Rattle.nc_cofactor.specs.Labels.{IsLabelOf}
 use Rattle.nc_cofactor.specs.Letters.{IsStartIn, IsTraceOver}
 use Rattle.nc_cofactor.specs.Traces.{HasTrace, IsTraceIn}
-use Rattle.nc_options.specs.declared.options.Cofactors.TheVariants.{Trace as TraceOf}
 use Rattle.nc_print.specs.Printing.{ended}
 use Rattle.nc_report.proofs.Numbered.{written_next}
 use Rattle.nc_report.specs.Reports.{counts_line, numbered}
-use Rattle.nc_report.specs.Traces.{StartIsNamed, trace_text}
+use Rattle.nc_report.specs.Traces.{StartIsNamed}
 use Rattle.nc_theory.specs.Untraced.{untraced, untraced_entry, untraced_syzygy}
 use Rattle.nc_snapshot.proofs.Snapshots.{snapshot_field, snapshot_prime}
 use Rattle.nc_snapshot.specs.Snapshots.{IsSnapshot, Snapshot}
@@ -25,17 +22,15 @@ use Rattle.nc_theory.proofs.Determinism.{run_unique}
 use Rattle.nc_theory.specs.States.{Start, State, Trace}
 use Rattle.nc_report.proofs.Letters.{named}
 use Rattle.nc_report.specs.Letters.{AreTermsNamed}
-use Rattle.nc_report.specs.Reports.{cofactor_lines}
 use Rattle.nc_report.specs.Listings.{all_lines, count_of, first_lines, lines_of_entry, lines_of_syzygy}
 use Rattle.nc_report.specs.declared.listing.Items.{Items}
 use Rattle.nc_report.specs.declared.listing.Items.TheVariants.{Entries, Syzygies}
 use Rattle.nc_report.specs.declared.shown.Listing.{Listing}
 use Rattle.nc_report.specs.Shown.{AreAllLabels, IsRunAt, IsTraceNamed}
-use Rattle.std.proofs.Common.{All, Err, List, Ok, Result, Some, [], ap, append_assoc, arith, codes, if◌then◌else◌, is_ok, length, map, refl, slice_get, subst, suc, sym, take, unwrap_or, zero, ℕ, ◌+◌, ◌++◌, ◌-◌, ◌<◌, ◌∙◌, ◌∷◌, ◌≡◌, ◌≤◌}
-use Rattle.std.proofs.lemmas.List.{append-nil, length-map, take_all}
+use Rattle.std.proofs.Common.{All, List, Some, [], ap, append_assoc, arith, length, map, refl, slice_get, subst, suc, sym, take, unwrap_or, zero, ℕ, ◌+◌, ◌++◌, ◌-◌, ◌<◌, ◌∙◌, ◌∷◌, ◌≡◌, ◌≤◌}
+use Rattle.std.proofs.lemmas.List.{length-map, take_all}
 use Rattle.std.proofs.lemmas.List.Concat.{flat_map-append}
 use Rattle.std.proofs.lemmas.Option.{slice_get_within}
-use Rattle.std.specs.Result.{OnOk}
 
 module _ (s : Snapshot) (h : IsSnapshot s) where
   -- a snapshot stands for one run
@@ -53,8 +48,8 @@ module _ (s : Snapshot) (h : IsSnapshot s) where
   pub trace_in : (listed : Listed) (t : Trace) → HasTrace s.problem.problem s.handled listed t
       → (run : State) → IsRunAt s run → IsTraceIn run listed t
   trace_in listed t has run a =
-      subst (λ (r : State). IsTraceIn r listed t) (one_run has.at.run run (has.at.last, has.at.runs) a)
-      has.is
+      subst (λ (r : State). IsTraceIn r listed t)
+      (one_run has.at.run run (has.at.last, has.at.runs) a) has.is
 
   -- ---- letters
 
@@ -120,11 +115,18 @@ module _ (s : Snapshot) (h : IsSnapshot s) where
 
   module _ (run : State) (a : IsRunAt s run) where
     -- the number of items
+    pub entries_count : length s.state.entries ≡ length run.entries
+    entries_count =
+        ap (λ (t : State). length t.entries) (stands run a) ∙ length-map run.entries untraced_entry
+
+    pub syzygies_count : length s.state.syzygies ≡ length run.syzygies
+    syzygies_count =
+        ap (λ (t : State). length t.syzygies) (stands run a)
+        ∙ length-map run.syzygies untraced_syzygy
+
     pub count_same : (items : Items) → count_of items s.state ≡ count_of items run
-    count_same Entries =
-        ap (count_of Entries) (stands run a) ∙ length-map run.entries untraced_entry
-    count_same Syzygies =
-        ap (count_of Syzygies) (stands run a) ∙ length-map run.syzygies untraced_syzygy
+    count_same Entries = entries_count
+    count_same Syzygies = syzygies_count
 
     pub counts_same : counts_line s.handled s.state ≡ counts_line s.handled run
     counts_same =
@@ -212,27 +214,3 @@ in_a_row old first second third last ending counts es hs one two three four =
     (three ∙ ap (λ (l : List ℕ). l ++ ended es)
     (two ∙ ap (λ (l : List ℕ). l ++ (counts ++ 10 ∷ [])) one))
     ∙ simp (flat_map-append, append_assoc))
-
--- a heading and a text as one line
-pub line_of : (old first second new heading text : List ℕ) → first ≡ old ++ heading
-    → second ≡ first ++ text → new ≡ second ++ 10 ∷ [] → new ≡ old ++ ended ((heading ++ text) ∷ [])
-line_of old first second new heading text one two three =
-    three ∙ (ap (λ (l : List ℕ). l ++ 10 ∷ []) (two ∙ ap (λ (l : List ℕ). l ++ text) one)
-    ∙ simp (append_assoc, append-nil))
-
--- what holds where a last piece was written
-pub written_ok : {T E P : Type 0} (r : Result T E) (new old piece : List ℕ)
-    → new ≡ (if is_ok r then old ++ piece else old) → (new ≡ old ++ piece → P) → OnOk r P
-written_ok (Ok x) new old piece is f = f is
-written_ok (Err e) new old piece is f = tt
-
--- the line of a trace
-pub trace_line : (run : State) (listed : Listed) (t t' : Trace) → IsTraceIn run listed t
-    → IsTraceIn run listed t' → (old first second new : List ℕ) (names names' : List (List ℕ))
-    (label : Element) → names ≡ names'
-    → first ≡ old ++ codes "trace " → second ≡ first ++ trace_text names t → new ≡ second ++ 10 ∷ []
-    → new ≡ old ++ ended (cofactor_lines TraceOf names' t' label)
-trace_line run listed t t' a b old first second new names names' label same one two three =
-    line_of old first second new (codes "trace ") (trace_text names t) one two three
-    ∙ (λ j. old ++ ended ((codes "trace " ++ trace_text (same j)
-    (trace_once run listed t t' a b j)) ∷ []))

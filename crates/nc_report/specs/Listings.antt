@@ -1,4 +1,5 @@
 -- A run whose items are listed, with what is shown behind them.
+use Rattle.nc_print.specs.Printing.{ended}
 use Rattle.nc_reduce.specs.Leads.{LeadsOf}
 use Rattle.nc_report.specs.Reports.{cofactor_lines, entry_lines, numbered, syzygy_lines}
 use Rattle.nc_report.specs.Shown.{IsShownOf, kind_of, labels_in}
@@ -7,7 +8,7 @@ use Rattle.nc_report.specs.declared.listing.Items.TheVariants.{Entries, Syzygies
 use Rattle.nc_report.specs.declared.shown.Listing.{Listing}
 use Rattle.nc_snapshot.specs.declared.outcome.Listed.{Listed}
 use Rattle.nc_theory.specs.States.{Entry, State, Syzygy, Trace}
-use Rattle.std.specs.Prelude.{List, length, take, ℕ}
+use Rattle.std.specs.Prelude.{List, length, take, ℕ, ◌++◌, ◌-◌, ◌≡◌}
 
 -- the leading words are those of the run's entries, and the labels those of its items
 pub record IsListing (l : Listing) : Type 0 where
@@ -44,3 +45,9 @@ first_lines l run Syzygies n = numbered (lines_of_syzygy l) 1 (take n run.syzygi
 abbrev pub all_lines : Listing → State → Items → List (List ℕ)
 all_lines l run Entries = numbered (lines_of_entry l) 1 run.entries
 all_lines l run Syzygies = numbered (lines_of_syzygy l) 1 run.syzygies
+
+-- where the lines of the items of this kind before the n-th stood last, those of the n-th were added
+abbrev pub AddsNext : Listing → State → Items → ℕ → List ℕ → List ℕ → Type 0
+AddsNext l run items n old new =
+    (before : List ℕ) → old ≡ before ++ ended (first_lines l run items (n - 1))
+    → new ≡ before ++ ended (first_lines l run items n)

@@ -1,11 +1,11 @@
 //! The report on a run.
 
 ghost use Rattle.nc_print.specs.Printing.{ended};
-ghost use Rattle.nc_report.specs.Listings.{IsListing, all_lines, count_of, first_lines};
+ghost use Rattle.nc_report.specs.Listings.{AddsNext, IsListing, all_lines, count_of};
 ghost use Rattle.nc_report.specs.Reports.{basis_report, ending_line};
 ghost use Rattle.nc_report.specs.Shown.{IsRunAt, IsShownOf, kind_of, labels_in};
 ghost use Rattle.nc_theory.specs.States.{State};
-ghost use Rattle.std.specs.Prelude.{IfOk, List, OnOk, [], ℕ, ◌++◌, ◌-◌, ◌∷◌, ◌≡◌, ◌≤◌};
+ghost use Rattle.std.specs.Prelude.{IfOk, OnOk, [], ◌++◌, ◌∷◌, ◌≡◌, ◌≤◌};
 
 use crate::item::{write_entry, write_syzygy};
 use crate::named::{entry_at, names_of, syzygy_at};
@@ -43,9 +43,8 @@ fn write_next(
     requires listing { IsListing listing.now }
     requires some { 1 ≤ n }
     requires within { n ≤ count_of items listing.now.snapshot.now.state }
-    ensures { OnOk result ((run : State) (before : List ℕ) → IsRunAt listing.now.snapshot.now run
-        → out.old.items ≡ before ++ ended (first_lines listing.now run items (n - 1))
-        → out.new.items ≡ before ++ ended (first_lines listing.now run items n)) }
+    ensures { OnOk result ((run : State) → IsRunAt listing.now.snapshot.now run
+        → AddsNext listing.now run items n out.old.items out.new.items) }
 {
     let snapshot = listing.snapshot;
     snapshot.recall_rule();

@@ -55,23 +55,15 @@ fn named_trace(alloc: Global, listing: &Listing<'_>, listed: Listed) -> Result<T
     trace_of(alloc, listing.snapshot, listing.leads, listed)
 }
 
-/// Appends the line of an item's trace.
-fn write_trace_line(
-    alloc: Global,
-    out: &mut Vec<u8>,
-    listing: &Listing<'_>,
-    listed: Listed,
-) -> Result<(), AllocError>
-    requires listing { IsListing listing.now }
-    requires listed { IsListed listing.now.snapshot.now.state listed }
-    ensures { OnOk result ((run : State) (t : Proof) (label : Element)
-        → IsRunAt listing.now.snapshot.now run → IsTraceIn run listed t
+/// Appends the line of a trace.
+fn write_trace_line(out: &mut Vec<u8>, names: &[Name], trace: &Trace) -> Result<(), AllocError>
+    requires { IsTraceNamed (length names.now) trace.now }
+    ensures { OnOk result ((label : Element)
         → out.new.items ≡ out.old.items
-        ++ ended (cofactor_lines TraceOf (names_in listing.now) t label)) }
+        ++ ended (cofactor_lines TraceOf names.now trace.now label)) }
 {
-    let trace = named_trace(alloc, listing, listed)?;
     out.extend_from_slice(b"trace ")?;
-    write_trace(out, names_of(listing.snapshot), &trace)?;
+    write_trace(out, names, trace)?;
     out.extend_from_slice(b"\n")
 }
 
@@ -122,7 +114,10 @@ pub(crate) fn write_shown(
 {
     match listing.shown {
         Shown::Nothing => Ok(()),
-        Shown::Traces => write_trace_line(alloc, out, listing, listed),
+        Shown::Traces => {
+            let trace = named_trace(alloc, listing, listed)?;
+            write_trace_line(out, names_of(listing.snapshot), &trace)
+        }
         Shown::Labelled { entries, syzygies } => {
             let label = label_in(listing.snapshot, entries, syzygies, listed);
             write_label_line(out, names_of(listing.snapshot), label)
