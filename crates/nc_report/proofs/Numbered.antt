@@ -3,7 +3,7 @@ use Rattle.nc_print.specs.Printing.{ended}
 use Rattle.nc_report.specs.Reports.{ending_line, numbered}
 use Rattle.nc_theory.specs.Runs.{End}
 use Rattle.std.proofs.Common.{Err, List, None, Ok, Result, Some, [], ap, append_assoc, arith, get_or, inl, inr, length, slice_get, subst, sym, take, ℕ, ◌+◌, ◌++◌, ◌-◌, ◌<◌, ◌∙◌, ◌∷◌, ◌≡◌, ◌≤◌, ◌⊎◌}
-use Rattle.std.proofs.lemmas.List.{append-nil, length-take-le, take_all, take_more}
+use Rattle.std.proofs.lemmas.List.{append-nil, length-take-le, take_more}
 use Rattle.std.proofs.lemmas.List.Concat.{flat_map-append}
 use Rattle.std.proofs.lemmas.Option.{get_or_from_slice_get, slice_get_cases}
 use Rattle.std.specs.Result.{OnOk}
@@ -62,12 +62,6 @@ module _ {X : Type 0} (lines : ℕ → X → List (List ℕ)) where
           subst (λ (j : ℕ). slice_get xs j ≡ Some x) (omega arith) at in
           written_more xs i x within place old before after so_far (more x place)
       go (inr (past, none)) = absurd (omega (arith, past, within))
-
-  -- all lines
-  pub written_all : (xs : List X) (i : ℕ) (old new : List ℕ) → length xs ≤ i
-      → new ≡ old ++ ended (numbered lines 1 (take i xs)) → new ≡ old ++ ended (numbered lines 1 xs)
-  written_all xs i old new long is =
-      is ∙ ap (λ (ys : List X). old ++ ended (numbered lines 1 ys)) (take_all i xs long)
 
 -- the end line of a complete run
 pub complete_line : {T E : Type 0} (r : Result T E) (new old : List ℕ) (names : List (List ℕ))

@@ -1,112 +1,80 @@
 //! The report on a run.
 
 ghost use Rattle.nc_print.specs.Printing.{ended};
-ghost use Rattle.nc_reduce.specs.Leads.{LeadsOf};
-ghost use Rattle.nc_report.specs.Reports.{ending_line, numbered};
-ghost use Rattle.nc_theory.specs.States.{Entry as EntryOf, State, Syzygy as SyzygyOf};
-ghost use Rattle.nc_report.specs.Reports.{basis_report, entry_lines, syzygy_lines};
+ghost use Rattle.nc_report.specs.Listings.{AddsNext, IsListing, all_lines, count_of};
+ghost use Rattle.nc_report.specs.Reports.{basis_report, ending_line};
 ghost use Rattle.nc_report.specs.Shown.{IsRunAt, IsShownOf, kind_of, labels_in};
-ghost use Rattle.std.specs.Prelude.{IfOk, OnOk, Some, [], length, slice_get, ◌++◌, ◌-◌, ◌∷◌, ◌≡◌, ◌≤◌};
+ghost use Rattle.nc_theory.specs.States.{State};
+ghost use Rattle.std.specs.Prelude.{IfOk, OnOk, [], ◌++◌, ◌∷◌, ◌≡◌, ◌≤◌};
 
 use crate::item::{write_entry, write_syzygy};
 use crate::named::{entry_at, names_of, syzygy_at};
-use crate::shown::{Shown, write_shown};
+use crate::shown::{Listing, Shown, write_shown};
 use crate::summary::{write_budget, write_complete, write_counts};
 use nc_desk::{End, Finished};
-use nc_index::Leads;
 use nc_snapshot::{Listed, Snapshot};
 use std::alloc::{AllocError, Global};
 
-/// Appends the lines of the entry with this number.
-fn write_entry_lines(
-    alloc: Global,
-    out: &mut Vec<u8>,
-    snapshot: &Snapshot,
-    leads: &Leads,
-    shown: &Shown,
-    n: u32,
-) -> Result<(), AllocError>
-    requires leads { LeadsOf snapshot.now leads.now }
-    requires shown { IsShownOf snapshot.now shown.now }
-    requires some { 1 ≤ n }
-    requires within { n ≤ length snapshot.now.state.entries }
-    ensures { OnOk result ((run : State) (e : EntryOf) → IsRunAt snapshot.now run
-        → slice_get run.entries (n - 1) ≡ Some e
-        → out.new.items ≡ out.old.items
-        ++ ended (entry_lines (kind_of shown.now) snapshot.now.problem.alphabet.names
-        (labels_in shown.now) n e)) }
-{
-    snapshot.recall_rule();
-    let names = names_of(snapshot);
-    write_entry(out, names, n, entry_at(snapshot, n))?;
-    write_shown(alloc, out, snapshot, leads, shown, Listed::Entry(n))
+/// The entries of a run, or its syzygies.
+#[derive(Clone, Copy)]
+enum Items {
+    Entries,
+    Syzygies,
 }
 
-/// Appends the lines of the syzygy with this number.
-fn write_syzygy_lines(
-    alloc: Global,
-    out: &mut Vec<u8>,
-    snapshot: &Snapshot,
-    leads: &Leads,
-    shown: &Shown,
-    n: u32,
-) -> Result<(), AllocError>
-    requires leads { LeadsOf snapshot.now leads.now }
-    requires shown { IsShownOf snapshot.now shown.now }
-    requires some { 1 ≤ n }
-    requires within { n ≤ length snapshot.now.state.syzygies }
-    ensures { OnOk result ((run : State) (h : SyzygyOf) → IsRunAt snapshot.now run
-        → slice_get run.syzygies (n - 1) ≡ Some h
-        → out.new.items ≡ out.old.items
-        ++ ended (syzygy_lines (kind_of shown.now) snapshot.now.problem.alphabet.names
-        (labels_in shown.now) n h)) }
+/// How many items of this kind there are.
+fn count(items: Items, snapshot: &Snapshot) -> u32
+    ensures { result ≡ count_of items snapshot.now.state }
 {
-    snapshot.recall_rule();
-    let names = names_of(snapshot);
-    write_syzygy(out, names, n, syzygy_at(snapshot, n))?;
-    write_shown(alloc, out, snapshot, leads, shown, Listed::Syzygy(n))
-}
-
-/// Appends the lines of the entries.
-fn write_entries(
-    alloc: Global,
-    out: &mut Vec<u8>,
-    snapshot: &Snapshot,
-    leads: &Leads,
-    shown: &Shown,
-) -> Result<(), AllocError>
-    requires leads { LeadsOf snapshot.now leads.now }
-    requires shown { IsShownOf snapshot.now shown.now }
-    ensures { OnOk result ((run : State) → IsRunAt snapshot.now run
-        → out.new.items ≡ out.old.items
-        ++ ended (numbered (entry_lines (kind_of shown.now) snapshot.now.problem.alphabet.names
-        (labels_in shown.now)) 1 run.entries)) }
-{
-    snapshot.recall_rule();
-    for index in 0..snapshot.entries() {
-        write_entry_lines(alloc, out, snapshot, leads, shown, index + 1)?;
+    match items {
+        Items::Entries => snapshot.entries(),
+        Items::Syzygies => snapshot.syzygies(),
     }
-    Ok(())
 }
 
-/// Appends the lines of the syzygies.
-fn write_syzygies(
+/// Appends the lines of the item of this kind with this number, behind those of the items before it.
+fn write_next(
     alloc: Global,
     out: &mut Vec<u8>,
-    snapshot: &Snapshot,
-    leads: &Leads,
-    shown: &Shown,
+    listing: &Listing<'_>,
+    items: Items,
+    n: u32,
 ) -> Result<(), AllocError>
-    requires leads { LeadsOf snapshot.now leads.now }
-    requires shown { IsShownOf snapshot.now shown.now }
-    ensures { OnOk result ((run : State) → IsRunAt snapshot.now run
-        → out.new.items ≡ out.old.items
-        ++ ended (numbered (syzygy_lines (kind_of shown.now) snapshot.now.problem.alphabet.names
-        (labels_in shown.now)) 1 run.syzygies)) }
+    requires listing { IsListing listing.now }
+    requires some { 1 ≤ n }
+    requires within { n ≤ count_of items listing.now.snapshot.now.state }
+    ensures { OnOk result ((run : State) → IsRunAt listing.now.snapshot.now run
+        → AddsNext listing.now run items n out.old.items out.new.items) }
 {
+    let snapshot = listing.snapshot;
     snapshot.recall_rule();
-    for index in 0..snapshot.syzygies() {
-        write_syzygy_lines(alloc, out, snapshot, leads, shown, index + 1)?;
+    let names = names_of(snapshot);
+    match items {
+        Items::Entries => {
+            write_entry(out, names, n, entry_at(snapshot, n))?;
+            write_shown(alloc, out, listing, Listed::Entry(n))
+        }
+        Items::Syzygies => {
+            write_syzygy(out, names, n, syzygy_at(snapshot, n))?;
+            write_shown(alloc, out, listing, Listed::Syzygy(n))
+        }
+    }
+}
+
+/// Appends the lines of the items of this kind.
+fn write_items(
+    alloc: Global,
+    out: &mut Vec<u8>,
+    listing: &Listing<'_>,
+    items: Items,
+) -> Result<(), AllocError>
+    requires { IsListing listing.now }
+    ensures { OnOk result ((run : State) → IsRunAt listing.now.snapshot.now run
+        → out.new.items ≡ out.old.items ++ ended (all_lines listing.now run items)) }
+{
+    listing.snapshot.recall_rule();
+    for index in 0..count(items, listing.snapshot) {
+        write_next(alloc, out, listing, items, index + 1)?;
     }
     Ok(())
 }
@@ -139,7 +107,12 @@ pub fn report_on(alloc: Global, finished: &Finished, shown: &Shown) -> Result<Ve
     let mut out = Vec::new(alloc);
     write_end(&mut out, finished)?;
     write_counts(&mut out, snapshot)?;
-    write_entries(alloc, &mut out, snapshot, leads, shown)?;
-    write_syzygies(alloc, &mut out, snapshot, leads, shown)?;
+    let listing = Listing {
+        snapshot,
+        leads,
+        shown,
+    };
+    write_items(alloc, &mut out, &listing, Items::Entries)?;
+    write_items(alloc, &mut out, &listing, Items::Syzygies)?;
     Ok(out)
 }

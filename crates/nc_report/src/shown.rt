@@ -5,11 +5,11 @@ ghost use Rattle.nc_cofactor.specs.Traces.{IsListed, IsTraceIn};
 ghost use Rattle.nc_module.specs.Modules.{element_of};
 ghost use Rattle.nc_options.specs.declared.options.Cofactors.TheVariants.{Full, Trace as TraceOf};
 ghost use Rattle.nc_print.specs.Printing.{ended};
-ghost use Rattle.nc_reduce.specs.Leads.{LeadsOf};
 ghost use Rattle.nc_theory.specs.States.{State, Trace as Proof};
 ghost use Rattle.nc_report.specs.Letters.{AreTermsNamed};
+ghost use Rattle.nc_report.specs.Listings.{IsListing, lines_behind, names_in};
 ghost use Rattle.nc_report.specs.Reports.{cofactor_lines};
-ghost use Rattle.nc_report.specs.Shown.{AreAllLabels, IsRunAt, IsShownOf, IsTraceNamed, kind_of, label_among, labels_in};
+ghost use Rattle.nc_report.specs.Shown.{AreAllLabels, IsRunAt, IsTraceNamed, label_among};
 ghost use Rattle.std.specs.Prelude.{IfOk, OnOk, length, ◌++◌, ◌≡◌};
 
 use crate::named::names_of;
@@ -35,40 +35,35 @@ pub enum Shown {
     },
 }
 
-/// The trace of an item, whose letters have names.
-fn named_trace(
-    alloc: Global,
-    snapshot: &Snapshot,
-    leads: &Leads,
-    listed: Listed,
-) -> Result<Trace, AllocError>
-    requires leads { LeadsOf snapshot.now leads.now }
-    requires listed { IsListed snapshot.now.state listed }
-    ensures trace { IfOk result (λ t. (run : State) → IsRunAt snapshot.now run
-        → IsTraceIn run listed t) }
-    ensures named { IfOk result (IsTraceNamed (length snapshot.now.problem.alphabet.names)) }
-{
-    snapshot.recall_rule();
-    trace_of(alloc, snapshot, leads, listed)
+/// A run, the leading words of its entries, and what is shown behind its items.
+#[derive(Drop)]
+pub(crate) struct Listing<'a> {
+    pub(crate) snapshot: &'a Snapshot,
+    pub(crate) leads: &'a Leads,
+    pub(crate) shown: &'a Shown,
 }
 
-/// Appends the line of an item's trace.
-fn write_trace_line(
-    alloc: Global,
-    out: &mut Vec<u8>,
-    snapshot: &Snapshot,
-    leads: &Leads,
-    listed: Listed,
-) -> Result<(), AllocError>
-    requires leads { LeadsOf snapshot.now leads.now }
-    requires listed { IsListed snapshot.now.state listed }
-    ensures { OnOk result ((run : State) (t : Proof) (label : Element) → IsRunAt snapshot.now run
-        → IsTraceIn run listed t → out.new.items ≡ out.old.items
-        ++ ended (cofactor_lines TraceOf snapshot.now.problem.alphabet.names t label)) }
+/// The trace of an item, whose letters have names.
+fn named_trace(alloc: Global, listing: &Listing<'_>, listed: Listed) -> Result<Trace, AllocError>
+    requires listing { IsListing listing.now }
+    requires listed { IsListed listing.now.snapshot.now.state listed }
+    ensures trace { IfOk result (λ t. (run : State) → IsRunAt listing.now.snapshot.now run
+        → IsTraceIn run listed t) }
+    ensures named { IfOk result (IsTraceNamed (length (names_in listing.now))) }
 {
-    let trace = named_trace(alloc, snapshot, leads, listed)?;
+    listing.snapshot.recall_rule();
+    trace_of(alloc, listing.snapshot, listing.leads, listed)
+}
+
+/// Appends the line of a trace.
+fn write_trace_line(out: &mut Vec<u8>, names: &[Name], trace: &Trace) -> Result<(), AllocError>
+    requires { IsTraceNamed (length names.now) trace.now }
+    ensures { OnOk result ((label : Element)
+        → out.new.items ≡ out.old.items
+        ++ ended (cofactor_lines TraceOf names.now trace.now label)) }
+{
     out.extend_from_slice(b"trace ")?;
-    write_trace(out, names_of(snapshot), &trace)?;
+    write_trace(out, names, trace)?;
     out.extend_from_slice(b"\n")
 }
 
@@ -108,25 +103,24 @@ fn label_in<'a>(
 pub(crate) fn write_shown(
     alloc: Global,
     out: &mut Vec<u8>,
-    snapshot: &Snapshot,
-    leads: &Leads,
-    shown: &Shown,
+    listing: &Listing<'_>,
     listed: Listed,
 ) -> Result<(), AllocError>
-    requires leads { LeadsOf snapshot.now leads.now }
-    requires shown { IsShownOf snapshot.now shown.now }
-    requires listed { IsListed snapshot.now.state listed }
-    ensures { OnOk result ((run : State) (t : Proof) → IsRunAt snapshot.now run
-        → IsTraceIn run listed t → out.new.items ≡ out.old.items
-        ++ ended (cofactor_lines (kind_of shown.now) snapshot.now.problem.alphabet.names t
-        (labels_in shown.now listed))) }
+    requires listing { IsListing listing.now }
+    requires listed { IsListed listing.now.snapshot.now.state listed }
+    ensures { OnOk result ((run : State) (t : Proof) → IsRunAt listing.now.snapshot.now run
+        → IsTraceIn run listed t
+        → out.new.items ≡ out.old.items ++ ended (lines_behind listing.now t listed)) }
 {
-    match shown {
+    match listing.shown {
         Shown::Nothing => Ok(()),
-        Shown::Traces => write_trace_line(alloc, out, snapshot, leads, listed),
+        Shown::Traces => {
+            let trace = named_trace(alloc, listing, listed)?;
+            write_trace_line(out, names_of(listing.snapshot), &trace)
+        }
         Shown::Labelled { entries, syzygies } => {
-            let label = label_in(snapshot, entries, syzygies, listed);
-            write_label_line(out, names_of(snapshot), label)
+            let label = label_in(listing.snapshot, entries, syzygies, listed);
+            write_label_line(out, names_of(listing.snapshot), label)
         }
     }
 }

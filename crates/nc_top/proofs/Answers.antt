@@ -27,7 +27,7 @@ use Rattle.nc_top.specs.Member.{ClaimAtEnd, IsCertified, IsCertifiedAs, IsClaimT
 use Rattle.nc_snapshot.specs.declared.outcome.Listed.{Listed}
 use Rattle.nc_top.specs.Basis.{IsBasis, IsComplete, IsProblemText, IsTooManyTerms, status_at}
 use Rattle.nc_top.specs.Laws.{CompleteMembers, CompleteRuns, FaultlessRuns, HasEnoughSteps, IsBelow, OneAnswer, RanWell, WroteSome}
-use Rattle.nc_top.specs.Run.{HasWritten, IsAnswer, IsReported, LackedMemory, Ran, Runs, SinkUse, SourceUse}
+use Rattle.nc_top.specs.Run.{HasWritten, IsAnswer, IsReported, LackedMemory, Ran, Runs, StreamUse}
 use Rattle.nc_top.specs.declared.status.Status.{Status}
 use Rattle.nc_top.specs.declared.status.Status.TheVariants.{BadText, Budget, Done, Invalid, NotBelow, OutOfMemory, ReadFault, TooLarge, TooMany, TooMuch, Usage, WriteFault}
 use Rattle.std.proofs.Common.{List, None, Some, [], ap, append-nil, arith, codes, inl, inr, length, length-append, refl, subst, subst₂, sym, ℕ, ◌+◌, ◌++◌, ◌∙◌, ◌<◌, ◌≡◌, ◌≤◌, ◌⊎◌}
@@ -81,8 +81,8 @@ same_answer options runs bytes taken (Some ys) h status report a =
 not_risen : (before now : ℕ) → now ≡ before → Rose before now → ⊥
 not_risen before now same rose = absurd (omega (arith, same, rose))
 
-module _ (options : Options) (runs : Runs options) (bytes : List ℕ) (source : SourceUse)
-    (sink : SinkUse) (result : Status) (well : RanWell options bytes source sink result) where
+module _ (options : Options) (runs : Runs options) (bytes : List ℕ) (source : StreamUse)
+    (sink : StreamUse) (result : Status) (well : RanWell options bytes source sink result) where
   abbrev Answers : Type 0
   Answers = LackedMemory sink result ⊎ WroteSome sink (IsAnswer options bytes result)
 
@@ -103,8 +103,8 @@ module _ (options : Options) (runs : Runs options) (bytes : List ℕ) (source : 
   by_run (inr (inl memory)) = inl memory
   by_run (inr (inr h)) =
       by_report h.status h.report
-      (same_answer options runs bytes h.bytes source.left_after
-      (subst (λ (l : Option (List ℕ)). TakesWhole l source.left_after h.bytes 16777217) well.told
+      (same_answer options runs bytes h.bytes source.bytes_after
+      (subst (λ (l : Option (List ℕ)). TakesWhole l source.bytes_after h.bytes 16777217) well.told
       h.taken) h.status h.report h.answer) h.reported
 
 pub faultless_runs : FaultlessRuns
@@ -143,7 +143,7 @@ module _ (options : BasisOptions) (bytes : List ℕ) (P : NamedProblem) (text : 
       )
   whole status report (Known.is_many named terms h) = inr (named, terms, refl, h)
 
-  module _ (sink : SinkUse) (result : Status) where
+  module _ (sink : StreamUse) (result : Status) where
     abbrev Wanted : Type 0
     Wanted =
         LackedMemory sink result
@@ -239,7 +239,7 @@ module _ (options : MemberOptions) (bytes : List ℕ) (P : NamedProblem) (claim 
   decided WriteFault report h = absurd h
   decided OutOfMemory report h = absurd h
 
-  module _ (sink : SinkUse) (result : Status) where
+  module _ (sink : StreamUse) (result : Status) where
     abbrev Decides : Type 0
     Decides =
         LackedMemory sink result

@@ -28,7 +28,7 @@ use Rattle.nc_top.specs.Basis.{IsComplete, IsProblemText, IsTooManyTerms}
 use Rattle.nc_theory.specs.Bases.{HasRepresentation}
 use Rattle.nc_top.specs.Check.{IsCheckAnswer, IsWithinWork}
 use Rattle.nc_top.specs.Member.{IsCertified, IsClaimText, IsNotBelow, IsTooManyTermsOf}
-use Rattle.nc_top.specs.Run.{HasWritten, IsAnswer, LackedMemory, Ran, Runs, SinkUse, SourceUse}
+use Rattle.nc_top.specs.Run.{HasWritten, IsAnswer, LackedMemory, Ran, Runs, StreamUse}
 use Rattle.nc_top.specs.declared.status.Status.{Status}
 use Rattle.nc_top.specs.declared.status.Status.TheVariants.{Done, NotBelow, TooMany}
 use Rattle.std.specs.Prelude.{All, List, Ok, Some, codes, length, ℕ, ◌≡◌, ◌≤◌, ◌⊎◌}
@@ -43,22 +43,22 @@ OneAnswer = (options : Options) → Runs options → (bytes : List ℕ) →
 -- ---- runs in which nothing fails
 
 -- a run whose source tells its bytes, and in which no failure was counted
-pub record RanWell (options : Options) (bytes : List ℕ) (source : SourceUse) (sink : SinkUse)
+pub record RanWell (options : Options) (bytes : List ℕ) (source : StreamUse) (sink : StreamUse)
     (result : Status) : Type 0 where
-  pub told : source.left_before ≡ Some bytes
+  pub told : source.bytes_before ≡ Some bytes
   pub read_well : source.faults_after ≡ source.faults_before
   pub wrote_well : sink.faults_after ≡ sink.faults_before
   pub ran : Ran options source sink result
 
 -- some report of this kind was written
-abbrev pub WroteSome : SinkUse → (List ℕ → Type 0) → Type 0
+abbrev pub WroteSome : StreamUse → (List ℕ → Type 0) → Type 0
 WroteSome sink IsReport = (report : List ℕ) × IsReport report × HasWritten sink report
 
 -- status and report of such a run are those of all its bytes, unless memory ran out
 abbrev pub FaultlessRuns : Type 0
 FaultlessRuns =
     (options : Options) → Runs options
-    → (bytes : List ℕ) (source : SourceUse) (sink : SinkUse) (result : Status)
+    → (bytes : List ℕ) (source : StreamUse) (sink : StreamUse) (result : Status)
     → RanWell options bytes source sink result
     → LackedMemory sink result ⊎ WroteSome sink (IsAnswer options bytes result)
 
@@ -76,7 +76,7 @@ abbrev pub CompleteRuns : Type 0
 CompleteRuns =
     (options : BasisOptions) (bytes : List ℕ) (P : NamedProblem) → IsProblemText bytes P
     → HasEnoughSteps P
-    → (source : SourceUse) (sink : SinkUse) (result : Status)
+    → (source : StreamUse) (sink : StreamUse) (result : Status)
     → RanWell (Basis options) bytes source sink result
     → LackedMemory sink result
     ⊎ (((result ≡ Done) × WroteSome sink (IsComplete options bytes))
@@ -93,7 +93,7 @@ abbrev pub CompleteMembers : Type 0
 CompleteMembers =
     (options : MemberOptions) (bytes : List ℕ) (P : NamedProblem) (claim : Polynomial)
     → IsClaimText bytes P claim → HasEnoughSteps P
-    → (source : SourceUse) (sink : SinkUse) (result : Status)
+    → (source : StreamUse) (sink : StreamUse) (result : Status)
     → RanWell (Member options) bytes source sink result
     → LackedMemory sink result
     ⊎ ((IsBelow P claim × (result ≡ Done) × WroteSome sink (IsCertified options bytes))

@@ -48,63 +48,48 @@ IsAnswer (Demo options) bytes status report = ⊥
 
 -- ---- what was read and written
 
--- a call's use of its source: what the source tells of the bytes that are left, and how many
--- failures it has counted
-pub record SourceUse : Type 0 where
-  pub left_before : Option (List ℕ)
-  pub left_after : Option (List ℕ)
+-- a call's use of its source or its sink: what that tells of its bytes, those that are left or
+-- those that were written, and how many failures it has counted
+pub record StreamUse : Type 0 where
+  pub bytes_before : Option (List ℕ)
+  pub bytes_after : Option (List ℕ)
   pub faults_before : ℕ
   pub faults_after : ℕ
 
-abbrev pub source_use : {S : Type 0} → (S → Option (List ℕ)) → (S → ℕ) → S → S → SourceUse
-source_use left faults before after = record {
-  left_before = left before;
-  left_after = left after;
-  faults_before = faults before;
-  faults_after = faults after;
-}
-
--- its use of its sink: what the sink tells of the bytes that were written, and its failures
-pub record SinkUse : Type 0 where
-  pub written_before : Option (List ℕ)
-  pub written_after : Option (List ℕ)
-  pub faults_before : ℕ
-  pub faults_after : ℕ
-
-abbrev pub sink_use : {K : Type 0} → (K → Option (List ℕ)) → (K → ℕ) → K → K → SinkUse
-sink_use written faults before after = record {
-  written_before = written before;
-  written_after = written after;
+abbrev pub stream_use : {S : Type 0} → (S → Option (List ℕ)) → (S → ℕ) → S → S → StreamUse
+stream_use bytes faults before after = record {
+  bytes_before = bytes before;
+  bytes_after = bytes after;
   faults_before = faults before;
   faults_after = faults after;
 }
 
 -- this text was written, and nothing else
-abbrev pub HasWritten : SinkUse → List ℕ → Type 0
-HasWritten sink text = Adds sink.written_before sink.written_after text
+abbrev pub HasWritten : StreamUse → List ℕ → Type 0
+HasWritten sink text = Adds sink.bytes_before sink.bytes_after text
 
 -- memory ran out, with nothing written
-abbrev pub LackedMemory : SinkUse → Status → Type 0
+abbrev pub LackedMemory : StreamUse → Status → Type 0
 LackedMemory sink result = (result ≡ OutOfMemory) × HasWritten sink []
 
 -- the report was written, or the count of the sink's failures rose and a front of it was written
-abbrev pub IsReported : SinkUse → List ℕ → Status → Status → Type 0
+abbrev pub IsReported : StreamUse → List ℕ → Status → Status → Type 0
 IsReported sink report status result =
     ((result ≡ status) × HasWritten sink report)
     ⊎ ((result ≡ WriteFault) × Rose sink.faults_before sink.faults_after
-    × AddsFront sink.written_before sink.written_after report)
+    × AddsFront sink.bytes_before sink.bytes_after report)
 
 -- `usage` was reported, or memory ran out while the words were read
-abbrev pub IsRefused : SinkUse → Status → Type 0
+abbrev pub IsRefused : StreamUse → Status → Type 0
 IsRefused sink result =
     LackedMemory sink result ⊎ IsReported sink (codes "usage\n") Usage result
 
 -- the source was read to its end, or as far as 16,777,217 bytes, and status and report are those of
 -- its bytes
-pub record IsAnswered (options : Options) (source : SourceUse) (sink : SinkUse) (result : Status)
+pub record IsAnswered (options : Options) (source : StreamUse) (sink : StreamUse) (result : Status)
     : Type 0 where
   pub bytes : List ℕ
-  pub taken : TakesWhole source.left_before source.left_after bytes (max_bytes + 1)
+  pub taken : TakesWhole source.bytes_before source.bytes_after bytes (max_bytes + 1)
   pub status : Status
   pub report : List ℕ
   pub answer : IsAnswer options bytes status report
@@ -112,7 +97,7 @@ pub record IsAnswered (options : Options) (source : SourceUse) (sink : SinkUse) 
 
 -- a read fault only where the count of the source's failures rose, with nothing written; want of
 -- memory; or an answer
-abbrev pub Ran : Options → SourceUse → SinkUse → Status → Type 0
+abbrev pub Ran : Options → StreamUse → StreamUse → Status → Type 0
 Ran options source sink result =
     ((result ≡ ReadFault) × Rose source.faults_before source.faults_after × HasWritten sink [])
     ⊎ (LackedMemory sink result

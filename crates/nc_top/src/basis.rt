@@ -12,7 +12,7 @@ ghost use Rattle.nc_report.specs.Shown.{FailsToShow, IsRunAt, IsShownOf, kind_of
 ghost use Rattle.std.specs.Prelude.{IfErr, IfOk, Ok, length, ◌≡◌, ◌≤◌};
 
 use crate::input::answer_unread;
-use crate::status::Status;
+use crate::status::{Answer, Status};
 use itoa::Buffer;
 use nc_cofactor::{CofactorFault, Labels};
 use nc_desk::{Desk, End, Finished};
@@ -122,11 +122,7 @@ pub(crate) fn too_many_report(
 }
 
 /// Status and report for a run that came to its end.
-fn answer_run(
-    alloc: Global,
-    finished: &Finished,
-    shown: &Shown,
-) -> Result<(Status, Vec<u8>), AllocError>
+fn answer_run(alloc: Global, finished: &Finished, shown: &Shown) -> Result<Answer, AllocError>
     requires shown { IsShownOf finished.now.snapshot shown.now }
     ensures { IfOk result (λ r. (r.0 ≡ status_at finished.now.ending)
         × ((run : State) → IsRunAt finished.now.snapshot run
@@ -147,7 +143,7 @@ fn answer_problem(
     bytes: &[u8],
     problem: Problem,
     options: BasisOptions,
-) -> Result<(Status, Vec<u8>), AllocError>
+) -> Result<Answer, AllocError>
     requires text { IsProblemText bytes.now problem }
     requires some { 1 ≤ options.window }
     requires few { options.window ≤ 4096 }
@@ -172,7 +168,7 @@ pub(crate) fn answer_basis(
     alloc: Global,
     bytes: &[u8],
     options: BasisOptions,
-) -> Result<(Status, Vec<u8>), AllocError>
+) -> Result<Answer, AllocError>
     requires small { length bytes.now ≤ max_bytes }
     requires some { 1 ≤ options.window }
     requires few { options.window ≤ 4096 }

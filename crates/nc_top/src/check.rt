@@ -8,7 +8,7 @@ ghost use Rattle.nc_top.specs.Reports.{invalid_report, too_much_report};
 ghost use Rattle.std.specs.Prelude.{IfOk, Ok, length, ◌≡◌, ◌≤◌};
 
 use crate::input::answer_unread;
-use crate::status::Status;
+use crate::status::{Answer, Status};
 use itoa::Buffer;
 use nc_cert::{Verdict, check};
 use nc_module::Certificate;
@@ -51,7 +51,7 @@ fn answer_certificate(
     alloc: Global,
     bytes: &[u8],
     certificate: &Certificate,
-) -> Result<(Status, Vec<u8>), AllocError>
+) -> Result<Answer, AllocError>
     requires small { length bytes.now ≤ max_bytes }
     requires certificate { reads_certificate bytes.now ≡ Ok certificate.now }
     ensures { IfOk result (λ r. IsCheckAnswer bytes.now r.0 r.1.items) }
@@ -67,7 +67,7 @@ fn answer_certificate(
 }
 
 /// Status and report for the bytes of an input that are not too many.
-pub(crate) fn answer_check(alloc: Global, bytes: &[u8]) -> Result<(Status, Vec<u8>), AllocError>
+pub(crate) fn answer_check(alloc: Global, bytes: &[u8]) -> Result<Answer, AllocError>
     requires { length bytes.now ≤ max_bytes }
     ensures { IfOk result (λ r. IsCheckAnswer bytes.now r.0 r.1.items) }
 {

@@ -4,7 +4,7 @@ ghost use Rattle.nc_top.specs.Inputs.{IsUnread};
 ghost use Rattle.nc_top.specs.Reports.{bad_text_report};
 ghost use Rattle.std.specs.Prelude.{IfOk, ◌≡◌};
 
-use crate::status::Status;
+use crate::status::{Answer, Status};
 use itoa::Buffer;
 use nc_text::ReadFault;
 use std::alloc::{AllocError, Global};
@@ -23,10 +23,7 @@ fn bad_text_report(alloc: Global, line: u64, kind: u8) -> Result<Vec<u8>, AllocE
 }
 
 /// Status and report where a text was not read.
-pub(crate) fn answer_unread(
-    alloc: Global,
-    fault: ReadFault,
-) -> Result<(Status, Vec<u8>), AllocError>
+pub(crate) fn answer_unread(alloc: Global, fault: ReadFault) -> Result<Answer, AllocError>
     ensures { IfOk result (λ r. IsUnread fault r.0 r.1.items) }
 {
     match fault {

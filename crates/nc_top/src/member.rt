@@ -11,7 +11,7 @@ ghost use Rattle.std.specs.Prelude.{All, IfOk, Ok, OnOk, length, ◌++◌, ◌<�
 
 use crate::basis::{run_problem, too_many_report};
 use crate::input::answer_unread;
-use crate::status::Status;
+use crate::status::{Answer, Status};
 use nc_cofactor::CofactorFault;
 use nc_desk::{End, Finished};
 use nc_member::{Membership, member, prove};
@@ -73,11 +73,7 @@ fn undecided_report(
 }
 
 /// Status and report where the run is complete and something is left of the claim.
-fn answer_not_below(
-    alloc: Global,
-    asked: &Asked<'_>,
-    rest: &Poly,
-) -> Result<(Status, Vec<u8>), AllocError>
+fn answer_not_below(alloc: Global, asked: &Asked<'_>, rest: &Poly) -> Result<Answer, AllocError>
     requires asked { IsAsked asked.now }
     requires rest { LeavesRest asked.now rest.now }
     ensures { IfOk result (λ r. IsAskedAnswer asked.now r.0 r.1.items) }
@@ -89,11 +85,7 @@ fn answer_not_below(
 }
 
 /// Status and report where the steps were used up and something is left of the claim.
-fn answer_undecided(
-    alloc: Global,
-    asked: &Asked<'_>,
-    rest: &Poly,
-) -> Result<(Status, Vec<u8>), AllocError>
+fn answer_undecided(alloc: Global, asked: &Asked<'_>, rest: &Poly) -> Result<Answer, AllocError>
     requires asked { IsAsked asked.now }
     requires rest { StaysOpen asked.now rest.now }
     ensures { IfOk result (λ r. IsAskedAnswer asked.now r.0 r.1.items) }
@@ -111,11 +103,7 @@ fn answer_undecided(
 }
 
 /// Status and report for a representation as lines.
-fn answer_lines(
-    alloc: Global,
-    asked: &Asked<'_>,
-    lines: &Lines,
-) -> Result<(Status, Vec<u8>), AllocError>
+fn answer_lines(alloc: Global, asked: &Asked<'_>, lines: &Lines) -> Result<Answer, AllocError>
     requires asked { IsAsked asked.now }
     requires form { asked.now.options.form ≡ AsLines }
     requires lines { AreLinesOf asked.now lines.now }
@@ -128,11 +116,7 @@ fn answer_lines(
 }
 
 /// Status and report for a representation as a module element.
-fn answer_terms(
-    alloc: Global,
-    asked: &Asked<'_>,
-    m: &Module,
-) -> Result<(Status, Vec<u8>), AllocError>
+fn answer_terms(alloc: Global, asked: &Asked<'_>, m: &Module) -> Result<Answer, AllocError>
     requires asked { IsAsked asked.now }
     requires form { asked.now.options.form ≡ AsTerms }
     requires m { AreTermsOf asked.now m.now }
@@ -145,7 +129,8 @@ fn answer_terms(
 }
 
 /// Status and report where lines are wanted.
-fn answer_by_lines(alloc: Global, asked: &Asked<'_>) -> Result<(Status, Vec<u8>), AllocError>
+#[tactic(auto, using(crate::proofs::Claims::claim_light))]
+fn answer_by_lines(alloc: Global, asked: &Asked<'_>) -> Result<Answer, AllocError>
     requires asked { IsAsked asked.now }
     requires form { asked.now.options.form ≡ AsLines }
     ensures { IfOk result (λ r. IsAskedAnswer asked.now r.0 r.1.items) }
@@ -162,7 +147,7 @@ fn answer_found(
     alloc: Global,
     asked: &Asked<'_>,
     found: Membership<Module>,
-) -> Result<(Status, Vec<u8>), AllocError>
+) -> Result<Answer, AllocError>
     requires asked { IsAsked asked.now }
     requires form { asked.now.options.form ≡ AsTerms }
     requires found { IsFoundOf asked.now found }
@@ -176,7 +161,8 @@ fn answer_found(
 }
 
 /// Status and report where terms are wanted.
-fn answer_by_terms(alloc: Global, asked: &Asked<'_>) -> Result<(Status, Vec<u8>), AllocError>
+#[tactic(auto, using(crate::proofs::Claims::claim_light))]
+fn answer_by_terms(alloc: Global, asked: &Asked<'_>) -> Result<Answer, AllocError>
     requires asked { IsAsked asked.now }
     requires form { asked.now.options.form ≡ AsTerms }
     ensures { IfOk result (λ r. IsAskedAnswer asked.now r.0 r.1.items) }
@@ -202,7 +188,7 @@ fn answer_claim(
     problem: Problem,
     claim: &Poly,
     options: MemberOptions,
-) -> Result<(Status, Vec<u8>), AllocError>
+) -> Result<Answer, AllocError>
     requires text { IsClaimText bytes.now problem claim.now }
     requires some { 1 ≤ options.window }
     requires few { options.window ≤ 4096 }
@@ -227,7 +213,7 @@ fn answer_problem(
     bytes: &[u8],
     text: ProblemText,
     options: MemberOptions,
-) -> Result<(Status, Vec<u8>), AllocError>
+) -> Result<Answer, AllocError>
     requires small { length bytes.now ≤ max_bytes }
     requires text { reads_claim bytes.now ≡ Ok text }
     requires some { 1 ≤ options.window }
@@ -246,7 +232,7 @@ pub(crate) fn answer_member(
     alloc: Global,
     bytes: &[u8],
     options: MemberOptions,
-) -> Result<(Status, Vec<u8>), AllocError>
+) -> Result<Answer, AllocError>
     requires small { length bytes.now ≤ max_bytes }
     requires some { 1 ≤ options.window }
     requires few { options.window ≤ 4096 }

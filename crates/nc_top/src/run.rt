@@ -3,24 +3,20 @@
 ghost use Rattle.nc_algebra.specs.Limits.{max_bytes};
 ghost use Rattle.nc_io.specs.Pieces.{TakesFront};
 ghost use Rattle.nc_options.specs.Laws.{AreInRange};
-ghost use Rattle.nc_top.specs.Run.{IsAnswer, IsCommand, IsRefused, IsReported, IsRun, Ran, Runs, sink_use, source_use};
+ghost use Rattle.nc_top.specs.Run.{IsAnswer, IsCommand, IsRefused, IsReported, IsRun, Ran, Runs, stream_use};
 ghost use Rattle.std.specs.Prelude.{IfOk, IsTrue, codes, length, map, string_bytes, ◌+◌, ◌↔◌, ◌≡◌, ◌≤◌};
 
 use crate::basis::answer_basis;
 use crate::check::answer_check;
 use crate::member::answer_member;
-use crate::status::Status;
+use crate::status::{Answer, Status};
 use nc_io::{Fault, Sink, Source, put_whole, take_whole};
 use nc_options::{Options, OptionsError, options_are_in_range, read_options};
 use nc_text::MAX_BYTES;
 use std::alloc::{AllocError, Global};
 
 /// Status and report for the bytes of an input that are not too many.
-fn answer_text(
-    alloc: Global,
-    options: Options,
-    bytes: &[u8],
-) -> Result<(Status, Vec<u8>), AllocError>
+fn answer_text(alloc: Global, options: Options, bytes: &[u8]) -> Result<Answer, AllocError>
     requires small { length bytes.now ≤ max_bytes }
     requires runs { Runs options }
     requires range { AreInRange options }
@@ -35,7 +31,7 @@ fn answer_text(
 }
 
 /// Status and report for the bytes of an input.
-fn answer(alloc: Global, options: Options, bytes: &[u8]) -> Result<(Status, Vec<u8>), AllocError>
+fn answer(alloc: Global, options: Options, bytes: &[u8]) -> Result<Answer, AllocError>
     requires runs { Runs options }
     requires range { AreInRange options }
     ensures { IfOk result (λ r. IsAnswer options bytes.now r.0 r.1.items) }
@@ -48,7 +44,7 @@ fn answer(alloc: Global, options: Options, bytes: &[u8]) -> Result<(Status, Vec<
 
 /// Writes the report.
 fn report<K: Sink>(sink: &mut K, status: Status, text: &[u8]) -> Status
-    ensures { IsReported (sink_use K.written K.faults sink.old sink.new) text.now status result }
+    ensures { IsReported (stream_use K.written K.faults sink.old sink.new) text.now status result }
 {
     match put_whole(sink, text) {
         Ok(()) => status,
@@ -58,7 +54,7 @@ fn report<K: Sink>(sink: &mut K, status: Status, text: &[u8]) -> Status
 
 /// Reports that the words are no command that runs.
 fn refuse<K: Sink>(sink: &mut K) -> Status
-    ensures { IsReported (sink_use K.written K.faults sink.old sink.new) (codes "usage\n")
+    ensures { IsReported (stream_use K.written K.faults sink.old sink.new) (codes "usage\n")
         Status.Usage result }
 {
     report(sink, Status::Usage, b"usage\n")
@@ -73,8 +69,8 @@ fn run_command<S: Source, K: Sink>(
 ) -> Status
     requires runs { Runs options }
     requires range { AreInRange options }
-    ensures ran { Ran options (source_use S.left S.faults source.old source.new)
-        (sink_use K.written K.faults sink.old sink.new) result }
+    ensures ran { Ran options (stream_use S.left S.faults source.old source.new)
+        (stream_use K.written K.faults sink.old sink.new) result }
     ensures limit { TakesFront (S.left source.old) (S.left source.new) (max_bytes + 1) }
 {
     match take_whole(alloc, source, MAX_BYTES + 1) {
@@ -107,10 +103,10 @@ pub fn run_alone<S: Source, K: Sink>(
 ) -> Status
     ensures unread { ¬ IsRun (map string_bytes words.now) → source.new ≡ source.old }
     ensures usage { ¬ IsRun (map string_bytes words.now)
-        → IsRefused (sink_use K.written K.faults sink.old sink.new) result }
+        → IsRefused (stream_use K.written K.faults sink.old sink.new) result }
     ensures ran { (options : Options) → IsCommand (map string_bytes words.now) options
-        → Ran options (source_use S.left S.faults source.old source.new)
-        (sink_use K.written K.faults sink.old sink.new) result }
+        → Ran options (stream_use S.left S.faults source.old source.new)
+        (stream_use K.written K.faults sink.old sink.new) result }
     ensures limit { TakesFront (S.left source.old) (S.left source.new) (max_bytes + 1) }
 {
     options_are_in_range();

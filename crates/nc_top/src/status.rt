@@ -55,3 +55,6 @@ pub fn code_of(status: Status) -> u8
         Status::OutOfMemory => 7,
     }
 }
+
+/// What a command answers: its status and its report.
+pub(crate) type Answer = (Status, Vec<u8>);

@@ -10,11 +10,11 @@ use Rattle.nc_report.proofs.listing.report_on.Goals as goal
 pub returns : goal.returns
 returns c =
     subst (λ (s : Snapshot). (run : State) → IsRunAt s run
-    → c.write_syzygies.new.out.items ≡ basis_report (kind_of c.args.shown.now)
+    → c.write_items-2.new.out.items ≡ basis_report (kind_of c.args.shown.now)
     s.problem.alphabet.names (labels_in c.args.shown.now) s.handled run
     c.args.finished.now.ending) c.snapshot-snapshot.ensures.snapshot (λ run a.
-    in_a_row [] c.write_end.new.out.items c.write_counts.new.out.items c.write_entries.new.out.items
-    c.write_syzygies.new.out.items
+    in_a_row [] c.write_end.new.out.items c.write_counts.new.out.items c.write_items.new.out.items
+    c.write_items-2.new.out.items
     (ending_line c.snapshot-snapshot.result.now.problem.alphabet.names
     c.args.finished.now.ending) (counts_line c.snapshot-snapshot.result.now.handled run)
     (numbered (entry_lines (kind_of c.args.shown.now)
@@ -29,4 +29,4 @@ returns c =
     c.args.finished.now.ending ++ 10 ∷ [])) c.new-out.ensures.items))
     (c.in_ok-write_counts.ensures ∙ ap (λ (l : List ℕ). c.write_end.new.out.items ++ (l ++ 10 ∷ []))
     (counts_same c.snapshot-snapshot.result.now c.recall_rule.ensures.snapshot run a))
-    (c.in_ok-write_entries.ensures run a) (c.in_ok-write_syzygies.ensures run a))
+    (c.in_ok-write_items.ensures run a) (c.in_ok-write_items-2.ensures run a))

@@ -1,12 +1,7 @@
-use Rattle.nc_top.proofs.Claims.{claim_in, claim_light}
+use Rattle.nc_top.proofs.Claims.{claim_in}
 use Rattle.nc_top.proofs.member.answer_by_lines.Goals as goal
 
 pub prove-requires-clause-claim : goal.prove-requires-clause-claim
 prove-requires-clause-claim c =
     claim_in c.args.asked.now.bytes.now c.args.asked.now.finished.now.snapshot.problem
-    c.args.asked.now.claim.now c.requires.asked
-
-pub prove-requires-clause-light : goal.prove-requires-clause-light
-prove-requires-clause-light c =
-    claim_light c.args.asked.now.bytes.now c.args.asked.now.finished.now.snapshot.problem
     c.args.asked.now.claim.now c.requires.asked

@@ -3,7 +3,7 @@ use Rattle.nc_cofactor.specs.declared.fault.CofactorFault.TheVariants.{TooMany}
 use Rattle.nc_member.specs.Members.{FailsToAnswer}
 use Rattle.nc_snapshot.specs.Snapshots.{IsSnapshot}
 use Rattle.nc_snapshot.specs.declared.outcome.Listed.{Listed}
-use Rattle.nc_top.proofs.Claims.{claim_in, claim_light}
+use Rattle.nc_top.proofs.Claims.{claim_in}
 use Rattle.nc_top.proofs.MemberEnds.{too_many_answer}
 use Rattle.std.proofs.Common.{subst, subst₂, sym, ℕ}
 use Rattle.nc_top.proofs.member.answer_by_terms.Goals as goal
@@ -11,11 +11,6 @@ use Rattle.nc_top.proofs.member.answer_by_terms.Goals as goal
 pub member-requires-clause-claim : goal.member-requires-clause-claim
 member-requires-clause-claim c =
     claim_in c.args.asked.now.bytes.now c.args.asked.now.finished.now.snapshot.problem
-    c.args.asked.now.claim.now c.requires.asked
-
-pub member-requires-clause-light : goal.member-requires-clause-light
-member-requires-clause-light c =
-    claim_light c.args.asked.now.bytes.now c.args.asked.now.finished.now.snapshot.problem
     c.args.asked.now.claim.now c.requires.asked
 
 pub returns-in_ok-too_many_report-in-Err-TooMany : goal.returns-in_ok-too_many_report-in-Err-TooMany
