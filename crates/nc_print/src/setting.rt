@@ -66,8 +66,8 @@ fn are_ones(weights: &[u8]) -> bool
 
 /// Appends the weights, with a space before each.
 fn append_weights(out: &mut Vec<u8>, weights: &[u8]) -> Result<(), AllocError>
-    ensures text { OnOk result (out.new.items ≡ out.old.items ++ flat_map (λ m. codes " " ++ decimal m)
-        weights.now) }
+    ensures text { OnOk result (out.new.items ≡ out.old.items
+        ++ flat_map (λ m. codes " " ++ decimal m) weights.now) }
     ensures kept { BeginsWith out.new.items out.old.items }
 {
     for m in weights {

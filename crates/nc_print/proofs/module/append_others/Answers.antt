@@ -6,5 +6,5 @@ use Rattle.nc_print.proofs.module.append_others.Goals as goal
 
 pub returns-clause-text : goal.returns-clause-text
 returns-clause-text c =
-    bare_end (module_term_text c.args.names.now) (flat_map (λ y. codes " + " ++ y)) c.args.terms.now c.loop-t.t-index c.args.out.now.items
-    c.loop-t.out.items (omega arith) c.loop-t.invariant
+    bare_end (module_term_text c.args.names.now) (flat_map (λ y. codes " + " ++ y)) _
+    c.loop-t.t-index _ _ (omega arith) c.loop-t.invariant

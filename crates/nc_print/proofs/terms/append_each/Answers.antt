@@ -5,9 +5,8 @@ use Rattle.nc_print.proofs.terms.append_each.Goals as goal
 
 pub loop-t-preserved : goal.loop-t-preserved
 loop-t-preserved c =
-    written_more (λ t. term_line c.args.names.now (bare t)) c.args.terms.now c.loop-t.t-index c.t-item.result
-    c.args.out.now.items c.loop-t.out.items _ (omega arith) c.t-item.is c.loop-t.invariant
-    c.in_ok-append_term.ensures.text
+    written_more (λ t. term_line c.args.names.now (bare t)) _ c.loop-t.t-index _ _ _ _ (omega arith)
+    c.t-item.is c.loop-t.invariant c.in_ok-append_term.ensures.text
 
 pub returns-clause-text : goal.returns-clause-text
 returns-clause-text c =

@@ -5,4 +5,5 @@ use Rattle.nc_print.proofs.terms.append_each.Given as goal
 
 abbrev pub invariant-loop-t : goal.invariant-loop-t
 invariant-loop-t l =
-    l.out.items ≡ l.initial.out.items ++ ended (map (λ t. term_line l.names (bare t)) (take l.t-index l.terms))
+    l.out.items ≡ l.initial.out.items
+    ++ ended (map (λ t. term_line l.names (bare t)) (take l.t-index l.terms))

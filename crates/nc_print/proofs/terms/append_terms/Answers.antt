@@ -14,5 +14,6 @@ returns-clause-text c =
 
 pub returns-clause-kept : goal.returns-clause-kept
 returns-clause-kept c =
-    begins_in_a_row _ _ _ _ _ _ _ _ _ c.in_ok-extend_from_slice.ensures.items c.append_setting.ensures.kept
-    c.append_poly_line.ensures.kept c.append_each.ensures.kept c.extend_from_slice-2.ensures.items
+    begins_in_a_row _ _ _ _ _ _ _ _ _ c.in_ok-extend_from_slice.ensures.items
+    c.append_setting.ensures.kept c.append_poly_line.ensures.kept c.append_each.ensures.kept
+    c.extend_from_slice-2.ensures.items
