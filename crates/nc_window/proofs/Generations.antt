@@ -1,6 +1,7 @@
 -- Rows keep generations of their own.
-use Rattle.nc_window.specs.Rows.{row_with}
-use Rattle.nc_window.specs.Windows.{HaveGenerations, LacksGeneration, Row}
+use Rattle.nc_window.specs.Rows.{LacksGeneration, row_with}
+use Rattle.nc_window.specs.Rules.{HaveGenerations}
+use Rattle.nc_window.specs.Windows.{Row}
 use Rattle.std.proofs.Common.{List, [], sym, ℕ, ◌++◌, ◌<◌, ◌∷◌, ◌≢◌}
 use Rattle.std.proofs.lemmas.List.Elements.{All-cons, All-head, All-tail}
 

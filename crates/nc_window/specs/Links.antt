@@ -1,6 +1,8 @@
 -- What contracts see of a node: what it holds, and its links.
 use Rattle.nc_algebra.specs.Monomials.{Sig}
-use Rattle.nc_window.specs.Windows.{Row, Shown, uses}
+use Rattle.nc_window.specs.Rows.{row_at}
+use Rattle.nc_window.specs.Windows.{Row, Shown}
+use Rattle.std.specs.Option.{is_some}
 use Rattle.std.specs.Prelude.{List, None, Option, Some, [], cond, nat_eq, ℕ, ◌∷◌}
 
 -- one node: what it holds where it is not free, its generation, which is 0 where it is free, and
@@ -41,5 +43,5 @@ module _ {T : Type 0} where
   abbrev pub links_at : Shown T → ℕ → Option ℕ × Option ℕ
   links_at v i = (
     index_before None v.live i,
-    cond (nat_eq (uses i v.live) 0) (free_after v.free i) (index_after v.live i),
+    cond (is_some (row_at v.live i)) (index_after v.live i) (free_after v.free i),
   )

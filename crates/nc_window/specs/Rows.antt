@@ -2,7 +2,7 @@
 use Rattle.nc_algebra.specs.Monomials.{Sig, compare_sigs}
 use Rattle.nc_window.specs.Windows.{Row}
 use Rattle.std.specs.Ordering.{is_eq, is_lt}
-use Rattle.std.specs.Prelude.{List, None, Option, Some, [], cond, nat_eq, ℕ, ◌∷◌}
+use Rattle.std.specs.Prelude.{All, List, None, Option, Some, [], cond, nat_eq, ℕ, ◌∷◌, ◌≢◌}
 
 module _ {T : Type 0} where
   -- the row with this index
@@ -19,6 +19,10 @@ module _ {T : Type 0} where
   abbrev pub row_of : List (Row T) → Sig → Option (Row T)
   row_of [] σ = None
   row_of (r ∷ rs) σ = cond (is_eq (compare_sigs r.signature σ)) (Some r) (row_of rs σ)
+
+  -- no row has this generation
+  abbrev pub LacksGeneration : List (Row T) → ℕ → Type 0
+  LacksGeneration rows g = All (λ r. r.generation ≢ g) rows
 
   abbrev pub first_row : List (Row T) → Option (Row T)
   first_row [] = None
