@@ -1,21 +1,16 @@
 -- The place of a signature among the rows. No public clause cites this module.
 use Rattle.nc_algebra.specs.Monomials.{Sig, compare_sigs}
-use Rattle.nc_window.specs.Links.{first_of}
+use Rattle.nc_window.specs.Links.{Slot, first_of}
 use Rattle.nc_window.specs.Windows.{Row}
-use Rattle.std.specs.Ordering.{is_eq, is_lt}
-use Rattle.std.specs.Prelude.{Bool, List, None, Option, Some, [], false, length, ℕ, ◌++◌, ◌∷◌, ◌≡◌}
+use Rattle.std.specs.Ordering.{is_lt}
+use Rattle.std.specs.Prelude.{IfSome, List, None, Option, Some, [], false, length, ℕ, ◌++◌, ◌∷◌, ◌≡◌}
+use Rattle.std.specs.declared.cmp.Ordering.{Ordering}
 use Rattle.std.specs.declared.cmp.Ordering.TheVariants.{Less}
 
 module _ {T : Type 0} where
-  -- whether what a node holds has a signature that is less than this one
-  abbrev pub is_held_below : Option (Sig × T) → Sig → Bool
-  is_held_below None σ = false
-  is_held_below (Some h) σ = is_lt (compare_sigs h.0 σ)
-
-  -- whether what a node holds has this signature
-  abbrev pub is_held_of : Option (Sig × T) → Sig → Bool
-  is_held_of None σ = false
-  is_held_of (Some h) σ = is_eq (compare_sigs h.0 σ)
+  -- how the signature that the node holds compares with this one
+  abbrev pub Compares : Slot T → Sig → Ordering → Type 0
+  Compares n σ o = IfSome n.held (λ h. o ≡ compare_sigs h.0 σ)
 
   -- the index of the last row, and `before` where there is none
   abbrev pub last_of : Option ℕ → List (Row T) → Option ℕ
