@@ -18,7 +18,7 @@ use Rattle.nc_theory.specs.Runs.{Handles, Outcome, Starts}
 use Rattle.nc_theory.specs.Stale.{BeganWith, CameFrom, IsFresh, Keeps, SettledBy}
 use Rattle.nc_theory.specs.States.{Entry, Start, State, Syzygy}
 use Rattle.nc_theory.specs.Untraced.{untraced_syzygy}
-use Rattle.std.proofs.Common.{Contains, List, ap, arith, inl, inr, length, refl, subst, sym, ℕ, ◌+◌, ◌++◌, ◌∙◌, ◌≡◌, ◌⊎◌}
+use Rattle.std.proofs.Common.{◌≤◌, Contains, List, ap, arith, inl, inr, length, refl, subst, sym, ℕ, ◌+◌, ◌++◌, ◌∙◌, ◌≡◌, ◌⊎◌}
 
 module _ (s : Setting) (old : State) (es : List Entry) (hs : List Syzygy) (covered settled : ℕ)
     (τ : Monomial) where
@@ -136,28 +136,26 @@ module _ (s : Setting) (state state' : State) (same : SameStates state state') (
   abbrev there : {w : Word} → Divisor s state.entries w → Divisor s state'.entries w
   there {w} d = moved s state.entries state'.entries (same_entries state state' same) w d
 
+  still_later : {w : Word} (d : Divisor s state.entries w) → n ≤ d.listed.0 → n ≤ (there d).listed.0
+  still_later {w} d l =
+      omega (
+        arith,
+        l,
+        (moved_same s state.entries state'.entries (same_entries state state' same) w d).number,
+      )
+
   moved_regular_after : (w : Word) → HasNewerRegular s state.entries n τ w
       → HasNewerRegular s state'.entries n τ w
   moved_regular_after w (r, l) = (
     moved_regular s state.entries state'.entries (same_entries state state' same) τ w r,
-    omega (
-      arith,
-      l,
-      (moved_same s state.entries state'.entries (same_entries state state' same) w
-          r.divisor).number,
-    ),
+    still_later r.divisor l,
   )
 
   moved_multiple_after : (w : Word) → HasNewerMultiple s state.entries n τ w
       → HasNewerMultiple s state'.entries n τ w
   moved_multiple_after w (b, l) = (
     moved_multiple s state.entries state'.entries (same_entries state state' same) τ w b,
-    omega (
-      arith,
-      l,
-      (moved_same s state.entries state'.entries (same_entries state state' same) w
-          b.divisor).number,
-    ),
+    still_later b.divisor l,
   )
 
   moved_newly : IsNewlyCovered s state n m τ → IsNewlyCovered s state' n m τ
