@@ -227,7 +227,8 @@ same_terms options bytes l l' n n' r r' a b =
 
     first : IsFirstPast (LabelTerms a.problem.problem.setting.prime a.run) options.limit l' n'
     first = subst₂ (λ (P : NamedProblem) (run : State).
-        IsFirstPast (LabelTerms P.problem.setting.prime run) options.limit l' n') (sym (same_problem bytes a.problem b.problem a.text b.text))
+        IsFirstPast (LabelTerms P.problem.setting.prime run) options.limit l' n')
+        (sym (same_problem bytes a.problem b.problem a.text b.text))
         (sym same.runs) b.first
 
     named : (l ≡ l') × (n ≡ n')
@@ -249,7 +250,8 @@ not_both options bytes e l n r r' a b =
     within : AreWithin (LabelTerms b.problem.problem.setting.prime b.run) options.limit
     within =
         subst₂ (λ (P : NamedProblem) (run : State).
-        AreWithin (LabelTerms P.problem.setting.prime run) options.limit) (same_problem bytes a.problem b.problem a.text b.text) same.runs
+        AreWithin (LabelTerms P.problem.setting.prime run) options.limit)
+        (same_problem bytes a.problem b.problem a.text b.text) same.runs
         (a.short b.full)
 
 -- what an answer comes from: too many bytes, a fault, the end of a run, or a label with too many

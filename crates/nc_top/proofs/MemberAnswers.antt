@@ -248,7 +248,8 @@ module _ (options : MemberOptions) (r : Remainder) (some : 0 < r.problem.problem
   where
     within_or_many : (m : List (Term Sig)) → Represents r options.limit m
         → (named : Listed) (terms : ℕ)
-        → IsFirstPast (ClaimTerms r.steps r.problem.problem.setting.prime r.run) options.limit named terms → ⊥
+        → IsFirstPast (ClaimTerms r.steps r.problem.problem.setting.prime r.run) options.limit named
+        terms → ⊥
     within_or_many m represents named terms many =
         not_both (ClaimTerms r.steps r.problem.problem.setting.prime r.run) options.limit named
         terms represents.within many
