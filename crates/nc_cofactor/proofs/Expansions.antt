@@ -6,16 +6,17 @@ use Rattle.nc_algebra.specs.Monomials.{Monomial, Sig}
 use Rattle.nc_algebra.specs.Problems.{IsProblem, NamedProblem}
 use Rattle.nc_algebra.specs.Sums.{Term}
 use Rattle.nc_cofactor.proofs.Filling.{few_filled}
-use Rattle.nc_cofactor.proofs.Labelled.{label_sum}
+use Rattle.nc_cofactor.proofs.Firsts.{entry_first}
 use Rattle.nc_cofactor.proofs.Needing.{names_within, needs_earlier}
-use Rattle.nc_cofactor.proofs.Once.{label_count, trace_once}
+use Rattle.nc_cofactor.proofs.Once.{label_few, label_has, trace_once}
 use Rattle.nc_cofactor.proofs.Reaching.{need_more}
 use Rattle.nc_cofactor.proofs.Runs.{label_terms, one_run}
-use Rattle.nc_cofactor.proofs.Terms.{has_terms, terms_once}
+use Rattle.nc_cofactor.proofs.Terms.{terms_once}
 use Rattle.nc_cofactor.specs.Expanding.{AreNamedLabels, FailsToExpand, FailsToSum, IsExpanded}
-use Rattle.nc_cofactor.specs.Labels.{HasLabel, IsLabelIn, IsLabelOf}
+use Rattle.nc_cofactor.specs.Firsts.{AreWithin, IsFirstPast, Precedes}
+use Rattle.nc_cofactor.specs.Labels.{HasLabel, IsLabelOf}
 use Rattle.nc_cofactor.specs.Needed.{AreFilled, FailsToFill, IsFilledAt, IsMarked, MarksName}
-use Rattle.nc_cofactor.specs.Terms.{CountsFor, EntryTerms, HasTerms, IsNeeded, IsTooMany, Names}
+use Rattle.nc_cofactor.specs.Terms.{CountedTerms, CountsFor, EntryTerms, HasTerms, IsNeeded, LabelTerms, Names}
 use Rattle.nc_cofactor.specs.Traces.{HasTrace, IsTraceIn}
 use Rattle.nc_cofactor.specs.declared.fault.CofactorFault.{CofactorFault}
 use Rattle.nc_cofactor.specs.declared.fault.CofactorFault.TheVariants.{OutOfMemory, TooMany}
@@ -57,28 +58,24 @@ module _ (P : NamedProblem) (problem : IsProblem P) (n : ℕ) (listed : Listed) 
   pub fill_fails : (e : CofactorFault) → FailsToFill P.problem n marks limit e
       → FailsToExpand P.problem n listed limit e
   fill_fails OutOfMemory f = tt
-  fill_fails (TooMany named terms) f =
+  fill_fails (TooMany (EntryOf k) terms) f =
       record {
         at = f.at;
-        many = subst (λ (l : Listed). IsTooMany P.problem.setting.prime f.at.run listed
-            limit l terms) (sym f.names) many;
+        first = entry_first (CountedTerms listed P.problem.setting.prime f.at.run) limit k terms (
+          inr (t, is_there f.at.runs, needed f.at.runs f.first.has.0),
+          f.first.has.1,
+        ) f.first.many (λ j i l c. lesser j i l c.1 (counted f.at.runs j c.0));
       }
     where
-      lesser : (j i : ℕ) → j < f.number → EntryTerms P.problem.setting.prime f.at.run j i
+      lesser : (j i : ℕ) → j < k → EntryTerms P.problem.setting.prime f.at.run j i
           → (listed ≡ EntryOf j) ⊎ IsNeeded f.at.run.entries (MarksName marks) j → i ≤ limit
-      lesser j i l terms (inl same) =
-          absurd (let b : f.number < j = needs_earlier P problem f.at.runs j t
+      lesser j i l ts (inl same) =
+          absurd (let b : k < j = needs_earlier P problem f.at.runs j t
           (subst (λ (x : Listed). IsTraceIn f.at.run x t) same (is_there f.at.runs))
-          (needed f.at.runs f.needed) in omega (arith, b, l))
-      lesser j i l terms (inr reached) = f.lesser j i reached l terms
-
-      many : IsTooMany P.problem.setting.prime f.at.run listed limit (EntryOf f.number) terms
-      many = (
-        inr (t, is_there f.at.runs, needed f.at.runs f.needed),
-        f.has,
-        f.many,
-        λ j i c l ts. lesser j i l ts (counted f.at.runs j c),
-      )
+          (needed f.at.runs f.first.has.0) in omega (arith, b, l))
+      lesser j i l ts (inr reached) = f.first.before (EntryOf j) i l (reached, ts)
+  fill_fails (TooMany (SyzygyOf k) terms) f = absurd f.first.has
+  fill_fails (TooMany Claim terms) f = absurd f.first.has
 
   -- ---- the item
 
@@ -97,21 +94,12 @@ module _ (P : NamedProblem) (problem : IsProblem P) (n : ℕ) (listed : Listed) 
         record {
           at = h.at;
           is = own;
-          within = record
-              { entries = λ j i c terms. entries j i terms (counted h.at.runs j c); item = item };
+          within = within;
         }
       where
         own : IsLabelOf P.problem.setting h.at.run listed m
         own = subst (λ (r : State). IsLabelOf P.problem.setting r listed m)
             (one_run P problem n l.at.runs h.at.runs) l.is
-
-        item : (α : Element) (i : ℕ) → IsLabelIn P.problem.setting.prime h.at.run listed α
-            → HasTerms P.problem.setting.prime α i → i ≤ limit
-        item α i is terms =
-            let same : i ≡ length m =
-            terms_once P.problem.setting.prime α i (length m) terms
-            (label_count P.problem.setting h.at.run listed m own α is) in
-            omega (arith, same, few)
 
         entries : (j i : ℕ) → EntryTerms P.problem.setting.prime h.at.run j i → (listed ≡ EntryOf j)
             ⊎ IsNeeded h.at.run.entries (MarksName marks) j → i ≤ limit
@@ -126,25 +114,29 @@ module _ (P : NamedProblem) (problem : IsProblem P) (n : ℕ) (listed : Listed) 
         entries j i terms (inr reached) =
             few_filled P problem n marks limit labels h j i reached terms
 
+        within : AreWithin (CountedTerms listed P.problem.setting.prime h.at.run) limit
+        within (EntryOf j) i (c, ts) = entries j i ts (counted h.at.runs j c)
+        within (SyzygyOf k) i (e, own_terms) =
+            label_few P.problem.setting h.at.run listed m own limit few i own_terms
+        within Claim i c = absurd c
+
     pub item_fails : (e : CofactorFault) → FailsToSum P.problem n listed limit e
         → FailsToExpand P.problem n listed limit e
     item_fails OutOfMemory f = tt
     item_fails (TooMany named terms) f =
         record {
           at = h.at;
-          many = subst (λ (l : Listed). IsTooMany P.problem.setting.prime h.at.run
-              listed limit l terms) (sym f.names) (many listed refl);
+          first = subst (λ (l : Listed). IsFirstPast
+              (CountedTerms listed P.problem.setting.prime h.at.run) limit l terms) (sym f.names)
+              (first listed refl);
         }
       where
         own : IsLabelOf P.problem.setting h.at.run listed f.label
         own = subst (λ (r : State). IsLabelOf P.problem.setting r listed f.label)
             (one_run P problem n f.has.at.runs h.at.runs) f.has.is
 
-        terms_are : HasTerms P.problem.setting.prime own.label terms
-        terms_are =
-            subst (λ i. HasTerms P.problem.setting.prime own.label i) (sym f.count)
-            (has_terms P.problem.setting own.label f.label
-            (label_sum P.problem.setting h.at.run listed f.label own))
+        own_terms : LabelTerms P.problem.setting.prime h.at.run listed terms
+        own_terms = label_has P.problem.setting h.at.run listed f.label own terms f.count
 
         lesser : (k j i : ℕ) → listed ≡ EntryOf k → j < k
             → EntryTerms P.problem.setting.prime h.at.run j i → (listed ≡ EntryOf j)
@@ -164,25 +156,32 @@ module _ (P : NamedProblem) (problem : IsProblem P) (n : ℕ) (listed : Listed) 
         others k j i e terms (inr reached) =
             few_filled P problem n marks limit labels h j i reached terms
 
-        many : (l : Listed) → listed ≡ l
-            → IsTooMany P.problem.setting.prime h.at.run listed limit l terms
-        many (EntryOf k) e =
-            let is : IsLabelIn P.problem.setting.prime h.at.run (EntryOf k) own.label =
-            subst (λ (l : Listed). IsLabelIn P.problem.setting.prime h.at.run l own.label) e
-            own.is in (
+        first : (l : Listed) → listed ≡ l
+            → IsFirstPast (CountedTerms listed P.problem.setting.prime h.at.run) limit l terms
+        first (EntryOf k) e =
+            entry_first (CountedTerms listed P.problem.setting.prime h.at.run) limit k terms (
               inl e,
-              subst (λ (α : Element). HasTerms P.problem.setting.prime α terms) is.2
-                  terms_are,
-              f.many,
-              λ j i c l ts. lesser k j i e l ts (counted h.at.runs j c),
-            )
-        many (SyzygyOf k) e = (
-          e,
-          (own.label, own.is, terms_are),
-          f.many,
-          λ j i c ts. others k j i e ts (counted h.at.runs j c),
-        )
-        many Claim e = absurd (subst (λ (l : Listed). IsTraceIn h.at.run l t) e (is_there h.at.runs))
+              at_entry k (subst (λ (l : Listed). LabelTerms P.problem.setting.prime h.at.run l
+                  terms) e own_terms),
+            ) f.many
+            (λ j i l c. lesser k j i e l c.1 (counted h.at.runs j c.0))
+          where
+            at_entry : (k : ℕ) → LabelTerms P.problem.setting.prime h.at.run (EntryOf k) terms
+                → EntryTerms P.problem.setting.prime h.at.run k terms
+            at_entry k (α, is, has) =
+                subst (λ (β : Element). HasTerms P.problem.setting.prime β terms) is.2 has
+        first (SyzygyOf k) e =
+            record { has = (e, own_terms); many = f.many; before = before }
+          where
+            before : (other : Listed) (i : ℕ) → Precedes other (SyzygyOf k)
+                → CountedTerms listed P.problem.setting.prime h.at.run other i → i ≤ limit
+            before (EntryOf j) i l (c, ts) = others k j i e ts (counted h.at.runs j c)
+            before (SyzygyOf j) i l (d, ts) =
+                absurd (let same : SyzygyOf k ≡ SyzygyOf j = sym e ∙ d in let one : k ≡ j = cc in
+                omega (arith, one, l))
+            before Claim i l c = absurd c
+        first Claim e =
+            absurd (subst (λ (l : Listed). IsTraceIn h.at.run l t) e (is_there h.at.runs))
 
     -- ---- what the code gives
 

@@ -5,6 +5,7 @@
 use Rattle.nc_algebra.specs.Monomials.{Sig}
 use Rattle.nc_algebra.specs.Problems.{IsProblem, NamedProblem, Problem}
 use Rattle.nc_algebra.specs.Sums.{Term}
+use Rattle.nc_cofactor.proofs.Firsts.{entry_first}
 use Rattle.nc_cofactor.proofs.Labelled.{problem_field}
 use Rattle.nc_cofactor.proofs.Named.{names_earlier}
 use Rattle.nc_cofactor.proofs.Needing.{compared, reached_within}
@@ -12,14 +13,16 @@ use Rattle.nc_cofactor.proofs.Places.{earlier_there, last_there}
 use Rattle.nc_cofactor.proofs.Runs.{entries_kept, label_terms, one_run}
 use Rattle.nc_cofactor.proofs.Terms.{terms_once}
 use Rattle.nc_cofactor.specs.Expanding.{AreNamedLabels, FailsToSum}
+use Rattle.nc_cofactor.specs.Firsts.{IsFirstPast}
 use Rattle.nc_cofactor.specs.Labels.{IsLabelOf}
-use Rattle.nc_cofactor.specs.Needed.{AreFilled, AreFound, FailsToFill, IsFilledAt, IsFound, IsNewLabel, MarksName}
+use Rattle.nc_cofactor.specs.Needed.{AreFilled, AreFound, FailsToFill, IsFilledAt, IsFound, IsNewLabel, MarkedTerms, MarksName}
 use Rattle.nc_cofactor.specs.Terms.{EntryTerms, IsNeeded, Names}
 use Rattle.nc_cofactor.specs.Traces.{IsTraceIn, RunAt}
 use Rattle.nc_cofactor.specs.declared.fault.CofactorFault.{CofactorFault}
 use Rattle.nc_cofactor.specs.declared.fault.CofactorFault.TheVariants.{OutOfMemory, TooMany}
 use Rattle.nc_snapshot.proofs.Limits.{snapshot_counts}
 use Rattle.nc_snapshot.specs.Snapshots.{IsSnapshot, Snapshot}
+use Rattle.nc_snapshot.specs.declared.outcome.Listed.{Listed}
 use Rattle.nc_snapshot.specs.declared.outcome.Listed.TheVariants.{Entry as EntryOf}
 use Rattle.nc_theory.specs.Labels.{label_at, labels_of}
 use Rattle.nc_theory.specs.States.{State, Trace}
@@ -178,14 +181,15 @@ module _ (P : NamedProblem) (problem : IsProblem P) (n : ℕ) (marks : List Bool
           slot_fails x e OutOfMemory f = tt
           slot_fails x e (TooMany named terms) f = record {
             at = h.at;
-            size = h.size;
-            number = length labels + 1;
-            names = f.names;
-            needed = s.1;
-            has = subst (λ i. EntryTerms P.problem.setting.prime h.at.run (length labels + 1) i)
-                (sym f.count) (label_terms P problem n h.at.run (length labels + 1) f.label new);
-            many = f.many;
-            lesser = λ j i reached l terms. few_there j i reached (omega (arith, l)) terms;
+            first = subst (λ (l : Listed). IsFirstPast
+                (MarkedTerms marks P.problem.setting.prime h.at.run) limit l terms) (sym f.names)
+                (entry_first (MarkedTerms marks P.problem.setting.prime h.at.run) limit
+                (length labels + 1) terms (
+                  s.1,
+                  subst (λ i. EntryTerms P.problem.setting.prime h.at.run (length labels + 1) i)
+                      (sym f.count) (label_terms P problem n h.at.run (length labels + 1)
+                      f.label new),
+                ) f.many (λ j i l c. few_there j i c.0 (omega (arith, l)) c.1));
           }
             where
               s : IsFound h.at.run marks (length labels + 1) (Some x)

@@ -13,6 +13,7 @@ pub mod Counts
 pub mod Labelled
 pub mod Once
 pub mod Ordered
+pub mod Firsts
 pub mod Existence
 pub mod Steps
 pub mod Runs

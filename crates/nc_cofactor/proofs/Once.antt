@@ -8,13 +8,13 @@ use Rattle.nc_cofactor.proofs.Terms.{has_terms, sum_once, terms_once}
 use Rattle.nc_cofactor.specs.Labels.{IsLabelIn, IsLabelOf}
 use Rattle.nc_cofactor.specs.Laws.{OneLabel}
 use Rattle.nc_cofactor.specs.Sums.{IsSum}
-use Rattle.nc_cofactor.specs.Terms.{HasTerms}
+use Rattle.nc_cofactor.specs.Terms.{HasTerms, LabelTerms}
 use Rattle.nc_cofactor.specs.Traces.{IsTraceIn}
 use Rattle.nc_snapshot.specs.declared.outcome.Listed.{Listed}
 use Rattle.nc_snapshot.specs.declared.outcome.Listed.TheVariants.{Claim, Entry as EntryOf, Syzygy as SyzygyOf}
 use Rattle.nc_theory.specs.Labels.{labels_of, trace_label}
 use Rattle.nc_theory.specs.States.{Entry, State, Syzygy, Trace}
-use Rattle.std.proofs.Common.{List, Some, ap, length, subst, sym, ℕ, ◌∙◌, ◌≡◌}
+use Rattle.std.proofs.Common.{List, Some, ap, arith, length, subst, sym, ℕ, ◌∙◌, ◌≡◌, ◌≤◌}
 
 pub trace_once : (run : State) (listed : Listed) (t t' : Trace) → IsTraceIn run listed t
     → IsTraceIn run listed t' → t ≡ t'
@@ -44,6 +44,24 @@ label_count s run listed m l α is =
     subst (λ (β : Element). HasTerms s.prime β (length m))
     (label_once s.prime run listed l.label α l.is is)
     (has_terms s l.label m (label_sum s run listed m l))
+
+pub label_has : (s : Setting) (run : State) (listed : Listed) (m : List (Term Sig))
+    → IsLabelOf s run listed m → (n : ℕ) → n ≡ length m → LabelTerms s.prime run listed n
+label_has s run listed m l n count = (
+  l.label,
+  l.is,
+  subst (λ i. HasTerms s.prime l.label i) (sym count) (label_count s run listed m l l.label l.is),
+)
+
+pub label_few : (s : Setting) (run : State) (listed : Listed) (m : List (Term Sig))
+    → IsLabelOf s run listed m → (limit : ℕ) → length m ≤ limit → (n : ℕ)
+    → LabelTerms s.prime run listed n → n ≤ limit
+label_few s run listed m l limit few n (α, is, h) =
+    omega (
+      arith,
+      terms_once s.prime α n (length m) h (label_count s run listed m l α is),
+      few,
+    )
 
 pub one_label : OneLabel
 one_label s some run listed = (lists, label_count s run listed, terms_once s.prime)

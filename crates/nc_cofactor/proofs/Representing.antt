@@ -5,6 +5,7 @@ use Rattle.nc_algebra.proofs.Finite.{contains_among}
 use Rattle.nc_algebra.specs.Monomials.{Monomial, Sig}
 use Rattle.nc_algebra.specs.Sums.{Term}
 use Rattle.nc_cofactor.proofs.Filling.{few_filled}
+use Rattle.nc_cofactor.proofs.Firsts.{entry_first}
 use Rattle.nc_cofactor.proofs.Items.{subtracted_light}
 use Rattle.nc_cofactor.proofs.Keys.{all_among}
 use Rattle.nc_cofactor.proofs.Labelled.{StandsAt, addable_steps, steps_whole}
@@ -13,16 +14,16 @@ use Rattle.nc_cofactor.proofs.Named.{AreLight, IsLight}
 use Rattle.nc_cofactor.proofs.Reaching.{need_more}
 use Rattle.nc_cofactor.proofs.Runs.{entries_kept, one_run}
 use Rattle.nc_cofactor.proofs.Terms.{has_terms, terms_once}
-use Rattle.nc_cofactor.specs.Claims.{AreSubtracted, FailsToRepresent, IsRepresentation, IsTooManyFor, IsTooManyForAt, numbers_of}
+use Rattle.nc_cofactor.specs.Claims.{AreSubtracted, ClaimTerms, FailsToRepresent, IsRepresentation, numbers_of}
+use Rattle.nc_cofactor.specs.Firsts.{AreWithin, Precedes}
 use Rattle.nc_cofactor.specs.Needed.{AreFilled, FailsToFill, IsFilledAt, IsMarked, MarksName, StepsName}
-use Rattle.nc_cofactor.specs.Terms.{IsNeeded}
+use Rattle.nc_cofactor.specs.Terms.{EntryTerms, HasTerms, IsFirstPastAt, IsNeeded}
 use Rattle.nc_cofactor.specs.Sums.{AreSummable, IsSum, elements_of}
-use Rattle.nc_cofactor.specs.Terms.{HasTerms}
 use Rattle.nc_cofactor.specs.declared.fault.CofactorFault.{CofactorFault}
 use Rattle.nc_cofactor.specs.declared.fault.CofactorFault.TheVariants.{OutOfMemory, TooMany}
 use Rattle.nc_snapshot.specs.Snapshots.{IsSnapshot, Snapshot}
 use Rattle.nc_snapshot.specs.declared.outcome.Listed.{Listed}
-use Rattle.nc_snapshot.specs.declared.outcome.Listed.TheVariants.{Claim}
+use Rattle.nc_snapshot.specs.declared.outcome.Listed.TheVariants.{Claim, Entry as EntryOf, Syzygy as SyzygyOf}
 use Rattle.nc_theory.specs.Labels.{labels_of, step_multiples}
 use Rattle.nc_theory.specs.Runs.{SequentialRun}
 use Rattle.nc_theory.specs.States.{State, Step}
@@ -104,16 +105,14 @@ module _ (s : Snapshot) (is : IsSnapshot s) (steps : List Step)
     pub fill_fails : (e : CofactorFault) → FailsToFill s.problem.problem s.handled marks limit e
         → FailsToRepresent s.problem.problem s.handled steps limit e
     fill_fails OutOfMemory f = tt
-    fill_fails (TooMany named terms) f = record {
+    fill_fails (TooMany (EntryOf k) terms) f = record {
       at = f.at;
-      many = subst (λ (l : Listed). IsTooManyFor s.problem.problem.setting.prime f.at.run steps limit l
-          terms) (sym f.names) (
-            needed f.at.run f.needed,
-            f.has,
-            f.many,
-            λ j m n l ts. f.lesser j m (need f.at.run n) l ts,
-          );
+      first = entry_first (ClaimTerms steps s.problem.problem.setting.prime f.at.run) limit k terms
+          (needed f.at.run f.first.has.0, f.first.has.1) f.first.many
+          (λ j m l c. f.first.before (EntryOf j) m l (need f.at.run c.0, c.1));
     }
+    fill_fails (TooMany (SyzygyOf k) terms) f = absurd f.first.has
+    fill_fails (TooMany Claim terms) f = absurd f.first.has
 
     module _ (labels : List (List (Term Sig)))
         (h : AreFilled s.problem.problem s.handled marks limit labels) where
@@ -141,36 +140,50 @@ module _ (s : Snapshot) (is : IsSnapshot s) (steps : List Step)
               has_terms s.problem.problem.setting
               (step_multiples (labels_of s.problem.problem.setting.prime h.at.run.entries) steps) m own
 
-          pub represents : length m ≤ limit
-              → IsRepresentation s.problem.problem s.handled steps limit m
-          represents few = record {
-            at = h.at;
-            is = own;
-            within = record {
-              entries =
-                  λ j i n terms. few_filled s.problem is.problem s.handled marks limit labels h j i
-                  (need h.at.run n) terms;
-              sum = λ i terms. omega (
+          needed_few : (j i : ℕ) → IsNeeded h.at.run.entries (Contains (numbers_of steps)) j
+              → EntryTerms s.problem.problem.setting.prime h.at.run j i → i ≤ limit
+          needed_few j i n terms =
+              few_filled s.problem is.problem s.handled marks limit labels h j i
+              (need h.at.run n) terms
+
+          within : length m ≤ limit
+              → AreWithin (ClaimTerms steps s.problem.problem.setting.prime h.at.run) limit
+          within few (EntryOf j) i (n, terms) = needed_few j i n terms
+          within few (SyzygyOf k) i c = absurd c
+          within few Claim i terms =
+              omega (
                 arith,
                 terms_once s.problem.problem.setting.prime
                     (step_multiples (labels_of s.problem.problem.setting.prime h.at.run.entries) steps)
                     i
                     (length m) terms own_terms,
                 few,
-              );
-            };
+              )
+
+          pub represents : length m ≤ limit
+              → IsRepresentation s.problem.problem s.handled steps limit m
+          represents few = record {
+            at = h.at;
+            is = own;
+            within = within few;
           }
 
           pub claim_fails : (terms : ℕ) → terms ≡ length m → limit < terms
-              → IsTooManyForAt s.problem.problem s.handled steps limit Claim terms
-          claim_fails terms count many = record {
-            at = h.at;
-            many = (
-              subst (λ i. HasTerms s.problem.problem.setting.prime
-                  (step_multiples (labels_of s.problem.problem.setting.prime h.at.run.entries) steps)
-                  i) (sym count) own_terms,
-              many,
-              λ j i n ts. few_filled s.problem is.problem s.handled marks limit labels h j i
-                  (need h.at.run n) ts,
-            );
-          }
+              → IsFirstPastAt s.problem.problem s.handled (ClaimTerms steps) limit Claim terms
+          claim_fails terms count many =
+              record {
+                at = h.at;
+                first = record {
+                  has = subst (λ i. HasTerms s.problem.problem.setting.prime
+                      (step_multiples (labels_of s.problem.problem.setting.prime h.at.run.entries)
+                      steps) i) (sym count) own_terms;
+                  many = many;
+                  before = before;
+                };
+              }
+            where
+              before : (other : Listed) (i : ℕ) → Precedes other Claim
+                  → ClaimTerms steps s.problem.problem.setting.prime h.at.run other i → i ≤ limit
+              before (EntryOf j) i l (n, ts) = needed_few j i n ts
+              before (SyzygyOf j) i l c = absurd c
+              before Claim i l c = absurd l

@@ -1,23 +1,23 @@
 -- Labels over one run: places that are filled one after the other, and labels with too many terms.
-use Rattle.nc_algebra.specs.Elements.{Element}
 use Rattle.nc_algebra.specs.Monomials.{Monomial, Sig}
 use Rattle.nc_algebra.specs.Problems.{IsProblem, NamedProblem, Problem}
 use Rattle.nc_algebra.specs.Sums.{Term}
+use Rattle.nc_cofactor.proofs.Firsts.{entry_first}
 use Rattle.nc_cofactor.proofs.Labelled.{labelled, problem_field, summable}
 use Rattle.nc_cofactor.proofs.Named.{IsAnyNamed, IsSigned, any_named, names_earlier, signed}
-use Rattle.nc_cofactor.proofs.Once.{label_count}
+use Rattle.nc_cofactor.proofs.Once.{label_count, label_few, label_has}
 use Rattle.nc_cofactor.proofs.Places.{pushed}
-use Rattle.nc_cofactor.proofs.Terms.{terms_once}
 use Rattle.nc_cofactor.specs.Expanding.{AreNamedLabels, FailsToLabel, FailsToLabelSyzygies, FailsToSum}
+use Rattle.nc_cofactor.specs.Firsts.{IsFirstPast, Precedes}
 use Rattle.nc_cofactor.specs.Labels.{AreLabels, AreSyzygyLabels, HasLabel, IsLabelIn, IsLabelOf}
 use Rattle.nc_cofactor.specs.Sums.{IsSummable, IsTraceSum}
-use Rattle.nc_cofactor.specs.Terms.{EntryTerms, HasTerms, Names}
+use Rattle.nc_cofactor.specs.Terms.{EntryLabelTerms, EntryTerms, LabelTerms, Names, SyzygyLabelTerms}
 use Rattle.nc_cofactor.specs.Traces.{HasTrace, IsTraceIn, RunAt}
 use Rattle.nc_cofactor.specs.declared.fault.CofactorFault.{CofactorFault}
 use Rattle.nc_cofactor.specs.declared.fault.CofactorFault.TheVariants.{OutOfMemory, TooMany}
 use Rattle.nc_theory.specs.Untraced.{IsRunOf, untraced_entry}
 use Rattle.nc_snapshot.specs.declared.outcome.Listed.{Listed}
-use Rattle.nc_snapshot.specs.declared.outcome.Listed.TheVariants.{Entry as EntryOf, Syzygy as SyzygyOf}
+use Rattle.nc_snapshot.specs.declared.outcome.Listed.TheVariants.{Claim, Entry as EntryOf, Syzygy as SyzygyOf}
 use Rattle.nc_theory.proofs.Determinism.{run_unique}
 use Rattle.nc_theory.specs.Labels.{label_at, labels_of}
 use Rattle.nc_theory.specs.Runs.{SequentialRun}
@@ -69,6 +69,20 @@ module _ (P : NamedProblem) (problem : IsProblem P) (n : ℕ) where
       (label_at (labels_of P.problem.setting.prime run.entries) k) (l.is.0, l.is.1, refl)
 
   -- ---- labels one after the other
+
+  -- those that are there have few terms
+  module _ (labels : List (List (Term Sig))) (kind : ℕ → Listed) (run : State) (k limit : ℕ)
+      (few : All (λ m. length m ≤ limit) labels) (next : k ≡ length labels + 1)
+      (are : (j : ℕ) (m : List (Term Sig)) → 1 ≤ j → slice_get labels (j - 1) ≡ Some m
+      → IsLabelOf P.problem.setting run (kind j) m) where
+    few_pushed : (j i : ℕ) → 1 ≤ j → j < k → LabelTerms P.problem.setting.prime run (kind j) i
+        → i ≤ limit
+    few_pushed j i some l has =
+        let m : List (Term Sig) = get_or labels (j - 1) [] in
+        let within : j - 1 < length labels = omega (arith, l, next, some) in
+        label_few P.problem.setting run (kind j) m
+        (are j m some (slice_get-get_or labels (j - 1) [] within)) limit (few (j - 1) [] within) i
+        has
 
   module _ (labels : List (List (Term Sig))) (a : AreLabels P.problem n labels) where
     place : (j : ℕ) → 1 ≤ j → j ≤ length labels → (m : List (Term Sig))
@@ -140,31 +154,21 @@ module _ (P : NamedProblem) (problem : IsProblem P) (n : ℕ) where
     first_fails k limit OutOfMemory few next h = tt
     first_fails k limit (TooMany named terms) few next h = record {
       at = a.at;
-      number = k;
-      names = h.names;
-      some = new.is.0;
-      within = new.is.1;
-      has = subst (λ i. EntryTerms P.problem.setting.prime a.at.run k i) (sym h.count)
-          (label_terms a.at.run k h.label new);
-      many = h.many;
-      lesser = lesser;
+      first = subst (λ (l : Listed). IsFirstPast
+          (EntryLabelTerms P.problem.setting.prime a.at.run) limit l terms) (sym h.names)
+          (entry_first (EntryLabelTerms P.problem.setting.prime a.at.run) limit k terms
+          (label_has P.problem.setting a.at.run (EntryOf k) h.label new terms h.count) h.many
+          lesser);
     }
       where
         new : IsLabelOf P.problem.setting a.at.run (EntryOf k) h.label
         new = subst (λ (r : State). IsLabelOf P.problem.setting r (EntryOf k) h.label)
             (one_run h.has.at.runs a.at.runs) h.has.is
 
-        lesser : (j i : ℕ) → 1 ≤ j → j < k → EntryTerms P.problem.setting.prime a.at.run j i
+        lesser : (j i : ℕ) → j < k → LabelTerms P.problem.setting.prime a.at.run (EntryOf j) i
             → i ≤ limit
-        lesser j i some l t =
-            let m : List (Term Sig) = get_or labels (j - 1) [] in
-            let within : j - 1 < length labels = omega (arith, l, next, some) in
-            let same : i ≡ length m =
-            terms_once P.problem.setting.prime
-            (label_at (labels_of P.problem.setting.prime a.at.run.entries) j) i (length m) t
-            (label_terms a.at.run j m (a.are j m some (slice_get-get_or labels (j - 1) [] within)))
-            in
-            omega (arith, same, few (j - 1) [] within)
+        lesser j i l (α, is, t) =
+            few_pushed labels EntryOf a.at.run k limit few next a.are j i is.0 l (α, is, t)
 
   -- ---- syzygies one after the other
 
@@ -207,32 +211,21 @@ module _ (P : NamedProblem) (problem : IsProblem P) (n : ℕ) where
     first_syzygy_fails k limit OutOfMemory few next h = tt
     first_syzygy_fails k limit (TooMany named terms) few next h = record {
       at = a.at;
-      number = k;
-      names = h.names;
-      some = (syzygy_within k h.label new).0;
-      within = (syzygy_within k h.label new).1;
-      has = (
-        new.label,
-        new.is,
-        subst (λ i. HasTerms P.problem.setting.prime new.label i)
-            (sym h.count) (label_count P.problem.setting a.at.run (SyzygyOf k) h.label new new.label
-            new.is),
-      );
-      many = h.many;
-      lesser = lesser;
+      first = subst (λ (l : Listed). IsFirstPast
+          (SyzygyLabelTerms P.problem.setting.prime a.at.run) limit l terms) (sym h.names) (record {
+            has = label_has P.problem.setting a.at.run (SyzygyOf k) h.label new terms h.count;
+            many = h.many;
+            before = before;
+          });
     }
       where
         new : IsLabelOf P.problem.setting a.at.run (SyzygyOf k) h.label
         new = next_syzygy k h.label h.has
 
-        lesser : (j i : ℕ) (α : Element) → 1 ≤ j → j < k
-            → IsLabelIn P.problem.setting.prime a.at.run (SyzygyOf j) α
-            → HasTerms P.problem.setting.prime α i → i ≤ limit
-        lesser j i α some l is terms =
-            let m : List (Term Sig) = get_or labels (j - 1) [] in
-            let within : j - 1 < length labels = omega (arith, l, next, some) in
-            let same : i ≡ length m =
-            terms_once P.problem.setting.prime α i (length m) terms
-            (label_count P.problem.setting a.at.run (SyzygyOf j) m
-            (a.are j m some (slice_get-get_or labels (j - 1) [] within)) α is) in
-            omega (arith, same, few (j - 1) [] within)
+        before : (other : Listed) (i : ℕ) → Precedes other (SyzygyOf k)
+            → SyzygyLabelTerms P.problem.setting.prime a.at.run other i → i ≤ limit
+        before (EntryOf j) i l c = absurd c
+        before (SyzygyOf j) i l (α, (t, (g, some, at, same), e), has) =
+            few_pushed labels SyzygyOf a.at.run k limit few next a.are j i some l
+            (α, (t, (g, some, at, same), e), has)
+        before Claim i l c = absurd c

@@ -10,8 +10,9 @@ use Rattle.nc_algebra.specs.Monomials.{Sig}
 use Rattle.nc_algebra.specs.Polynomials.{Polynomial}
 use Rattle.nc_algebra.specs.Problems.{IsWithin, Problem}
 use Rattle.nc_algebra.specs.Sums.{Term}
+use Rattle.nc_cofactor.specs.Firsts.{AreWithin}
 use Rattle.nc_cofactor.specs.Sums.{IsSum}
-use Rattle.nc_cofactor.specs.Terms.{EntryTerms, HasTerms, IsNeeded}
+use Rattle.nc_cofactor.specs.Terms.{EntryTerms, HasTerms, IsFirstPastAt, IsNeeded}
 use Rattle.nc_cofactor.specs.Traces.{IsTraceIn, RunAt}
 use Rattle.nc_cofactor.specs.declared.fault.CofactorFault.{CofactorFault}
 use Rattle.nc_cofactor.specs.declared.fault.CofactorFault.TheVariants.{OutOfMemory, TooMany}
@@ -21,7 +22,7 @@ use Rattle.nc_theory.specs.Labels.{labels_of, step_multiples}
 use Rattle.nc_theory.specs.Reductions.{Reduction}
 use Rattle.nc_theory.specs.States.{Entry, State, Step, Trace}
 use Rattle.std.specs.List.Sorted.{IsStrictlyIncreasing}
-use Rattle.std.specs.Prelude.{All, Contains, List, map, ℕ, ◌<◌, ◌↔◌, ◌≤◌}
+use Rattle.std.specs.Prelude.{All, Contains, List, map, ℕ, ◌↔◌}
 
 -- ---- the entries that are needed
 
@@ -53,12 +54,13 @@ abbrev pub AreSubtracted : Problem → List Entry → List Step → Type 0
 AreSubtracted P entries steps =
     (f : Polynomial) × (rest : Polynomial) × Reduction P.setting entries (IsWithin P) f rest steps
 
--- the label of each entry that the steps need has at most so many terms, and so has their sum
-pub record AreWithinLimit (p : ℕ) (run : State) (steps : List Step) (limit : ℕ) : Type 0 where
-  pub entries : (j n : ℕ) → IsNeeded run.entries (Contains (numbers_of steps)) j
-      → EntryTerms p run j n
-      → n ≤ limit
-  pub sum : (n : ℕ) → HasTerms p (step_multiples (labels_of p run.entries) steps) n → n ≤ limit
+-- the label of an entry that the steps need has n terms, or the sum of their labels has, which is
+-- the claim's representation
+abbrev pub ClaimTerms : List Step → ℕ → State → Listed → ℕ → Type 0
+ClaimTerms steps p run (EntryOf j) n =
+    IsNeeded run.entries (Contains (numbers_of steps)) j × EntryTerms p run j n
+ClaimTerms steps p run (SyzygyOf k) n = ⊥
+ClaimTerms steps p run Claim n = HasTerms p (step_multiples (labels_of p run.entries) steps) n
 
 -- the sum of the multiples of labels, in normal form, where no label that counts has more terms
 -- than the limit
@@ -66,28 +68,10 @@ pub record IsRepresentation (P : Problem) (n : ℕ) (steps : List Step) (limit :
     (m : List (Term Sig)) : Type 0 where
   pub at : RunAt P n
   pub is : IsSum P.setting (step_multiples (labels_of P.setting.prime at.run.entries) steps) m
-  pub within : AreWithinLimit P.setting.prime at.run steps limit
-
--- the item named has more: the least needed entry whose label has, or where there is none the
--- claim, whose representation has
-abbrev pub IsTooManyFor : ℕ → State → List Step → ℕ → Listed → ℕ → Type 0
-IsTooManyFor p run steps limit (EntryOf k) n =
-    IsNeeded run.entries (Contains (numbers_of steps)) k × EntryTerms p run k n × (limit < n)
-    × ((j m : ℕ) → IsNeeded run.entries (Contains (numbers_of steps)) j → j < k
-    → EntryTerms p run j m → m ≤ limit)
-IsTooManyFor p run steps limit (SyzygyOf k) n = ⊥
-IsTooManyFor p run steps limit Claim n =
-    HasTerms p (step_multiples (labels_of p run.entries) steps) n × (limit < n)
-    × ((j m : ℕ) → IsNeeded run.entries (Contains (numbers_of steps)) j
-    → EntryTerms p run j m → m ≤ limit)
-
--- so in the run after n steps
-pub record IsTooManyForAt (P : Problem) (n : ℕ) (steps : List Step) (limit : ℕ) (named : Listed)
-    (terms : ℕ) : Type 0 where
-  pub at : RunAt P n
-  pub many : IsTooManyFor P.setting.prime at.run steps limit named terms
+  pub within : AreWithin (ClaimTerms steps P.setting.prime at.run) limit
 
 -- why no representation was given; want of memory says nothing
 abbrev pub FailsToRepresent : Problem → ℕ → List Step → ℕ → CofactorFault → Type 0
 FailsToRepresent P n steps limit OutOfMemory = Unit {0}
-FailsToRepresent P n steps limit (TooMany named terms) = IsTooManyForAt P n steps limit named terms
+FailsToRepresent P n steps limit (TooMany named terms) =
+    IsFirstPastAt P n (ClaimTerms steps) limit named terms

@@ -6,8 +6,9 @@
 use Rattle.nc_algebra.specs.Monomials.{Sig}
 use Rattle.nc_algebra.specs.Problems.{Problem}
 use Rattle.nc_algebra.specs.Sums.{Term}
+use Rattle.nc_cofactor.specs.Firsts.{AreWithin}
 use Rattle.nc_cofactor.specs.Labels.{HasLabel, IsLabelOf}
-use Rattle.nc_cofactor.specs.Terms.{IsFirstTooMany, IsFirstTooManySyzygy, IsTooManyAt, IsWithinLimit, Names}
+use Rattle.nc_cofactor.specs.Terms.{CountedTerms, EntryLabelTerms, IsFirstPastAt, Names, SyzygyLabelTerms}
 use Rattle.nc_cofactor.specs.Traces.{IsTraceIn, RunAt}
 use Rattle.nc_cofactor.specs.declared.fault.CofactorFault.{CofactorFault}
 use Rattle.nc_cofactor.specs.declared.fault.CofactorFault.TheVariants.{OutOfMemory, TooMany}
@@ -31,22 +32,24 @@ pub record IsExpanded (P : Problem) (n : ℕ) (listed : Listed) (limit : ℕ)
     (m : List (Term Sig)) : Type 0 where
   pub at : RunAt P n
   pub is : IsLabelOf P.setting at.run listed m
-  pub within : IsWithinLimit P.setting.prime at.run listed limit
+  pub within : AreWithin (CountedTerms listed P.setting.prime at.run) limit
 
 -- why an expansion gave no label; want of memory says nothing
 abbrev pub FailsToExpand : Problem → ℕ → Listed → ℕ → CofactorFault → Type 0
 FailsToExpand P n listed limit OutOfMemory = Unit {0}
-FailsToExpand P n listed limit (TooMany named terms) = IsTooManyAt P n listed limit named terms
+FailsToExpand P n listed limit (TooMany named terms) =
+    IsFirstPastAt P n (CountedTerms listed) limit named terms
 
 -- why not all entries were given labels: the least one whose label has more terms than the limit
 abbrev pub FailsToLabel : Problem → ℕ → ℕ → CofactorFault → Type 0
 FailsToLabel P n limit OutOfMemory = Unit {0}
-FailsToLabel P n limit (TooMany named terms) = IsFirstTooMany P n limit named terms
+FailsToLabel P n limit (TooMany named terms) = IsFirstPastAt P n EntryLabelTerms limit named terms
 
 -- why not all syzygies were given labels: the least one whose label has more terms than the limit
 abbrev pub FailsToLabelSyzygies : Problem → ℕ → ℕ → CofactorFault → Type 0
 FailsToLabelSyzygies P n limit OutOfMemory = Unit {0}
-FailsToLabelSyzygies P n limit (TooMany named terms) = IsFirstTooManySyzygy P n limit named terms
+FailsToLabelSyzygies P n limit (TooMany named terms) =
+    IsFirstPastAt P n SyzygyLabelTerms limit named terms
 
 -- the item's own label has more terms than the limit
 pub record HasTooMany (P : Problem) (n : ℕ) (listed : Listed) (limit : ℕ) (named : Listed)

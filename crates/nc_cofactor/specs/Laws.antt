@@ -7,8 +7,9 @@ use Rattle.nc_algebra.specs.Elements.{Element, Setting}
 use Rattle.nc_algebra.specs.Monomials.{Sig}
 use Rattle.nc_algebra.specs.Primes.{IsPrime}
 use Rattle.nc_algebra.specs.Sums.{Term}
+use Rattle.nc_cofactor.specs.Firsts.{AreWithin, IsFirstPast}
 use Rattle.nc_cofactor.specs.Labels.{IsLabelIn, IsLabelOf}
-use Rattle.nc_cofactor.specs.Terms.{AllWithin, HasTerms, IsFirstOf}
+use Rattle.nc_cofactor.specs.Terms.{HasTerms, LabelTerms}
 use Rattle.nc_snapshot.specs.declared.outcome.Listed.{Listed}
 use Rattle.nc_theory.specs.States.{State}
 use Rattle.std.specs.Prelude.{List, length, ℕ, ◌<◌, ◌≡◌, ◌⊎◌}
@@ -31,9 +32,9 @@ LabelsExist =
 -- never two
 abbrev pub OneFirst : Type 0
 OneFirst = (s : Setting) → IsPrime s.prime → (run : State) (limit : ℕ) →
-    (AllWithin s.prime run limit ⊎ ((named : Listed) × (n : ℕ)
-    × IsFirstOf s.prime run limit named n))
-    × ((named : Listed) (n : ℕ) → AllWithin s.prime run limit → IsFirstOf s.prime run limit named n
-    → ⊥)
-    × ((named named' : Listed) (n n' : ℕ) → IsFirstOf s.prime run limit named n
-    → IsFirstOf s.prime run limit named' n' → (named ≡ named') × (n ≡ n'))
+    (AreWithin (LabelTerms s.prime run) limit ⊎ ((named : Listed) × (n : ℕ)
+    × IsFirstPast (LabelTerms s.prime run) limit named n))
+    × ((named : Listed) (n : ℕ) → AreWithin (LabelTerms s.prime run) limit
+    → IsFirstPast (LabelTerms s.prime run) limit named n → ⊥)
+    × ((named named' : Listed) (n n' : ℕ) → IsFirstPast (LabelTerms s.prime run) limit named n
+    → IsFirstPast (LabelTerms s.prime run) limit named' n' → (named ≡ named') × (n ≡ n'))

@@ -1,6 +1,7 @@
 pub mod Traces
 pub mod Rebuilding
 pub mod Labels
+pub mod Firsts
 pub mod Terms
 pub mod Expanding
 pub mod Laws

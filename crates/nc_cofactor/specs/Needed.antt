@@ -8,15 +8,15 @@ use Rattle.nc_algebra.specs.Monomials.{Sig}
 use Rattle.nc_algebra.specs.Problems.{Problem}
 use Rattle.nc_algebra.specs.Sums.{Term}
 use Rattle.nc_cofactor.specs.Labels.{HasLabel, IsLabelOf}
-use Rattle.nc_cofactor.specs.Terms.{EntryTerms, IsNeeded, Names}
+use Rattle.nc_cofactor.specs.Terms.{EntryTerms, IsFirstPastAt, IsNeeded, Names}
 use Rattle.nc_cofactor.specs.Traces.{HasTrace, IsTraceIn, RunAt}
 use Rattle.nc_cofactor.specs.declared.fault.CofactorFault.{CofactorFault}
 use Rattle.nc_cofactor.specs.declared.fault.CofactorFault.TheVariants.{OutOfMemory, TooMany}
 use Rattle.nc_snapshot.specs.declared.outcome.Listed.{Listed}
-use Rattle.nc_snapshot.specs.declared.outcome.Listed.TheVariants.{Entry as EntryOf}
+use Rattle.nc_snapshot.specs.declared.outcome.Listed.TheVariants.{Claim, Entry as EntryOf, Syzygy as SyzygyOf}
 use Rattle.nc_theory.specs.States.{State, Step, Trace}
 use Rattle.std.specs.List.Sorted.{IsStrictlyIncreasing}
-use Rattle.std.specs.Prelude.{Bool, Contains, List, None, Option, Some, length, map, slice_get, true, ℕ, ◌-◌, ◌<◌, ◌↔◌, ◌≡◌, ◌≤◌, ◌⊎◌}
+use Rattle.std.specs.Prelude.{Bool, Contains, List, None, Option, Some, length, map, slice_get, true, ℕ, ◌-◌, ◌↔◌, ◌≡◌, ◌≤◌, ◌⊎◌}
 
 -- ---- marks
 
@@ -91,21 +91,15 @@ pub record AreFilled (P : Problem) (n : ℕ) (marks : List Bool) (limit : ℕ)
   pub places : (k : ℕ) → IsNeeded at.run.entries (MarksName marks) k
       → IsFilledAt P at.run labels limit k
 
--- the label of the entry named has so many terms: of those that are needed the least one whose
--- label has more than the limit
-pub record IsFirstMany (P : Problem) (n : ℕ) (marks : List Bool) (limit : ℕ) (named : Listed)
-    (terms : ℕ) : Type 0 where
-  pub at : RunAt P n
-  pub size : length marks ≡ length at.run.entries
-  pub number : ℕ
-  pub names : named ≡ EntryOf number
-  pub needed : IsNeeded at.run.entries (MarksName marks) number
-  pub has : EntryTerms P.setting.prime at.run number terms
-  pub many : limit < terms
-  pub lesser : (j m : ℕ) → IsNeeded at.run.entries (MarksName marks) j → j < number
-      → EntryTerms P.setting.prime at.run j m → m ≤ limit
+-- the label of an entry that the marks need has n terms
+abbrev pub MarkedTerms : List Bool → ℕ → State → Listed → ℕ → Type 0
+MarkedTerms marks p run (EntryOf j) n =
+    IsNeeded run.entries (MarksName marks) j × EntryTerms p run j n
+MarkedTerms marks p run (SyzygyOf k) n = ⊥
+MarkedTerms marks p run Claim n = ⊥
 
 -- why not all of them were given labels; want of memory says nothing
 abbrev pub FailsToFill : Problem → ℕ → List Bool → ℕ → CofactorFault → Type 0
 FailsToFill P n marks limit OutOfMemory = Unit {0}
-FailsToFill P n marks limit (TooMany named terms) = IsFirstMany P n marks limit named terms
+FailsToFill P n marks limit (TooMany named terms) =
+    IsFirstPastAt P n (MarkedTerms marks) limit named terms

@@ -5,21 +5,22 @@
 -- not on the order in which code adds.
 --
 -- To expand an item's label, code needs the labels of the entries that its trace names, those that
--- their traces name, and so on. Those labels count as well. Where several have too many terms the
--- least entry is named, and a syzygy only where no entry that counts has too many.
+-- their traces name, and so on. Those labels count as well. `Firsts.antt` says which item is named
+-- where several have too many terms.
 use Rattle.nc_algebra.specs.Elements.{Element}
 use Rattle.nc_algebra.specs.Lists.{IsDistinct}
 use Rattle.nc_algebra.specs.Monomials.{Monomial, same_monomial}
 use Rattle.nc_algebra.specs.Primes.{IsZero}
 use Rattle.nc_algebra.specs.Problems.{Problem}
 use Rattle.nc_algebra.specs.Sums.{coefficient_by}
+use Rattle.nc_cofactor.specs.Firsts.{IsFirstPast}
 use Rattle.nc_cofactor.specs.Labels.{IsLabelIn}
 use Rattle.nc_cofactor.specs.Traces.{IsTraceIn, RunAt}
 use Rattle.nc_snapshot.specs.declared.outcome.Listed.{Listed}
 use Rattle.nc_snapshot.specs.declared.outcome.Listed.TheVariants.{Claim, Entry as EntryOf, Syzygy as SyzygyOf}
 use Rattle.nc_theory.specs.Labels.{label_at, labels_of}
 use Rattle.nc_theory.specs.States.{Entry, Start, State, Step, Trace}
-use Rattle.std.specs.Prelude.{Contains, List, Some, length, slice_get, ℕ, ◌-◌, ◌<◌, ◌↔◌, ◌≡◌, ◌≤◌, ◌⊎◌}
+use Rattle.std.specs.Prelude.{Contains, List, Some, length, slice_get, ℕ, ◌-◌, ◌↔◌, ◌≡◌, ◌⊎◌}
 
 -- so many monomials of α have a coefficient other than 0
 pub record HasTerms (p : ℕ) (α : Element) (n : ℕ) : Type 0 where
@@ -57,72 +58,30 @@ CountsFor run listed j =
 abbrev pub EntryTerms : ℕ → State → ℕ → ℕ → Type 0
 EntryTerms p run j n = HasTerms p (label_at (labels_of p run.entries) j) n
 
--- each label that counts for the item, and its own, has at most so many terms
-pub record IsWithinLimit (p : ℕ) (run : State) (listed : Listed) (limit : ℕ) : Type 0 where
-  pub entries : (j n : ℕ) → CountsFor run listed j → EntryTerms p run j n → n ≤ limit
-  pub item : (α : Element) (n : ℕ) → IsLabelIn p run listed α → HasTerms p α n → n ≤ limit
+-- the label of the item has n terms
+abbrev pub LabelTerms : ℕ → State → Listed → ℕ → Type 0
+LabelTerms p run listed n = (α : Element) × IsLabelIn p run listed α × HasTerms p α n
 
--- the item named has more: the least entry that counts and has, or where there is none the syzygy
--- itself
-abbrev pub IsTooMany : ℕ → State → Listed → ℕ → Listed → ℕ → Type 0
-IsTooMany p run listed limit (EntryOf k) n =
-    CountsFor run listed k × EntryTerms p run k n × (limit < n)
-    × ((j m : ℕ) → CountsFor run listed j → j < k → EntryTerms p run j m → m ≤ limit)
-IsTooMany p run listed limit (SyzygyOf k) n =
-    (listed ≡ SyzygyOf k) × ((α : Element) × IsLabelIn p run listed α × HasTerms p α n)
-    × (limit < n) × ((j m : ℕ) → CountsFor run listed j → EntryTerms p run j m → m ≤ limit)
-IsTooMany p run listed limit Claim n = ⊥
+-- the item is an entry, and its label has n terms
+abbrev pub EntryLabelTerms : ℕ → State → Listed → ℕ → Type 0
+EntryLabelTerms p run (EntryOf k) n = LabelTerms p run (EntryOf k) n
+EntryLabelTerms p run (SyzygyOf k) n = ⊥
+EntryLabelTerms p run Claim n = ⊥
 
--- why the label of the item of the run after so many steps is not given: the item named has so many
--- terms
-pub record IsTooManyAt (P : Problem) (n : ℕ) (listed : Listed) (limit : ℕ) (named : Listed)
-    (terms : ℕ) : Type 0 where
+-- the item is a syzygy, and its label has n terms
+abbrev pub SyzygyLabelTerms : ℕ → State → Listed → ℕ → Type 0
+SyzygyLabelTerms p run (EntryOf k) n = ⊥
+SyzygyLabelTerms p run (SyzygyOf k) n = LabelTerms p run (SyzygyOf k) n
+SyzygyLabelTerms p run Claim n = ⊥
+
+-- a label that counts for the item, or its own, has n terms
+abbrev pub CountedTerms : Listed → ℕ → State → Listed → ℕ → Type 0
+CountedTerms listed p run (EntryOf j) n = CountsFor run listed j × EntryTerms p run j n
+CountedTerms listed p run (SyzygyOf k) n = (listed ≡ SyzygyOf k) × LabelTerms p run listed n
+CountedTerms listed p run Claim n = ⊥
+
+-- in the run after so many steps the item named is the first that has more terms, and has so many
+pub record IsFirstPastAt (P : Problem) (n : ℕ) (Has : ℕ → State → Listed → ℕ → Type 0) (limit : ℕ)
+    (named : Listed) (terms : ℕ) : Type 0 where
   pub at : RunAt P n
-  pub many : IsTooMany P.setting.prime at.run listed limit named terms
-
--- entry number k is the least one whose label has more terms, and has so many
-pub record IsFirstTooMany (P : Problem) (n : ℕ) (limit : ℕ) (named : Listed) (terms : ℕ) : Type 0
-  where
-    pub at : RunAt P n
-    pub number : ℕ
-    pub names : named ≡ EntryOf number
-    pub some : 1 ≤ number
-    pub within : number ≤ length at.run.entries
-    pub has : EntryTerms P.setting.prime at.run number terms
-    pub many : limit < terms
-    pub lesser : (j m : ℕ) → 1 ≤ j → j < number → EntryTerms P.setting.prime at.run j m → m ≤ limit
-
--- syzygy number k is the least one whose label has more terms, and has so many
-pub record IsFirstTooManySyzygy (P : Problem) (n : ℕ) (limit : ℕ) (named : Listed)
-    (terms : ℕ) : Type 0 where
-  pub at : RunAt P n
-  pub number : ℕ
-  pub names : named ≡ SyzygyOf number
-  pub some : 1 ≤ number
-  pub within : number ≤ length at.run.syzygies
-  pub has : (α : Element) × IsLabelIn P.setting.prime at.run (SyzygyOf number) α
-      × HasTerms P.setting.prime α terms
-  pub many : limit < terms
-  pub lesser : (j m : ℕ) (α : Element) → 1 ≤ j → j < number
-      → IsLabelIn P.setting.prime at.run (SyzygyOf j) α → HasTerms P.setting.prime α m → m ≤ limit
-
--- ---- all labels of a run
-
--- no label of a listed item has more terms
-abbrev pub AllWithin : ℕ → State → ℕ → Type 0
-AllWithin p run limit =
-    (listed : Listed) (α : Element) (n : ℕ) → IsLabelIn p run listed α → HasTerms p α n → n ≤ limit
-
--- the label of this item has more, and so many: the least entry's, and where no entry's has, the
--- least syzygy's
-abbrev pub IsFirstOf : ℕ → State → ℕ → Listed → ℕ → Type 0
-IsFirstOf p run limit (EntryOf k) n =
-    (1 ≤ k) × (k ≤ length run.entries) × EntryTerms p run k n × (limit < n)
-    × ((j m : ℕ) → 1 ≤ j → j < k → EntryTerms p run j m → m ≤ limit)
-IsFirstOf p run limit (SyzygyOf k) n =
-    (1 ≤ k) × (k ≤ length run.syzygies)
-    × ((α : Element) × IsLabelIn p run (SyzygyOf k) α × HasTerms p α n) × (limit < n)
-    × ((j m : ℕ) (α : Element) → 1 ≤ j → j < k → IsLabelIn p run (SyzygyOf j) α → HasTerms p α m
-    → m ≤ limit) × ((j m : ℕ) → 1 ≤ j → j ≤ length run.entries → EntryTerms p run j m
-    → m ≤ limit)
-IsFirstOf p run limit Claim n = ⊥
+  pub first : IsFirstPast (Has P.setting.prime at.run) limit named terms

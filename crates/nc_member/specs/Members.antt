@@ -14,7 +14,8 @@ use Rattle.nc_algebra.specs.Monomials.{Monomial, Sig}
 use Rattle.nc_algebra.specs.Polynomials.{Polynomial}
 use Rattle.nc_algebra.specs.Problems.{IsWithin, NamedProblem, Problem, setting_of}
 use Rattle.nc_algebra.specs.Sums.{Term}
-use Rattle.nc_cofactor.specs.Claims.{AreNeededTraces, IsRepresentation, IsTooManyForAt, numbers_of}
+use Rattle.nc_cofactor.specs.Claims.{AreNeededTraces, ClaimTerms, IsRepresentation, numbers_of}
+use Rattle.nc_cofactor.specs.Terms.{IsFirstPastAt}
 use Rattle.nc_cofactor.specs.Traces.{RunAt}
 use Rattle.nc_cofactor.specs.declared.fault.CofactorFault.{CofactorFault}
 use Rattle.nc_cofactor.specs.declared.fault.CofactorFault.TheVariants.{OutOfMemory, TooMany}
@@ -87,7 +88,7 @@ pub record IsTooManyOf (P : Problem) (n : ℕ) (claim : Polynomial) (limit : ℕ
     (terms : ℕ) : Type 0 where
   pub steps : List Step
   pub rest : IsRestOf P n claim [] steps
-  pub many : IsTooManyForAt P n steps limit named terms
+  pub many : IsFirstPastAt P n (ClaimTerms steps) limit named terms
 
 -- why there is no answer; want of memory says nothing
 abbrev pub FailsToAnswer : Finished → Polynomial → ℕ → CofactorFault → Type 0

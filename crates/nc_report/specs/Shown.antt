@@ -5,8 +5,9 @@
 use Rattle.nc_algebra.specs.Elements.{Element}
 use Rattle.nc_algebra.specs.Monomials.{Monomial, Sig}
 use Rattle.nc_algebra.specs.Sums.{Term}
+use Rattle.nc_cofactor.specs.Firsts.{IsFirstPast}
 use Rattle.nc_cofactor.specs.Labels.{AreLabels, AreSyzygyLabels}
-use Rattle.nc_cofactor.specs.Terms.{IsFirstOf}
+use Rattle.nc_cofactor.specs.Terms.{LabelTerms}
 use Rattle.nc_cofactor.specs.declared.fault.CofactorFault.{CofactorFault}
 use Rattle.nc_cofactor.specs.declared.fault.CofactorFault.TheVariants.{OutOfMemory, TooMany}
 use Rattle.nc_module.specs.Modules.{element_of}
@@ -67,4 +68,5 @@ pub record IsTraceNamed (n : ℕ) (t : Trace) : Type 0 where
 abbrev pub FailsToShow : Snapshot → ℕ → CofactorFault → Type 0
 FailsToShow s limit OutOfMemory = Unit {0}
 FailsToShow s limit (TooMany named terms) =
-    (run : State) → IsRunAt s run → IsFirstOf s.problem.problem.setting.prime run limit named terms
+    (run : State) → IsRunAt s run
+    → IsFirstPast (LabelTerms s.problem.problem.setting.prime run) limit named terms

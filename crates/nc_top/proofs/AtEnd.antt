@@ -7,7 +7,8 @@ use Rattle.nc_algebra.specs.Monomials.{Monomial, Sig}
 use Rattle.nc_algebra.specs.Polynomials.{Polynomial}
 use Rattle.nc_algebra.specs.Problems.{IsProblem, IsWithin, NamedProblem}
 use Rattle.nc_algebra.specs.Sums.{Term}
-use Rattle.nc_cofactor.specs.Claims.{AreWithinLimit, IsTooManyFor, ListsNeeded, numbers_of}
+use Rattle.nc_cofactor.specs.Claims.{ClaimTerms, ListsNeeded, numbers_of}
+use Rattle.nc_cofactor.specs.Firsts.{AreWithin, IsFirstPast}
 use Rattle.nc_cofactor.specs.Sums.{IsSum}
 use Rattle.nc_cofactor.specs.Traces.{IsTraceIn, RunAt}
 use Rattle.nc_member.specs.Lines.{proof_lines}
@@ -65,7 +66,7 @@ pub record Represents (r : Remainder) (limit : ℕ) (m : List (Term Sig)) : Type
   pub lies : IsIn r.problem.problem.setting (element_of m) (IsWithin r.problem.problem)
   pub evaluates : SamePolynomial r.problem.problem.setting
       (evaluation r.problem.problem.setting (element_of m)) r.claim
-  pub within : AreWithinLimit r.problem.problem.setting.prime r.run r.steps limit
+  pub within : AreWithin (ClaimTerms r.steps r.problem.problem.setting.prime r.run) limit
 
 -- ---- from the records
 
@@ -127,16 +128,17 @@ module _ (bytes : List ℕ) (e : ClaimAtEnd) (is : IsClaimAtEnd bytes e) where
     lies = r.lies;
     evaluates = r.evaluates;
     within =
-        subst (λ (run : State). AreWithinLimit e.problem.problem.setting.prime run r.steps limit)
+        subst (λ (run : State).
+        AreWithin (ClaimTerms r.steps e.problem.problem.setting.prime run) limit)
         (the_one r.is.at.runs) r.is.within;
   }
 
   pub many_at_end : (limit : ℕ) (named : Listed) (terms : ℕ)
       → (t : IsTooManyOf e.problem.problem e.handled e.claim limit named terms)
-      → IsTooManyFor e.problem.problem.setting.prime is.run t.steps limit named terms
+      → IsFirstPast (ClaimTerms t.steps e.problem.problem.setting.prime is.run) limit named terms
   many_at_end limit named terms t =
-      subst (λ (run : State). IsTooManyFor e.problem.problem.setting.prime run t.steps limit named
-      terms) (the_one t.many.at.runs) t.many.many
+      subst (λ (run : State). IsFirstPast (ClaimTerms t.steps e.problem.problem.setting.prime run)
+      limit named terms) (the_one t.many.at.runs) t.many.first
 
 -- ---- to the records
 
@@ -183,13 +185,13 @@ module _ (bytes : List ℕ) (r : Remainder) (is : IsRemainder bytes r) where
     }
 
     pub many_of : (limit : ℕ) (named : Listed) (terms : ℕ)
-        → IsTooManyFor r.problem.problem.setting.prime r.run r.steps limit named terms
+        → IsFirstPast (ClaimTerms r.steps r.problem.problem.setting.prime r.run) limit named terms
         → IsTooManyOf r.problem.problem r.handled r.claim limit named terms
     many_of limit named terms many =
         record {
           steps = r.steps;
           rest = nothing_of;
-          many = record { at = at; many = many };
+          many = record { at = at; first = many };
         }
 
   pub unrepresented_of : r.ending ≡ End.complete → r.rest ≢ []

@@ -13,7 +13,8 @@ use Rattle.nc_algebra.specs.Sums.{Term}
 use Rattle.nc_cofactor.proofs.Existence.{labels_exist, one_first}
 use Rattle.nc_cofactor.proofs.Once.{one_label}
 use Rattle.nc_cofactor.specs.Labels.{IsLabelIn, IsLabelOf}
-use Rattle.nc_cofactor.specs.Terms.{AllWithin, IsFirstOf}
+use Rattle.nc_cofactor.specs.Firsts.{AreWithin, IsFirstPast}
+use Rattle.nc_cofactor.specs.Terms.{LabelTerms}
 use Rattle.nc_cofactor.specs.Traces.{IsListed}
 use Rattle.nc_field.proofs.Primes.{listed_is_prime}
 use Rattle.nc_module.specs.Modules.{element_of}
@@ -224,9 +225,10 @@ same_terms options bytes l l' n n' r r' a b =
     same = same_ends bytes a.problem b.problem a.text b.text a.handled b.handled a.run b.run
         a.ending b.ending a.ends b.ends
 
-    first : IsFirstOf a.problem.problem.setting.prime a.run options.limit l' n'
-    first = subst₂ (λ (P : NamedProblem) (run : State). IsFirstOf P.problem.setting.prime run
-        options.limit l' n') (sym (same_problem bytes a.problem b.problem a.text b.text))
+    first : IsFirstPast (LabelTerms a.problem.problem.setting.prime a.run) options.limit l' n'
+    first = subst₂ (λ (P : NamedProblem) (run : State).
+        IsFirstPast (LabelTerms P.problem.setting.prime run) options.limit l' n')
+        (sym (same_problem bytes a.problem b.problem a.text b.text))
         (sym same.runs) b.first
 
     named : (l ≡ l') × (n ≡ n')
@@ -245,10 +247,11 @@ not_both options bytes e l n r r' a b =
     same = same_ends bytes a.problem b.problem a.text b.text a.handled b.handled a.run b.run e
         b.ending a.ends b.ends
 
-    within : AllWithin b.problem.problem.setting.prime b.run options.limit
+    within : AreWithin (LabelTerms b.problem.problem.setting.prime b.run) options.limit
     within =
-        subst₂ (λ (P : NamedProblem) (run : State). AllWithin P.problem.setting.prime run
-        options.limit) (same_problem bytes a.problem b.problem a.text b.text) same.runs
+        subst₂ (λ (P : NamedProblem) (run : State).
+        AreWithin (LabelTerms P.problem.setting.prime run) options.limit)
+        (same_problem bytes a.problem b.problem a.text b.text) same.runs
         (a.short b.full)
 
 -- what an answer comes from: too many bytes, a fault, the end of a run, or a label with too many
@@ -422,9 +425,10 @@ basis_answer options bytes = by_size (cases_lt 16777216 (length bytes))
         go (n, run, e, ends) = by_kind (decide_full options.cofactors)
           where
             by_limit : options.cofactors ≡ Full
-                → AllWithin P.problem.setting.prime run options.limit
+                → AreWithin (LabelTerms P.problem.setting.prime run) options.limit
                 ⊎ ((named : Listed) × (terms : ℕ)
-                × IsFirstOf P.problem.setting.prime run options.limit named terms) → Answer
+                × IsFirstPast (LabelTerms P.problem.setting.prime run) options.limit named terms)
+                → Answer
             by_limit full (inl within) = listed_all n run e ends (λ f. within)
             by_limit full (inr (named, terms, first)) = (
               TooMany named terms,

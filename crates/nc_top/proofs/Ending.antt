@@ -7,7 +7,8 @@ use Rattle.nc_algebra.specs.Problems.{NamedProblem}
 use Rattle.nc_algebra.specs.Sums.{Term}
 use Rattle.nc_cofactor.specs.Labels.{IsLabelOf}
 use Rattle.nc_cofactor.specs.Traces.{IsListed}
-use Rattle.nc_cofactor.specs.Terms.{IsFirstOf}
+use Rattle.nc_cofactor.specs.Firsts.{IsFirstPast}
+use Rattle.nc_cofactor.specs.Terms.{LabelTerms}
 use Rattle.nc_desk.specs.Ends.{IsEndAt}
 use Rattle.nc_module.specs.Modules.{element_of}
 use Rattle.nc_options.specs.declared.options.BasisOptions.{BasisOptions}
@@ -108,7 +109,8 @@ module _ (s : Snapshot) (h : IsSnapshot s) where
           s.handled e.run ending) kind (written e.run the_run))))
 
       pub many_at : (named : Listed) (terms : ℕ) (report : List ℕ) → options.cofactors ≡ Full
-          → ((run : State) → IsRunAt s run → IsFirstOf setting.prime run options.limit named terms)
+          → ((run : State) → IsRunAt s run
+          → IsFirstPast (LabelTerms setting.prime run) options.limit named terms)
           → report ≡ too_many_report named terms → IsTooManyTerms options bytes named terms report
       many_at named terms report full first written = record {
         full = full;

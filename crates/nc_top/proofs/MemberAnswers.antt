@@ -9,9 +9,11 @@ use Rattle.nc_algebra.specs.Monomials.{Monomial, Sig}
 use Rattle.nc_algebra.specs.Polynomials.{Polynomial}
 use Rattle.nc_algebra.specs.Problems.{IsProblem, IsWithin, NamedProblem, setting_of}
 use Rattle.nc_algebra.specs.Sums.{Term}
+use Rattle.nc_cofactor.proofs.Firsts.{not_both}
 use Rattle.nc_cofactor.proofs.Existence.{sum_exists}
 use Rattle.nc_cofactor.proofs.Terms.{sum_once}
-use Rattle.nc_cofactor.specs.Claims.{AreWithinLimit, IsTooManyFor, numbers_of}
+use Rattle.nc_cofactor.specs.Claims.{ClaimTerms, numbers_of}
+use Rattle.nc_cofactor.specs.Firsts.{AreWithin, IsFirstPast}
 use Rattle.nc_cofactor.specs.Sums.{IsSum}
 use Rattle.nc_member.specs.Lines.{proof_lines}
 use Rattle.nc_module.specs.Modules.{element_of}
@@ -37,7 +39,7 @@ use Rattle.nc_top.proofs.MemberLines.{proof_holds}
 use Rattle.nc_top.proofs.Needed.{AreListed, needed_dec, needed_list, needed_once, needed_within, numbers_within}
 use Rattle.nc_top.proofs.Remainders.{not_represented, rest_exists, rest_once, terms_evaluate, terms_lie}
 use Rattle.nc_top.proofs.AtEnd.{AreProof, IsRemainder, Remainder, Represents, remainder_at, claim_at_end, is_remainder_at, is_claim_at_end, many_at_end, many_of, open_of, proof_at_end, proved_of, represented_of, terms_at_end, unrepresented_of}
-use Rattle.nc_top.proofs.Sums.{first_or_within, never_both, too_many_once}
+use Rattle.nc_top.proofs.Sums.{too_many_once, within_or_first}
 use Rattle.nc_top.specs.Inputs.{IsBadText, IsTooLarge}
 use Rattle.nc_top.proofs.TermLines.{terms_keep}
 use Rattle.nc_top.specs.Member.{IsCertifiedAs, IsClaimText, IsMemberAnswer, IsTooManyAs, certificate_with, reads_claim}
@@ -115,7 +117,8 @@ data Told (options : MemberOptions) (r : Remainder) : Status → List ℕ → Ty
       → report ≡ certificate_text (certificate_with (claim_at_end r) lines)
       → Told options r Done report
   by_many : {report : List ℕ} → options.form ≡ Terms → r.rest ≡ [] → (named : Listed) (terms : ℕ)
-      → IsTooManyFor r.problem.problem.setting.prime r.run r.steps options.limit named terms
+      → IsFirstPast (ClaimTerms r.steps r.problem.problem.setting.prime r.run) options.limit named
+      terms
       → report ≡ too_many_report named terms → Told options r (TooMany named terms) report
   by_none : {report : List ℕ} → r.ending ≡ End.complete → r.rest ≢ []
       → ¬ HasRepresentation r.problem.problem.setting (IsWithin r.problem.problem) r.claim
@@ -244,12 +247,12 @@ one_next e τ τ' a b = let both : End.budget τ ≡ End.budget τ' = sym a ∙ 
 module _ (options : MemberOptions) (r : Remainder) (some : 0 < r.problem.problem.setting.prime)
   where
     within_or_many : (m : List (Term Sig)) → Represents r options.limit m
-        → (named : Listed) (terms : ℕ) → IsTooManyFor r.problem.problem.setting.prime r.run r.steps
-        options.limit named terms → ⊥
+        → (named : Listed) (terms : ℕ)
+        → IsFirstPast (ClaimTerms r.steps r.problem.problem.setting.prime r.run) options.limit named
+        terms → ⊥
     within_or_many m represents named terms many =
-        never_both r.problem.problem.setting some r.run r.steps options.limit represents.within
-        named
-        terms many
+        not_both (ClaimTerms r.steps r.problem.problem.setting.prime r.run) options.limit named
+        terms represents.within many
 
     same_lines : (needed needed' : List (ℕ × Trace)) (lines lines' : List Line)
         → AreProof r needed lines → AreProof r needed' lines' → lines ≡ lines'
@@ -387,9 +390,10 @@ module _ (options : MemberOptions) (bytes : List ℕ) (r : Remainder) (is : IsRe
 
   module _ (nothing : r.rest ≡ []) where
     tells_terms : options.form ≡ Terms
-        → AreWithinLimit r.problem.problem.setting.prime r.run r.steps options.limit
+        → AreWithin (ClaimTerms r.steps r.problem.problem.setting.prime r.run) options.limit
         ⊎ ((named : Listed) × (terms : ℕ)
-        × IsTooManyFor r.problem.problem.setting.prime r.run r.steps options.limit named terms)
+        × IsFirstPast (ClaimTerms r.steps r.problem.problem.setting.prime r.run) options.limit named
+        terms)
         → TellsSome
     tells_terms form (inl within) =
         go (sum_exists r.problem.problem.setting some
@@ -452,7 +456,7 @@ module _ (options : MemberOptions) (bytes : List ℕ) (r : Remainder) (is : IsRe
 
     tells_member : (form : Form) → options.form ≡ form → TellsSome
     tells_member Terms form =
-        tells_terms form (first_or_within r.problem.problem.setting some r.run r.steps options.limit
+        tells_terms form (within_or_first r.problem.problem.setting some r.run r.steps options.limit
         (needed_dec r.problem problem runs.1 (numbers_of r.steps) numbers)
         (λ j h. (needed_within r.problem problem runs.1 (numbers_of r.steps) numbers h).1))
     tells_member Lines form = tells_lines form

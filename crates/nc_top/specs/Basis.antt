@@ -17,7 +17,8 @@ use Rattle.nc_algebra.specs.Polynomials.{Polynomial}
 use Rattle.nc_algebra.specs.Problems.{NamedProblem}
 use Rattle.nc_algebra.specs.Sums.{Term}
 use Rattle.nc_cofactor.specs.Labels.{IsLabelOf}
-use Rattle.nc_cofactor.specs.Terms.{AllWithin, IsFirstOf}
+use Rattle.nc_cofactor.specs.Firsts.{AreWithin, IsFirstPast}
+use Rattle.nc_cofactor.specs.Terms.{LabelTerms}
 use Rattle.nc_cofactor.specs.Traces.{IsListed}
 use Rattle.nc_module.specs.Modules.{element_of}
 use Rattle.nc_options.specs.declared.options.BasisOptions.{BasisOptions}
@@ -62,7 +63,7 @@ AreShown Full s run labels =
 
 -- where labels are shown, none has more terms than the limit
 abbrev pub AreShort : BasisOptions → Setting → State → Type 0
-AreShort options s run = options.cofactors ≡ Full → AllWithin s.prime run options.limit
+AreShort options s run = options.cofactors ≡ Full → AreWithin (LabelTerms s.prime run) options.limit
 
 -- the bytes are a text of a problem, and the report lists what its sequential run has found where
 -- it ends: with labels that
@@ -105,7 +106,7 @@ pub record IsTooManyTerms (options : BasisOptions) (bytes : List ℕ) (named : L
   pub run : State
   pub ending : End
   pub ends : IsEnd problem.problem handled run ending
-  pub first : IsFirstOf problem.problem.setting.prime run options.limit named terms
+  pub first : IsFirstPast (LabelTerms problem.problem.setting.prime run) options.limit named terms
   pub written : report ≡ too_many_report named terms
 
 -- Done where the end is complete

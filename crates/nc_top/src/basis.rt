@@ -5,7 +5,8 @@ ghost use Rattle.nc_desk.specs.Ends.{IsEndAt};
 ghost use Rattle.nc_reduce.specs.Leads.{LeadsOf};
 ghost use Rattle.nc_theory.specs.States.{State};
 ghost use Rattle.nc_top.specs.Basis.{AreShort, IsBasisAnswer, IsProblemText, reads_relations, status_at};
-ghost use Rattle.nc_cofactor.specs.Terms.{AllWithin};
+ghost use Rattle.nc_cofactor.specs.Firsts.{AreWithin};
+ghost use Rattle.nc_cofactor.specs.Terms.{LabelTerms};
 ghost use Rattle.nc_report.specs.Reports.{basis_report};
 ghost use Rattle.nc_top.specs.Reports.{too_many_report};
 ghost use Rattle.nc_report.specs.Shown.{FailsToShow, IsRunAt, IsShownOf, kind_of, labels_in};
@@ -57,7 +58,7 @@ fn labels_of(
     ensures shown { IfOk result (IsShownOf snapshot.now) }
     ensures kind { IfOk result (λ s. kind_of s ≡ Cofactors.Full) }
     ensures short { IfOk result (λ s. (run : State) → IsRunAt snapshot.now run
-        → AllWithin snapshot.now.problem.problem.setting.prime run limit) }
+        → AreWithin (LabelTerms snapshot.now.problem.problem.setting.prime run) limit) }
     ensures fault { IfErr result (FailsToShow snapshot.now limit) }
 {
     let limit = u64::from(limit);

@@ -1,4 +1,5 @@
-use Rattle.nc_cofactor.specs.Terms.{AllWithin}
+use Rattle.nc_cofactor.specs.Firsts.{AreWithin}
+use Rattle.nc_cofactor.specs.Terms.{LabelTerms}
 use Rattle.nc_theory.specs.States.{State}
 use Rattle.nc_top.proofs.Limits.{all_short, entry_fault, syzygy_fault}
 use Rattle.nc_report.specs.Shown.{FailsToShow, IsRunAt}
@@ -14,7 +15,8 @@ returns-in-Err-clause-fault c =
 pub returns-in-Ok-syzygies-clause-short : goal.returns-in-Ok-syzygies-clause-short
 returns-in-Ok-syzygies-clause-short c =
     subst (λ (n : ℕ). (run : State) → IsRunAt c.args.snapshot.now run
-    → AllWithin c.args.snapshot.now.problem.problem.setting.prime run n) c.from-limit.ensures
+    → AreWithin (LabelTerms c.args.snapshot.now.problem.problem.setting.prime run) n)
+    c.from-limit.ensures
     (all_short c.args.snapshot.now c.recall_rule.ensures.snapshot c.from-limit.result
     c.in-Ok.entries c.in-Ok.ensures.labels c.in-Ok.ensures.all c.in-Ok.ensures.few
     c.in-Ok-syzygies.syzygies.items c.in-Ok-syzygies.ensures.labels
