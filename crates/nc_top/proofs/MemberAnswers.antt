@@ -217,21 +217,13 @@ answered options bytes s report r is (Told.by_many form nothing named terms many
       written = written;
     })
 answered options bytes s report r is (Told.by_none complete some none written) =
-    record {
-      at_end = claim_at_end r;
-      is = is_claim_at_end bytes r is;
-      rest = r.rest;
-      left = unrepresented_of bytes r is complete some none;
-      written = written;
-    }
+    let at = is_claim_at_end bytes r is in
+    let left = unrepresented_of bytes r is complete some none in
+    record { at_end = claim_at_end r; is = at; rest = r.rest; left = left; written = written }
 answered options bytes s report r is (Told.by_budget τ budget some written) =
-    record {
-      at_end = claim_at_end r;
-      is = is_claim_at_end bytes r is;
-      rest = r.rest;
-      left = open_of bytes r is τ budget some;
-      written = written;
-    }
+    let at = is_claim_at_end bytes r is in
+    let left = open_of bytes r is τ budget some in
+    record { at_end = claim_at_end r; is = at; rest = r.rest; left = left; written = written }
 
 -- ---- one answer
 

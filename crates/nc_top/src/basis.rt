@@ -2,7 +2,6 @@
 
 ghost use Rattle.nc_algebra.specs.Limits.{max_bytes};
 ghost use Rattle.nc_desk.specs.Ends.{IsEndAt};
-ghost use Rattle.nc_reduce.specs.Leads.{LeadsOf};
 ghost use Rattle.nc_theory.specs.States.{State};
 ghost use Rattle.nc_top.specs.Basis.{AreShort, IsBasisAnswer, IsProblemText, reads_relations, status_at};
 ghost use Rattle.nc_cofactor.specs.Firsts.{AreWithin};
@@ -17,11 +16,10 @@ use crate::status::{Answer, Status};
 use itoa::Buffer;
 use nc_cofactor::{CofactorFault, Labels};
 use nc_desk::{Desk, End, Finished};
-use nc_index::Leads;
 use nc_module::Problem;
 use nc_options::{BasisOptions, Cofactors};
 use nc_report::{Shown, report_on};
-use nc_snapshot::{Listed, Snapshot};
+use nc_snapshot::Listed;
 use nc_text::read_problem;
 use std::alloc::{AllocError, Global};
 use std::sync::Arc;
@@ -48,19 +46,15 @@ pub(crate) fn run_problem(
 }
 
 /// The labels of all items, unless one has more than `limit` terms.
-fn labels_of(
-    alloc: Global,
-    snapshot: &Snapshot,
-    leads: &Leads,
-    limit: u32,
-) -> Result<Shown, CofactorFault>
-    requires leads { LeadsOf snapshot.now leads.now }
-    ensures shown { IfOk result (IsShownOf snapshot.now) }
+fn labels_of(alloc: Global, finished: &Finished, limit: u32) -> Result<Shown, CofactorFault>
+    ensures shown { IfOk result (IsShownOf finished.now.snapshot) }
     ensures kind { IfOk result (λ s. kind_of s ≡ Cofactors.Full) }
-    ensures short { IfOk result (λ s. (run : State) → IsRunAt snapshot.now run
-        → AreWithin (LabelTerms snapshot.now.problem.problem.setting.prime run) limit) }
-    ensures fault { IfErr result (FailsToShow snapshot.now limit) }
+    ensures short { IfOk result (λ s. (run : State) → IsRunAt finished.now.snapshot run
+        → AreWithin (LabelTerms finished.now.snapshot.problem.problem.setting.prime run) limit) }
+    ensures fault { IfErr result (FailsToShow finished.now.snapshot limit) }
 {
+    let snapshot = finished.snapshot();
+    let leads = finished.leads();
     let limit = u64::from(limit);
     snapshot.recall_rule();
     let entries = match Labels::of(alloc, snapshot, leads, limit) {
@@ -76,22 +70,20 @@ fn labels_of(
 /// What is shown behind the items of a run.
 fn shown_of(
     alloc: Global,
-    snapshot: &Snapshot,
-    leads: &Leads,
+    finished: &Finished,
     options: BasisOptions,
 ) -> Result<Shown, CofactorFault>
-    requires leads { LeadsOf snapshot.now leads.now }
-    ensures shown { IfOk result (IsShownOf snapshot.now) }
+    ensures shown { IfOk result (IsShownOf finished.now.snapshot) }
     ensures kind { IfOk result (λ s. kind_of s ≡ options.cofactors) }
-    ensures short { IfOk result (λ s. (run : State) → IsRunAt snapshot.now run
-        → AreShort options snapshot.now.problem.problem.setting run) }
+    ensures short { IfOk result (λ s. (run : State) → IsRunAt finished.now.snapshot run
+        → AreShort options finished.now.snapshot.problem.problem.setting run) }
     ensures full { IfErr result (λ e. options.cofactors ≡ Cofactors.Full) }
-    ensures fault { IfErr result (FailsToShow snapshot.now options.limit) }
+    ensures fault { IfErr result (FailsToShow finished.now.snapshot options.limit) }
 {
     match options.cofactors {
         Cofactors::Omitted => Ok(Shown::Nothing),
         Cofactors::Trace => Ok(Shown::Traces),
-        Cofactors::Full => labels_of(alloc, snapshot, leads, options.limit),
+        Cofactors::Full => labels_of(alloc, finished, options.limit),
     }
 }
 
@@ -154,7 +146,7 @@ fn answer_problem(
     let finished = run_problem(alloc, problem, options.window)?;
     let snapshot = finished.snapshot();
     snapshot.recall_rule();
-    match shown_of(alloc, snapshot, finished.leads(), options) {
+    match shown_of(alloc, &finished, options) {
         Ok(shown) => answer_run(alloc, &finished, &shown),
         Err(CofactorFault::TooMany { listed, terms }) => Ok((
             Status::TooMany { listed, terms },
