@@ -44,8 +44,8 @@ module _ (s later : Snapshot) (step : IsStep s later) where
         there (inl c) = inl c
         there (inr c) = inr ((news.exact step σ).0 c)
 
-        back : Contains old σ ⊎ IsBrought s.problem.problem s.state step.signature step.outcome σ → Contains old σ
-            ⊎ Contains found σ
+        back : Contains old σ ⊎ IsBrought s.problem.problem s.state step.signature step.outcome σ
+            → Contains old σ ⊎ Contains found σ
         back (inl c) = inl c
         back (inr b) = inr ((news.exact step σ).1 b)
 

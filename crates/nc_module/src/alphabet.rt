@@ -26,7 +26,8 @@ impl Model for Alphabet {
 
     ghost view = { λ a. record { names = a.names.items; weights = a.weights.items } };
 
-    ghost invariant = { λ a. IsAlphabet (record { names = a.names.items; weights = a.weights.items }) };
+    ghost invariant = { λ a.
+        IsAlphabet (record { names = a.names.items; weights = a.weights.items }) };
 }
 
 /// Whether a name is one of these.

@@ -22,5 +22,6 @@ impl Model for Certificate {
 
     ghost view = { λ c. record { setting = c.setting; claim = c.claim; lines = c.lines } };
 
-    ghost invariant = { λ c. IsCertificate (record { setting = c.setting; claim = c.claim; lines = c.lines }) };
+    ghost invariant = { λ c.
+        IsCertificate (record { setting = c.setting; claim = c.claim; lines = c.lines }) };
 }

@@ -83,8 +83,8 @@ pub(crate) fn subtract(
     requires factor { step.now.coefficient < p }
     requires residues { AreResidues p rest.old }
     requires other_residues { AreResidues p divisor.now }
-    requires few { All (λ t. length step.now.left + length t.key + length step.now.right ≤ max_letters)
-        divisor.now }
+    requires few { All (λ t. length step.now.left + length t.key + length step.now.right
+        ≤ max_letters) divisor.now }
     ensures { OnOk result (rest.new ≡ normal_form p
         (minus p rest.old step.now.coefficient
         (polynomial_times step.now.left divisor.now step.now.right))) }

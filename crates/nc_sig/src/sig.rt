@@ -40,7 +40,12 @@ impl Model for Sig {
 
     ghost invariant = { λ s. word_weight s.left + word_weight s.right ≤ s.degree };
 
-    ghost inverse = { λ s. record { degree = s.degree; generator = s.generator; left = s.left; right = s.right } };
+    ghost inverse = { λ s. record {
+      degree = s.degree;
+      generator = s.generator;
+      left = s.left;
+      right = s.right;
+    } };
 }
 
 impl Sig {

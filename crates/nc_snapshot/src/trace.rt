@@ -25,7 +25,12 @@ impl Model for Step {
       right = s.right;
     } };
 
-    ghost inverse = { λ s. record { coefficient = s.coefficient; left = s.left; number = s.number; right = s.right } };
+    ghost inverse = { λ s. record {
+      coefficient = s.coefficient;
+      left = s.left;
+      number = s.number;
+      right = s.right;
+    } };
 }
 
 /// Steps, the first one first.

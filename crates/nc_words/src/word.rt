@@ -44,8 +44,8 @@ impl Model for Word {
 
     ghost view = { λ w. w.kept.items };
 
-    ghost invariant = { λ w. (length w.kept.items ≤ max_letters) × (w.weight ≡ word_weight w.kept.items)
-        × (w.weight ≤ 100 * length w.kept.items) };
+    ghost invariant = { λ w. (length w.kept.items ≤ max_letters)
+        × (w.weight ≡ word_weight w.kept.items) × (w.weight ≤ 100 * length w.kept.items) };
 }
 
 impl Word {
