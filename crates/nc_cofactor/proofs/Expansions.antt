@@ -8,10 +8,9 @@ use Rattle.nc_algebra.specs.Sums.{Term}
 use Rattle.nc_cofactor.proofs.Filling.{few_filled}
 use Rattle.nc_cofactor.proofs.Firsts.{entry_first}
 use Rattle.nc_cofactor.proofs.Needing.{names_within, needs_earlier}
-use Rattle.nc_cofactor.proofs.Once.{label_few, label_has, trace_once}
+use Rattle.nc_cofactor.proofs.Once.{entry_few, label_few, label_has, trace_once}
 use Rattle.nc_cofactor.proofs.Reaching.{need_more}
-use Rattle.nc_cofactor.proofs.Runs.{label_terms, one_run}
-use Rattle.nc_cofactor.proofs.Terms.{terms_once}
+use Rattle.nc_cofactor.proofs.Runs.{one_run}
 use Rattle.nc_cofactor.specs.Expanding.{AreNamedLabels, FailsToExpand, FailsToSum, IsExpanded}
 use Rattle.nc_cofactor.specs.Firsts.{AreWithin, IsFirstPast, Precedes}
 use Rattle.nc_cofactor.specs.Labels.{HasLabel, IsLabelOf}
@@ -22,7 +21,6 @@ use Rattle.nc_cofactor.specs.declared.fault.CofactorFault.{CofactorFault}
 use Rattle.nc_cofactor.specs.declared.fault.CofactorFault.TheVariants.{OutOfMemory, TooMany}
 use Rattle.nc_snapshot.specs.declared.outcome.Listed.{Listed}
 use Rattle.nc_snapshot.specs.declared.outcome.Listed.TheVariants.{Claim, Entry as EntryOf, Syzygy as SyzygyOf}
-use Rattle.nc_theory.specs.Labels.{label_at, labels_of}
 use Rattle.nc_theory.specs.Runs.{SequentialRun}
 use Rattle.nc_theory.specs.States.{State, Trace}
 use Rattle.std.proofs.Common.{Bool, Err, IfErr, IfOk, List, Ok, Option, Result, arith, inl, inr, length, refl, subst, sym, ℕ, ◌<◌, ◌∙◌, ◌≡◌, ◌≤◌, ◌↔◌, ◌⊎◌}
@@ -106,11 +104,7 @@ module _ (P : NamedProblem) (problem : IsProblem P) (n : ℕ) (listed : Listed) 
         entries j i terms (inl e) =
             let o : IsLabelOf P.problem.setting h.at.run (EntryOf j) m =
             subst (λ (x : Listed). IsLabelOf P.problem.setting h.at.run x m) e own in
-            let same : i ≡ length m =
-            terms_once P.problem.setting.prime
-            (label_at (labels_of P.problem.setting.prime h.at.run.entries) j) i (length m) terms
-            (label_terms P problem n h.at.run j m o) in
-            omega (arith, same, few)
+            entry_few P.problem.setting h.at.run j m o limit few i terms
         entries j i terms (inr reached) =
             few_filled P problem n marks limit labels h j i reached terms
 

@@ -9,9 +9,9 @@ use Rattle.nc_cofactor.proofs.Firsts.{entry_first}
 use Rattle.nc_cofactor.proofs.Labelled.{problem_field}
 use Rattle.nc_cofactor.proofs.Named.{names_earlier}
 use Rattle.nc_cofactor.proofs.Needing.{compared, reached_within}
+use Rattle.nc_cofactor.proofs.Once.{entry_few}
 use Rattle.nc_cofactor.proofs.Places.{earlier_there, last_there}
 use Rattle.nc_cofactor.proofs.Runs.{entries_kept, label_terms, one_run}
-use Rattle.nc_cofactor.proofs.Terms.{terms_once}
 use Rattle.nc_cofactor.specs.Expanding.{AreNamedLabels, FailsToSum}
 use Rattle.nc_cofactor.specs.Firsts.{IsFirstPast}
 use Rattle.nc_cofactor.specs.Labels.{IsLabelOf}
@@ -24,7 +24,6 @@ use Rattle.nc_snapshot.proofs.Limits.{snapshot_counts}
 use Rattle.nc_snapshot.specs.Snapshots.{IsSnapshot, Snapshot}
 use Rattle.nc_snapshot.specs.declared.outcome.Listed.{Listed}
 use Rattle.nc_snapshot.specs.declared.outcome.Listed.TheVariants.{Entry as EntryOf}
-use Rattle.nc_theory.specs.Labels.{label_at, labels_of}
 use Rattle.nc_theory.specs.States.{State, Trace}
 use Rattle.std.proofs.Common.{Bool, List, None, Option, Some, [], ap, arith, inl, inr, length, length-append, subst, sym, take, ℕ, ◌+◌, ◌++◌, ◌-◌, ◌<◌, ◌∙◌, ◌∷◌, ◌≡◌, ◌≤◌, ◌⊎◌}
 use Rattle.std.proofs.lemmas.List.{append-nil}
@@ -59,7 +58,8 @@ module _ (P : NamedProblem) (problem : IsProblem P) (n : ℕ) (marks : List Bool
     where
       -- a label in its place
       there : (j : ℕ) → IsNeeded h.at.run.entries (MarksName marks) j → j ≤ length labels
-          → (m : List (Term Sig)) × (slice_get labels (j - 1) ≡ Some m) × IsLabelOf P.problem.setting h.at.run (EntryOf j) m
+          → (m : List (Term Sig)) × (slice_get labels (j - 1) ≡ Some m)
+          × IsLabelOf P.problem.setting h.at.run (EntryOf j) m
       there j reached within =
           let f : IsFilledAt P.problem h.at.run labels limit j =
           h.places j (reached_within P problem h.at.runs marks h.size reached).0 within reached in
@@ -71,11 +71,7 @@ module _ (P : NamedProblem) (problem : IsProblem P) (n : ℕ) (marks : List Bool
       few_there j i reached within terms =
           let f : IsFilledAt P.problem h.at.run labels limit j =
           h.places j (reached_within P problem h.at.runs marks h.size reached).0 within reached in
-          let same : i ≡ length f.label =
-          terms_once P.problem.setting.prime
-          (label_at (labels_of P.problem.setting.prime h.at.run.entries) j) i (length f.label) terms
-          (label_terms P problem n h.at.run j f.label f.is) in
-          omega (arith, same, f.few)
+          entry_few P.problem.setting h.at.run j f.label f.is limit f.few i terms
 
       -- ---- the next entry
 
@@ -218,11 +214,7 @@ pub few_filled : (P : NamedProblem) (problem : IsProblem P) (n : ℕ) (marks : L
     → EntryTerms P.problem.setting.prime h.at.run j i → i ≤ limit
 few_filled P problem n marks limit labels h j i reached terms =
     let f : IsFilledAt P.problem h.at.run labels limit j = h.places j reached in
-    let same : i ≡ length f.label =
-    terms_once P.problem.setting.prime
-    (label_at (labels_of P.problem.setting.prime h.at.run.entries) j) i (length f.label) terms
-    (label_terms P problem n h.at.run j f.label f.is) in
-    omega (arith, same, f.few)
+    entry_few P.problem.setting h.at.run j f.label f.is limit f.few i terms
 
 -- ---- the code's loop
 

@@ -8,13 +8,13 @@ use Rattle.nc_cofactor.proofs.Terms.{has_terms, sum_once, terms_once}
 use Rattle.nc_cofactor.specs.Labels.{IsLabelIn, IsLabelOf}
 use Rattle.nc_cofactor.specs.Laws.{OneLabel}
 use Rattle.nc_cofactor.specs.Sums.{IsSum}
-use Rattle.nc_cofactor.specs.Terms.{HasTerms, LabelTerms}
+use Rattle.nc_cofactor.specs.Terms.{EntryTerms, HasTerms, LabelTerms}
 use Rattle.nc_cofactor.specs.Traces.{IsTraceIn}
 use Rattle.nc_snapshot.specs.declared.outcome.Listed.{Listed}
 use Rattle.nc_snapshot.specs.declared.outcome.Listed.TheVariants.{Claim, Entry as EntryOf, Syzygy as SyzygyOf}
-use Rattle.nc_theory.specs.Labels.{labels_of, trace_label}
+use Rattle.nc_theory.specs.Labels.{label_at, labels_of, trace_label}
 use Rattle.nc_theory.specs.States.{Entry, State, Syzygy, Trace}
-use Rattle.std.proofs.Common.{List, Some, ap, arith, length, subst, sym, ℕ, ◌∙◌, ◌≡◌, ◌≤◌}
+use Rattle.std.proofs.Common.{List, Some, ap, arith, length, refl, subst, sym, ℕ, ◌∙◌, ◌≡◌, ◌≤◌}
 
 pub trace_once : (run : State) (listed : Listed) (t t' : Trace) → IsTraceIn run listed t
     → IsTraceIn run listed t' → t ≡ t'
@@ -62,6 +62,13 @@ label_few s run listed m l limit few n (α, is, h) =
       terms_once s.prime α n (length m) h (label_count s run listed m l α is),
       few,
     )
+
+pub entry_few : (s : Setting) (run : State) (k : ℕ) (m : List (Term Sig))
+    → IsLabelOf s run (EntryOf k) m → (limit : ℕ) → length m ≤ limit → (n : ℕ)
+    → EntryTerms s.prime run k n → n ≤ limit
+entry_few s run k m l limit few n h =
+    label_few s run (EntryOf k) m l limit few n
+    (label_at (labels_of s.prime run.entries) k, (l.is.0, l.is.1, refl), h)
 
 pub one_label : OneLabel
 one_label s some run listed = (lists, label_count s run listed, terms_once s.prime)
