@@ -10,5 +10,5 @@ loop-t-preserved c =
 
 pub returns-clause-text : goal.returns-clause-text
 returns-clause-text c =
-    bare_end (term_line c.args.names.now) ended c.args.terms.now c.loop-t.t-index c.args.out.now.items
-    c.loop-t.out.items (omega arith) c.loop-t.invariant
+    bare_end (term_line c.args.names.now) ended _ c.loop-t.t-index _ _ (omega arith)
+    c.loop-t.invariant
