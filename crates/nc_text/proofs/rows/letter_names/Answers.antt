@@ -14,12 +14,14 @@ some_names names n b long is =
 pub returns-then-is_empty-clause-reads : goal.returns-then-is_empty-clause-reads
 returns-then-is_empty-clause-reads c =
     ends _ _ _ c.in-End.ensures c.names.invariant.reads
-    ∙ some_names _ (vec_len c.names.names) _ (omega (arith, c.names.names.ok.0)) c.if-is_empty.ensures
+    ∙ some_names _ (vec_len c.names.names) _ (omega (arith, c.names.names.ok.0))
+    c.if-is_empty.ensures
 
 pub returns-in-End-clause-reads : goal.returns-in-End-clause-reads
 returns-in-End-clause-reads c =
     ends _ _ _ c.in-End.ensures c.names.invariant.reads
-    ∙ some_names _ (vec_len c.names.names) _ (omega (arith, c.names.names.ok.0)) c.if-is_empty.ensures
+    ∙ some_names _ (vec_len c.names.names) _ (omega (arith, c.names.names.ok.0))
+    c.if-is_empty.ensures
 
 pub returns-in_err-name-in-Name-clause-reads : goal.returns-in_err-name-in-Name-clause-reads
 returns-in_err-name-in-Name-clause-reads c =
